@@ -1,0 +1,48 @@
+-- Values at the places that document 01 names: Modulo's corners, Sqrt 2, Ceil -0.5, a tie of zeros.
+use mathlib.Core.Path.{_≡_, refl}
+use mathlib.Core.List.{List, [], _∷_}
+use Prim.Native.Nat.{ℕ}
+use lib.Ieee.{Float, binary64, add, sub, mul, div, rem, neg, lt, le, eq, ofBits, toBits, round}
+use Rattle.arithmetic.specs.Round.{floor, ceil}
+use Rattle.arithmetic.specs.Root.{sqrt, sqrt-at}
+use Rattle.arithmetic.specs.Modulo.{modulo}
+use Rattle.arithmetic.specs.Extremum.{extremum, hold, below, above}
+
+abbrev f : ℕ → Float
+f bits = ofBits binary64 bits
+
+-- -1 modulo 3 is 2; -1e-20 modulo 3 is 0.0, as the rounded sum reaches 3; -3 modulo 3 is -0.0; 1e308 modulo the least value is 0.0
+pub modulo-corners :
+    (modulo binary64 (f 0xbff0000000000000) (f 0x4008000000000000) ≡ f 0x4000000000000000)
+    × (modulo binary64 (f 0xbbc79ca10c924223) (f 0x4008000000000000) ≡ f 0)
+    × (modulo binary64 (f 0xc008000000000000) (f 0x4008000000000000) ≡ f 0x8000000000000000)
+    × (modulo binary64 (f 0x7fe1ccf385ebc8a0) (f 1) ≡ f 0)
+    × (modulo binary64 (f 0xbff0000000000000) (f 0x7ff0000000000000) ≡ f 0)
+unfolding ofBits rem add sub mul div floor lt le eq neg round
+modulo-corners = (refl, refl, refl, refl, refl)
+
+-- Sqrt 2; of -0 it is -0; of the least subnormal; below zero NaN
+pub sqrt-corners :
+    (sqrt binary64 (f 0x4000000000000000) ≡ f 0x3ff6a09e667f3bcd)
+    × (sqrt binary64 (f 0x8000000000000000) ≡ f 0x8000000000000000)
+    × (sqrt binary64 (f 1) ≡ f 0x1e60000000000000)
+    × (sqrt binary64 (f 0xbff0000000000000) ≡ f 0x7ff8000000000000)
+unfolding ofBits sqrt-at
+sqrt-corners = (refl, refl, refl, refl)
+
+-- Ceil -0.5 is -0.0; Floor -0.5 is -1; Floor -0 is -0
+pub round-corners :
+    (ceil binary64 (f 0xbfe0000000000000) ≡ f 0x8000000000000000)
+    × (floor binary64 (f 0xbfe0000000000000) ≡ f 0xbff0000000000000)
+    × (floor binary64 (f 0x8000000000000000) ≡ f 0x8000000000000000)
+unfolding ofBits floor ceil
+round-corners = (refl, refl, refl)
+
+-- the earlier of two zeros is held; a NaN first stays, a NaN later is passed over
+pub extremum-corners :
+    (extremum below (f 0 ∷ f 0x8000000000000000 ∷ []) ≡ f 0)
+    × (extremum above (f 0x8000000000000000 ∷ f 0 ∷ []) ≡ f 0x8000000000000000)
+    × (extremum below (f 0x7ff8000000000000 ∷ f 0 ∷ []) ≡ f 0x7ff8000000000000)
+    × (extremum below (f 0 ∷ f 0x7ff8000000000000 ∷ []) ≡ f 0)
+unfolding ofBits hold lt
+extremum-corners = (refl, refl, refl, refl)

@@ -1,0 +1,50 @@
+-- Values: IEEE 754 numbers as `lib.Ieee` has them, and the tests that document 01 puts to them.
+use mathlib.Core.Bool.{Bool, true, false, cond}
+use Prim.Native.Nat.{_*_, _%_}
+use lib.IntN.{pos, negsuc}
+use lib.Dec.{eqb}
+use lib.Ieee.{Float, eq, up, down}
+use lib.Ieee as Ieee
+
+-- neither a NaN nor an infinity
+abbrev pub finite : Float → Bool
+finite Ieee.nan = false
+finite (Ieee.inf s) = false
+finite (Ieee.fin s m e) = true
+
+abbrev pub 0f : Float
+0f = Ieee.fin false 0 (pos 0)
+
+abbrev pub 1f : Float
+1f = Ieee.fin false 1 (pos 0)
+
+abbrev pub 2f : Float
+2f = Ieee.fin false 1 (pos 1)
+
+abbrev pub 3f : Float
+3f = Ieee.fin false 3 (pos 0)
+
+abbrev pub half : Float
+half = Ieee.fin false 1 (negsuc 0)
+
+-- "truth values and comparisons 1.0 or 0.0"
+abbrev pub truth-value : Bool → Float
+truth-value b = cond b 1f 0f
+
+-- either zero
+abbrev pub is-zero : Float → Bool
+is-zero x = eq x 0f
+
+abbrev pub is-one : Float → Bool
+is-one x = eq x 1f
+
+-- finite, with no fraction
+unfoldable pub whole : Float → Bool
+whole Ieee.nan = false
+whole (Ieee.inf s) = false
+whole (Ieee.fin s m e) = eqb (m * up e % down e) 0
+
+unfoldable pub absolute : Float → Float
+absolute Ieee.nan = Ieee.nan
+absolute (Ieee.inf s) = Ieee.inf false
+absolute (Ieee.fin s m e) = Ieee.fin false m e

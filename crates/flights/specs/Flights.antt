@@ -1,0 +1,131 @@
+-- "Proved together, as a table: (1), (2) those lines. (3) Derivative by distance ... (12) Ceil -0.5 is -0.0."
+use mathlib.Core.Path.{_≡_, refl}
+use mathlib.Core.List.{List, [], _∷_, _++_}
+use mathlib.Core.Bool.{Bool, true, false}
+use mathlib.Core.Option.{Option, none, some}
+use Prim.Native.Nat.{ℕ, _+_}
+use lib.ListN.{length, replicate}
+use lib.Ieee.{Float, binary64, add, sub, mul, div, rem, neg, lt, le, eq, ne, ofBits, toBits, round}
+use Rattle.arithmetic.specs.Value.{0f, whole, absolute}
+use Rattle.arithmetic.specs.Round.{floor, ceil}
+use Rattle.arithmetic.specs.Root.{sqrt-at}
+use Rattle.arithmetic.specs.Extremum.{hold}
+use Rattle.formula.specs.Text.{ascii, half-at, word-at, long-at}
+use Rattle.formula.specs.Operator.{Operation, unary, binary, compare, call, Binary, Add, Multiply, Divide, Power, Modulo, Lt, Hill, Sqrt, Ceil}
+use Rattle.formula.specs.Formula.{Formula, Formulas, Head, node, last, next, number, symbol, operation, conditional, size, of-list}
+use Rattle.formula.specs.Node.{encode, formula-of, tree-in, head-at, head-of, fields-at, node-bytes}
+use Rattle.formula.specs.Names.{Symbol, symbols-of}
+use Rattle.formula.specs.Values.{values-of}
+use Rattle.formula.specs.Path.{root, path-room}
+use Rattle.formula.specs.Term.{Term, term}
+use Rattle.meaning.specs.Work.{Question, power, hill-work, density-work}
+use Rattle.machine.specs.Check.{Context}
+use Rattle.machine.specs.Program.{Program}
+use Rattle.machine.specs.Lower.{program}
+use Rattle.machine.specs.Machine.{Answer, Reply, asks, fresh, gives, outside, refused, resume, run}
+use Rattle.machine.specs.Compile.{Compiled, accepted, compile, own-context}
+use Rattle.derivative.specs.Rules.{less-one}
+use Rattle.derivative.specs.Derive.{Derived, derive, derived, generated-context}
+use Rattle.listing.specs.Legs.{legs}
+
+-- ---- formulas
+
+abbrev of2 : Binary → Formula → Formula → Formula
+of2 o a b = node (operation (binary o)) (of-list (a ∷ b ∷ []))
+
+abbrev sym : ℕ → Formula
+sym i = node (symbol i) last
+
+abbrev lit : ℕ → Formula
+lit bits = node (number bits) last
+
+-- Add(climb, Divide(Multiply(burn, distance), Add(tas, wind)))
+abbrev flight : Formula
+flight = of2 Add (sym 0) (of2 Divide (of2 Multiply (sym 1) (sym 2)) (of2 Add (sym 3) (sym 4)))
+
+abbrev name-line : List ℕ
+name-line = ascii "climb:p,burn:p,distance:i,tas:i,wind:i"
+
+abbrev input : List ℕ
+input =
+    name-line
+    ++ ascii "\n4056800000000000,4072c00000000000,4079000000000000,4069000000000000,0000000000000000"
+    ++ ascii "\n4056800000000000,4072c00000000000,4079000000000000,4069000000000000,c069000000000000\n"
+
+-- ---- runs, from formula bytes and a name line
+
+abbrev room : ℕ
+room = 100000
+
+abbrev 1e0 : ℕ
+1e0 = 0x3ff0000000000000
+
+abbrev 2e0 : ℕ
+2e0 = 0x4000000000000000
+
+abbrev 3e0 : ℕ
+3e0 = 0x4008000000000000
+
+abbrev zeroed : Program → List Float
+zeroed P = replicate (P .registers) 0f
+
+-- the answer of a run with budget to spare, and the instructions that it completed
+abbrev first-answer : Program → List Float → Answer × ℕ
+first-answer P inputs =
+    let r = run binary64 inputs P (record { room = path-room; budget = 100; given = none }) (zeroed P) in
+    (r .answer, r .count)
+
+abbrev run-compiled : List Float → Compiled → Answer × ℕ
+run-compiled inputs (Compiled.refused n place) = (refused n, 0)
+run-compiled inputs (accepted f symbols) = first-answer (program (own-context symbols) (term f)) inputs
+
+abbrev answer-of : Formula → List ℕ → List Float → Answer × ℕ
+answer-of f names inputs = run-compiled inputs (compile (encode f) names path-room room)
+
+-- instructions and registers
+abbrev counts : Compiled → ℕ × ℕ
+counts (Compiled.refused n place) = (0, 0)
+counts (accepted f symbols) = let P = program (own-context symbols) (term f) in (length (P .code), P .registers)
+
+-- ---- (3): the derivative's nodes, its question, and what a supplied value brings
+
+abbrev run-derived : List Float → Float → Derived → ℕ × Answer × Answer
+run-derived inputs x (Derived.formula-refused n place) = (0, refused n, refused n)
+run-derived inputs x (Derived.refused n place) = (0, refused n, refused n)
+run-derived inputs x (derived d symbols) =
+    let P = program (generated-context symbols) (term d) in
+    let r = run binary64 inputs P (record { room = path-room; budget = 100; given = none }) (zeroed P) in
+    let s = resume binary64 inputs P (record { room = path-room; budget = 100; given = some x }) (r .state) (r .registers) in
+    (size d, r .answer, s .answer)
+
+abbrev float : ℕ → Float
+float bits = ofBits binary64 bits
+
+abbrev flight-inputs : List Float
+flight-inputs = float 0x4056800000000000 ∷ float 0x4072c00000000000 ∷ float 0x4079000000000000 ∷ float 0x4069000000000000 ∷ float 0 ∷ []
+
+-- (4) to (8), (10) to (12): closed formulas
+abbrev closed : Formula → Answer × ℕ
+closed f = answer-of f [] []
+
+abbrev branching : Formula
+branching = node conditional (of-list (node (operation (compare Lt)) (of-list (sym 0 ∷ lit 1e0 ∷ [])) ∷ lit 2e0 ∷ lit 3e0 ∷ []))
+
+pub flights :
+    (legs (some (encode flight)) input
+    ≡ ascii "no,answer,detail,steps\n1,value,4085900000000000,9\n2,domain,root.arguments[1],7\n")
+    × (run-derived flight-inputs (float 0x40e3880000000000) (derive (encode flight) name-line 2 path-room room room)
+    ≡ (23, asks (power (float 0x4069000000000000) (float 2e0)), gives (float 0x3ff8000000000000)))
+    × (closed (of2 Modulo (lit 0xbff0000000000000) (lit 3e0)) ≡ (gives (float 2e0), 3))
+    × (closed (of2 Modulo (lit 0xbbc79ca10c924223) (lit 3e0)) ≡ (gives (float 0), 3))
+    × (closed (of2 Modulo (lit 0xc008000000000000) (lit 3e0)) ≡ (gives (float 0x8000000000000000), 3))
+    × (closed (of2 Power (lit 0) (lit 0)) ≡ (outside root, 2))
+    × (closed (of2 Power (lit 0xc020000000000000) (lit 0x3fe0000000000000)) ≡ (outside root, 2))
+    × (counts (compile (encode branching) (ascii "p:p") path-room room) ≡ (9, 8))
+    × (answer-of branching (ascii "p:p") (float 0 ∷ []) ≡ (gives (float 2e0), 7))
+    × (answer-of branching (ascii "p:p") (float 1e0 ∷ []) ≡ (gives (float 3e0), 6))
+    × (closed (node (operation (call Hill)) (of-list (lit 0 ∷ lit 2e0 ∷ lit 1e0 ∷ []))) ≡ (gives (float 0), 4))
+    × (closed (node (operation (call Sqrt)) (of-list (lit 2e0 ∷ []))) ≡ (gives (float 0x3ff6a09e667f3bcd), 2))
+    × (closed (node (operation (call Ceil)) (of-list (lit 0xbfe0000000000000 ∷ []))) ≡ (gives (float 0x8000000000000000), 2))
+unfolding add sub mul div rem neg lt le eq ne ofBits toBits round whole absolute floor ceil sqrt-at hold half-at word-at long-at encode formula-of tree-in head-at head-of fields-at node-bytes symbols-of values-of hill-work density-work compile less-one derive legs
+flights = (refl, refl, refl, refl, refl, refl, refl, refl, refl, refl, refl, refl, refl)

@@ -1,0 +1,2 @@
+-- Document 01's worked flights, computed on the definitions.
+pub mod Flights

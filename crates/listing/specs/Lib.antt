@@ -1,0 +1,2 @@
+-- The whole output of the program `legs`.
+pub mod Legs

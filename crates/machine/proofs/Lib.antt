@@ -1,0 +1,5 @@
+pub mod Laws
+pub mod Size
+pub mod Valid
+pub mod Accepted
+pub mod Simulation

@@ -1,0 +1,64 @@
+-- Compile (reference `compile_prepared`, limit 256, not generated): its refusals in order, and what each slice then holds.
+use mathlib.Core.List.{List, _++_}
+use mathlib.Core.Bool.{Bool, true, false, cond, _||_}
+use mathlib.Core.Option.{Option, none, some}
+use Prim.Native.Nat.{ℕ, _+_, _-_, _*_, _/_}
+use lib.ListN.{length}
+use lib.Dec.{ltb}
+use Rattle.formula.specs.Text.{zeros}
+use Rattle.formula.specs.Formula.{Formula, formula-limit}
+use Rattle.formula.specs.Node.{formula-of}
+use Rattle.formula.specs.Names.{Symbol, symbols-of, kinds}
+use Rattle.formula.specs.Path.{Path, root, path-room, placed}
+use Rattle.formula.specs.Term.{term}
+use Rattle.machine.specs.Check.{Context, Fault, fault}
+
+-- "Its slice needs 240 bytes for each 16 bytes of formula, a last part counted as 16"
+abbrev pub program-room : ℕ → ℕ
+program-room formula-bytes = 240 * ((formula-bytes + 15) / 16)
+
+abbrev pub own-context : List Symbol → Context
+own-context symbols = record { symbols = kinds symbols; generated = false }
+
+-- a refusal with its number and its place, or a formula that compiles over the symbols
+pub data Compiled : Type 0 where
+  refused : ℕ → Option Path → Compiled
+  accepted : Formula → List Symbol → Compiled
+
+abbrev pub lowered-or : Formula → List Symbol → Option Fault → Compiled
+lowered-or f symbols none = accepted f symbols
+lowered-or f symbols (some x) = refused (x .number) (some (x .place))
+
+-- "4 `ExpressionLimit` at `root`; then the first fault in `lower`'s order"
+abbrev pub sized : Formula → List Symbol → Compiled
+sized f symbols = cond (formula-limit f) (lowered-or f symbols (fault (own-context symbols) (term f) root)) (refused 4 (some root))
+
+-- "2, formula bytes not as above (size and depth apart); 3, name line not as above"
+abbrev pub read : Option Formula → Option (List Symbol) → Compiled
+read none symbols = refused 2 none
+read (some f) none = refused 3 none
+read (some f) (some symbols) = sized f symbols
+
+-- of formula bytes and a name line, with slices of these lengths: "1, path slice or program slice too short"
+unfoldable pub compile : List ℕ → List ℕ → ℕ → ℕ → Compiled
+compile formula names path-length program-length =
+    cond (ltb path-length path-room || ltb program-length (program-room (length formula))) (refused 1 none)
+    (read (formula-of formula) (symbols-of names))
+
+-- ---- what the slices hold after
+
+abbrev pub place-of : Compiled → Option Path
+place-of (refused n place) = place
+place-of (accepted f symbols) = none
+
+abbrev pub path-after : Compiled → List ℕ → List ℕ
+path-after c slice = placed (place-of c) slice
+
+-- "After a program its slice is zero."
+abbrev pub filled : List ℕ → List ℕ → List ℕ
+filled image slice = image ++ zeros (length slice - length image)
+
+-- "Refusals 1 to 4 change no program byte; 5 to 9 leave the slice all zero." The layout gives the bytes of a program.
+abbrev pub program-after : (Context → Formula → List ℕ) → Compiled → List ℕ → List ℕ
+program-after layout (refused n place) slice = cond (ltb n 5) slice (zeros (length slice))
+program-after layout (accepted f symbols) slice = filled (layout (own-context symbols) f) slice

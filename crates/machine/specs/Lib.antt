@@ -1,0 +1,6 @@
+-- Lowering, the abstract program, the machine that runs it, and compile.
+pub mod Check
+pub mod Program
+pub mod Lower
+pub mod Machine
+pub mod Compile
