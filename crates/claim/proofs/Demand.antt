@@ -18,7 +18,9 @@ use Rattle.machine.specs.Compile.{own-context}
 use Rattle.machine.proofs.Accepted.{accepted-formula}
 use Rattle.machine.proofs.Laws.{and-l, and-r}
 use Rattle.machine.proofs.Size.{Narrow, longest-path, narrow, path-size}
-use Rattle.claim.specs.Claim.{Formula-demand, Lists}
+use Rattle.derivative.specs.Derive.{generated-context}
+use Rattle.derivative.proofs.Derived.{derived-compiles}
+use Rattle.claim.specs.Claim.{Demand-3, Derivative-demand, Formula-demand, Lists}
 use Rattle.claim.proofs.Lists.{theorem}
 
 -- a term without fault whose paths are short enough
@@ -30,3 +32,11 @@ formula-demand formula names p q f symbols e =
     let a = accepted-formula formula names p q f symbols e in
     let small : size f ≤ 256 = leb-true (size f) 256 (and-l (leb (size f) 256) (leb (depth f) 32) (a .limit)) in
     lists binary64 (own-context symbols) (term f) (a .faultless) (narrow f (omega arith)) (omega (arith, path-size f))
+
+pub derivative-demand : Derivative-demand
+derivative-demand formula names s p t q d symbols e =
+    let c = derived-compiles formula names s p t q d symbols e in
+    lists binary64 (generated-context symbols) (term d) (c .0) (c .2) (c .3)
+
+pub demand-3 : Demand-3
+demand-3 = (formula-demand, derivative-demand)

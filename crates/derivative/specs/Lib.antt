@@ -2,3 +2,4 @@
 pub mod Rules
 pub mod Differentiate
 pub mod Derive
+pub mod Attributes
