@@ -1,0 +1,5 @@
+mod Zero
+pub mod Fold
+mod Truncate
+mod Bits
+mod RootSteps

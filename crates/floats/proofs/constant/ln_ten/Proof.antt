@@ -1,0 +1,14 @@
+use lib.Ieee.{nanBits}
+use borrow.Author.Needs.{needs}
+use Rattle.floats.proofs.constant.ln_ten.Statement.{statement}
+use Rattle.floats.proofs.constant.ln_ten.Tie as tie
+
+float-from-bits-result : tie.Need-float-from-bits-result
+unfolding nanBits
+float-from-bits-result c = tt
+
+returns : tie.Need-returns
+returns c = search needs
+
+pub ln-ten-spec : {M : Type 1} → statement M
+ln-ten-spec = tie.close (tie.spec float-from-bits-result returns)

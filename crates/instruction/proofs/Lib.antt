@@ -1,0 +1,4 @@
+pub mod Leaves
+pub mod Extremes
+pub mod Opcodes
+pub mod Done

@@ -1,0 +1,8 @@
+-- Laws of the bytes of a program.
+pub mod Bytes
+pub mod Lengths
+pub mod Rows
+pub mod Records
+pub mod Literals
+pub mod ReadBack
+pub mod Frames

@@ -1,0 +1,225 @@
+-- Hexadecimal digits.
+use mathlib.Core.Path.{_≡_, refl, sym, ap, _∙_}
+use mathlib.Core.Bool.{Bool, true, false, cond}
+use mathlib.Core.List.{List, [], _∷_, _++_, map, append-assoc, append-nil}
+use mathlib.Core.Option.{Option, none, some}
+use Prim.Native.Nat.{ℕ, zero, suc, _+_, _-_, _*_, _/_, _%_, _≤_, _<_}
+use native.Mathlib.Omega.{arith}
+use lib.ListN.{length, getD, take, drop, set, length-drop, length-set}
+use lib.Seq.{drop-cons, getD-take, getD-drop, length-take-le, drop-set-lt, getD-set-same, drop-length}
+use lib.Dec.{eqb}
+use borrow.Author.Tests.{eqb-true, eqb-false, ne-eqb, eq-eqb}
+use Rattle.formula.specs.Text.{joined, all-some}
+use Rattle.formula.specs.Values.{hex-digits, found, place-in, digit-of, of-digits, numbered, value-of, digits-in, hex}
+use Rattle.names.specs.Lines.{place, bits}
+use Rattle.names.specs.declared.Value.the-variants.{Bits, NoValue}
+
+-- ---- the table
+
+-- the search from a place of the table on
+unfoldable pub looked : ℕ → ℕ → Option ℕ
+looked b i = place-in (drop i hex-digits) i b
+
+pub looked-start : (b : ℕ) → digit-of b ≡ looked b 0
+unfolding looked
+looked-start b = refl
+
+looked-step : (b i : ℕ) → i < 16 → looked b i ≡ found (eqb (getD hex-digits i 0) b) i (looked b (i + 1))
+unfolding looked
+looked-step b i h =
+    let e : suc i ≡ i + 1 = omega arith in
+    ap (λ (ds : List ℕ). place-in ds i b) (drop-cons hex-digits i 0 h)
+    ∙ ap (λ (j : ℕ). found (eqb (getD hex-digits i 0) b) i (place-in (drop j hex-digits) j b)) e
+
+pub looked-hit : (b i : ℕ) → i < 16 → getD hex-digits i 0 ≡ b → looked b i ≡ some i
+looked-hit b i h e = looked-step b i h ∙ ap (λ (t : Bool). found t i (looked b (i + 1))) (eq-eqb (getD hex-digits i 0) b e)
+
+pub looked-miss : (b i : ℕ) → i < 16 → (getD hex-digits i 0 ≡ b → ⊥) → looked b i ≡ looked b (i + 1)
+looked-miss b i h e = looked-step b i h ∙ ap (λ (t : Bool). found t i (looked b (i + 1))) (ne-eqb (getD hex-digits i 0) b e)
+
+pub looked-end : (b i : ℕ) → i ≡ 16 → looked b i ≡ none
+unfolding looked
+looked-end b i e = ap (λ (j : ℕ). place-in (drop j hex-digits) j b) e
+
+below-by : (t : Bool) (i n : ℕ) (o : Option ℕ) → i < n → ((d : ℕ) → o ≡ some d → d < n) → (d : ℕ) → found t i o ≡ some d → d < n
+below-by true i n o h k d e = let q : i ≡ d = cc in omega arith
+below-by false i n o h k d e = k d e
+
+place-below : (ds : List ℕ) (i b n d : ℕ) → i + length ds ≤ n → place-in ds i b ≡ some d → d < n
+place-below [] i b n d h e = let z : _≡_ {A = ℕ} 0 1 = cc in absurd (omega arith)
+place-below (x ∷ ds) i b n d h e =
+    below-by (eqb x b) i n (place-in ds (suc i) b) (omega arith) (λ c. place-below ds (suc i) b n c (omega arith)) d e
+
+pub digit-below : (b d : ℕ) → digit-of b ≡ some d → d < 16
+digit-below b d e = place-below hex-digits 0 b 16 d (omega arith) e
+
+place-is : (o : Option ℕ) (r : ℕ) → ((d : ℕ) → o ≡ some d → d < 16) → r ≡ place o → (r ≡ 16 → ⊥) → (o ≡ some r) × (r < 16)
+place-is none r k e h = absurd (h e)
+place-is (some d) r k e h = (ap (λ x. some x) (sym e), let l = k d refl in omega arith)
+
+place-no : (o : Option ℕ) (r : ℕ) → ((d : ℕ) → o ≡ some d → d < 16) → r ≡ place o → r ≡ 16 → o ≡ none
+place-no none r k e h = refl
+place-no (some d) r k e h = let l = k d refl in absurd (omega arith)
+
+pub digit-is : (b r : ℕ) → r ≡ place (digit-of b) → (r ≡ 16 → ⊥) → (digit-of b ≡ some r) × (r < 16)
+digit-is b r e h = place-is (digit-of b) r (digit-below b) e h
+
+pub digit-no : (b r : ℕ) → r ≡ place (digit-of b) → r ≡ 16 → digit-of b ≡ none
+digit-no b r e h = place-no (digit-of b) r (digit-below b) e h
+
+-- ---- a value
+
+abbrev pub numbered-from : ℕ → Option (List ℕ) → Option ℕ
+numbered-from n none = none
+numbered-from n (some ds) = some (of-digits n ds)
+
+-- the number n with more digits behind it
+unfoldable pub reading : ℕ → List ℕ → Option ℕ
+reading n xs = numbered-from n (all-some (map digit-of xs))
+
+step-by : (n d : ℕ) (o : Option (List ℕ)) → numbered-from n (joined (some d) o) ≡ numbered-from (16 * n + d) o
+step-by n d none = refl
+step-by n d (some ds) = refl
+
+reading-digit : (n x d : ℕ) (xs : List ℕ) → digit-of x ≡ some d → reading n (x ∷ xs) ≡ reading (16 * n + d) xs
+unfolding reading
+reading-digit n x d xs e =
+    ap (λ (o : Option ℕ). numbered-from n (joined o (all-some (map digit-of xs)))) e ∙ step-by n d (all-some (map digit-of xs))
+
+reading-none : (n x : ℕ) (xs : List ℕ) → digit-of x ≡ none → reading n (x ∷ xs) ≡ none
+unfolding reading
+reading-none n x xs e = ap (λ (o : Option ℕ). numbered-from n (joined o (all-some (map digit-of xs)))) e
+
+numbered-zero : (o : Option (List ℕ)) → numbered o ≡ numbered-from 0 o
+numbered-zero none = refl
+numbered-zero (some ds) = refl
+
+value-reading : (xs : List ℕ) → length xs ≡ 16 → value-of xs ≡ reading 0 xs
+unfolding reading
+value-reading xs e =
+    ap (λ (t : Bool). cond t (numbered (all-some (map digit-of xs))) none) (eq-eqb (length xs) 16 e) ∙ numbered-zero (all-some (map digit-of xs))
+
+pub value-length : (xs : List ℕ) → (length xs ≡ 16 → ⊥) → value-of xs ≡ none
+value-length xs h = ap (λ (t : Bool). cond t (numbered (all-some (map digit-of xs))) none) (ne-eqb (length xs) 16 h)
+
+-- 16 ^ i
+unfoldable pub cap : ℕ → ℕ
+cap zero = 1
+cap (suc i) = 16 * cap i
+
+cap-by : (t : Bool) (i j : ℕ) → eqb i j ≡ t → i < suc j → (i < j → 16 * cap i ≤ cap j) → 16 * cap i ≤ 16 * cap j
+cap-by true i j e h k = let q = eqb-true i j e in omega (arith, ap cap q)
+cap-by false i j e h k = let z = eqb-false i j e in let q = k (omega arith) in omega arith
+
+cap-more : (i j : ℕ) → i < j → 16 * cap i ≤ cap j
+unfolding cap
+cap-more i zero h = absurd (omega arith)
+cap-more i (suc j) h = cap-by (eqb i j) i j refl h (λ l. cap-more i j l)
+
+-- i digits of the 16 at a byte were read, with the number n
+pub record Reading (line : List ℕ) (at n i : ℕ) : Type 0 where
+  pub room : at + 16 ≤ length line
+  pub below : i ≤ 16
+  pub small : n < cap i
+  pub same : value-of (take 16 (drop at line)) ≡ reading n (drop i (take 16 (drop at line)))
+
+sixteen : (line : List ℕ) (at : ℕ) → at + 16 ≤ length line → length (take 16 (drop at line)) ≡ 16
+sixteen line at h = length-take-le 16 (drop at line) (omega (arith, length-drop at line))
+
+next-digit : (line : List ℕ) (at i : ℕ) → at + 16 ≤ length line → i < 16
+    → drop i (take 16 (drop at line)) ≡ getD line (at + i) 0 ∷ drop (i + 1) (take 16 (drop at line))
+next-digit line at i h l =
+    let xs = take 16 (drop at line) in
+    let e : suc i ≡ i + 1 = omega arith in
+    drop-cons xs i 0 (omega (arith, sixteen line at h))
+    ∙ ap (λ (j : ℕ). getD xs i 0 ∷ drop j xs) e
+    ∙ ap (λ (x : ℕ). x ∷ drop (i + 1) xs) (getD-take 16 (drop at line) i 0 l ∙ getD-drop at line i 0)
+
+module _ (line : List ℕ) (at : ℕ) where
+  pub too-short : at ≤ length line → length line - at < 16 → NoValue ≡ bits (value-of (take 16 (drop at line)))
+  too-short l h =
+      let xs = take 16 (drop at line) in
+      let n : length xs ≡ 16 → ⊥ = λ e. omega (arith, lib.ListN.length-take 16 (drop at line), length-drop at line) in
+      sym (ap bits (value-length xs n))
+
+  pub reading-start : at + 16 ≤ length line → Reading line at 0 0
+  unfolding cap
+  reading-start h =
+      record { room = h; below = omega arith; small = omega arith; same = value-reading (take 16 (drop at line)) (sixteen line at h) }
+
+  module _ (n i : ℕ) (g : Reading line at n i) where
+    pub reading-fits : (d : ℕ) → i < 16 → d < 16 → 16 * n + d < 18446744073709551616
+    unfolding cap
+    reading-fits d l h = omega (arith, g .small, cap-more i 16 l)
+
+    pub reading-more : (d : ℕ) → i < 16 → digit-of (getD line (at + i) 0) ≡ some d → d < 16 → Reading line at (16 * n + d) (i + 1)
+    unfolding cap
+    reading-more d l e h =
+        let z : suc i ≡ i + 1 = omega arith in
+        record {
+          room = g .room;
+          below = omega arith;
+          small = omega (arith, g .small, ap cap z);
+          same =
+              g .same
+              ∙ ap (reading n) (next-digit line at i (g .room) l)
+              ∙ reading-digit n (getD line (at + i) 0) d (drop (i + 1) (take 16 (drop at line))) e;
+        }
+
+    pub reading-stop : i < 16 → digit-of (getD line (at + i) 0) ≡ none → NoValue ≡ bits (value-of (take 16 (drop at line)))
+    reading-stop l e =
+        sym (ap bits (g .same ∙ ap (reading n) (next-digit line at i (g .room) l) ∙ reading-none n (getD line (at + i) 0) (drop (i + 1) (take 16 (drop at line))) e))
+
+    pub reading-end : 16 ≤ i → Bits n ≡ bits (value-of (take 16 (drop at line)))
+    unfolding reading
+    reading-end l =
+        let xs = take 16 (drop at line) in
+        let z : i ≡ length xs = omega (arith, g .below, sixteen line at (g .room)) in
+        sym (ap bits (g .same ∙ ap (λ (j : ℕ). reading n (drop j xs)) z ∙ ap (reading n) (drop-length xs)))
+
+-- ---- writing
+
+-- the digits before i are still to be written
+pub record Writing (n rest i : ℕ) (out : List ℕ) : Type 0 where
+  pub below : i ≤ 16
+  pub all : length out ≡ 16
+  pub same : hex n ≡ digits-in i rest ++ drop i out
+
+pub writing-start : (n : ℕ) (out : List ℕ) → length out ≡ 16 → Writing n n 16 out
+writing-start n out e =
+    record {
+      below = omega arith;
+      all = e;
+      same = sym (ap (λ (j : ℕ). digits-in 16 n ++ drop j out) (sym e) ∙ ap (λ (ys : List ℕ). digits-in 16 n ++ ys) (drop-length out) ∙ append-nil (digits-in 16 n));
+    }
+
+digits-step : (i rest : ℕ) → (i ≡ 0 → ⊥) → digits-in i rest ≡ digits-in (i - 1) (rest / 16) ++ (getD hex-digits (rest % 16) 0 ∷ [])
+digits-step zero rest h = absurd (h refl)
+digits-step (suc i) rest h =
+    let z : i ≡ suc i - 1 = omega arith in
+    ap (λ (j : ℕ). digits-in j (rest / 16) ++ (getD hex-digits (rest % 16) 0 ∷ [])) z
+
+pub writing-more : (n rest i : ℕ) (out : List ℕ) → Writing n rest i out → (i ≡ 0 → ⊥)
+    → Writing n (rest / 16) (i - 1) (set out (i - 1) (getD hex-digits (rest % 16) 0))
+writing-more n rest i out g h =
+    let d = getD hex-digits (rest % 16) 0 in
+    let j = i - 1 in
+    let l : j < length out = omega (arith, g .all, g .below) in
+    let z : suc j ≡ i = omega arith in
+    let c : drop j (set out j d) ≡ d ∷ drop i out =
+    drop-cons (set out j d) j 0 (omega (arith, length-set out j d))
+    ∙ ap (λ (x : ℕ). x ∷ drop (suc j) (set out j d)) (getD-set-same out j d 0 l)
+    ∙ ap (λ (ys : List ℕ). d ∷ ys) (drop-set-lt (suc j) out j d (omega arith))
+    ∙ ap (λ (k : ℕ). d ∷ drop k out) z in
+    record {
+      below = omega (arith, g .below);
+      all = length-set out j d ∙ g .all;
+      same =
+          g .same
+          ∙ ap (λ (ys : List ℕ). ys ++ drop i out) (digits-step i rest h)
+          ∙ append-assoc (digits-in j (rest / 16)) (d ∷ []) (drop i out)
+          ∙ ap (λ (ys : List ℕ). digits-in j (rest / 16) ++ ys) (sym c);
+    }
+
+pub writing-end : (n rest i : ℕ) (out : List ℕ) → Writing n rest i out → i ≡ 0 → out ≡ hex n
+writing-end n rest i out g e = sym (g .same ∙ ap (λ (j : ℕ). digits-in j rest ++ drop j out) e)

@@ -1,0 +1,9 @@
+pub mod Splits
+pub mod Digits
+pub mod Pieces
+pub mod Filling
+pub mod Letters
+pub mod Entries
+pub mod Listing
+pub mod Told
+pub mod Worked

@@ -1,0 +1,124 @@
+-- Pieces between separators.
+use mathlib.Core.Path.{_≡_, refl, sym, ap, _∙_}
+use mathlib.Core.Bool.{Bool, true, false, cond, not, _&&_}
+use mathlib.Core.List.{List, [], _∷_, _++_}
+use mathlib.Core.Option.{Option, none, some}
+use Prim.Native.Nat.{ℕ, zero, suc, _+_, _-_, _≤_, _<_}
+use native.Mathlib.Omega.{arith}
+use lib.ListN.{length, getD, take}
+use lib.Dec.{eqb}
+use borrow.Author.Tests.{eqb-false, ne-eqb, eq-eqb}
+use Rattle.formula.specs.Text.{all, glue, parted, split, joined}
+
+pub no-true : false ≡ true → ⊥
+no-true e = let z : _≡_ {A = ℕ} 0 1 = cc in omega arith
+
+pub and-first : (a b : Bool) → (a && b) ≡ true → a ≡ true
+and-first true b e = refl
+and-first false b e = e
+
+pub and-second : (a b : Bool) → (a && b) ≡ true → b ≡ true
+and-second true b e = e
+and-second false b e = absurd (no-true e)
+
+pub and-both : (a b : Bool) → a ≡ true → b ≡ true → (a && b) ≡ true
+and-both a b p q = rw (p, q)
+
+not-true : (a : Bool) → not a ≡ true → a ≡ false
+not-true true e = sym e
+not-true false e = refl
+
+-- no byte is c
+abbrev pub free : ℕ → List ℕ → Bool
+free c xs = all (λ x. not (eqb x c)) xs
+
+pub split-end : (c : ℕ) (xs : List ℕ) → free c xs ≡ true → split c xs ≡ xs ∷ []
+split-end c [] h = refl
+split-end c (x ∷ xs) h =
+    let e = not-true (eqb x c) (and-first (not (eqb x c)) (free c xs) h) in
+    ap (λ (t : Bool). parted t x (split c xs)) e ∙ ap (λ (ps : List (List ℕ)). glue x ps) (split-end c xs (and-second (not (eqb x c)) (free c xs) h))
+
+pub split-next : (c : ℕ) (xs ys : List ℕ) → free c xs ≡ true → split c (xs ++ (c ∷ ys)) ≡ xs ∷ split c ys
+split-next c [] ys h = ap (λ (t : Bool). parted t c (split c ys)) (eq-eqb c c refl)
+split-next c (x ∷ xs) ys h =
+    let e = not-true (eqb x c) (and-first (not (eqb x c)) (free c xs) h) in
+    ap (λ (t : Bool). parted t x (split c (xs ++ (c ∷ ys)))) e
+    ∙ ap (λ (ps : List (List ℕ)). glue x ps) (split-next c xs ys (and-second (not (eqb x c)) (free c xs) h))
+
+-- ---- the first piece, and the others
+
+abbrev first-of : Bool → ℕ → List ℕ → List ℕ
+first-of true x p = []
+first-of false x p = x ∷ p
+
+abbrev pub first-piece : ℕ → List ℕ → List ℕ
+first-piece c [] = []
+first-piece c (x ∷ xs) = first-of (eqb x c) x (first-piece c xs)
+
+abbrev pub later-pieces : ℕ → List ℕ → List (List ℕ)
+later-pieces c [] = []
+later-pieces c (x ∷ xs) = cond (eqb x c) (split c xs) (later-pieces c xs)
+
+pieces-by : (b : Bool) (c x : ℕ) (xs : List ℕ) → split c xs ≡ first-piece c xs ∷ later-pieces c xs
+    → parted b x (split c xs) ≡ first-of b x (first-piece c xs) ∷ cond b (split c xs) (later-pieces c xs)
+pieces-by true c x xs e = refl
+pieces-by false c x xs e = ap (λ (ps : List (List ℕ)). glue x ps) e
+
+pub pieces : (c : ℕ) (xs : List ℕ) → split c xs ≡ first-piece c xs ∷ later-pieces c xs
+pieces c [] = refl
+pieces c (x ∷ xs) = pieces-by (eqb x c) c x xs (pieces c xs)
+
+-- the first piece is the front of the list
+first-front-by : (b : Bool) (x : ℕ) (p xs : List ℕ) → p ≡ take (length p) xs → first-of b x p ≡ take (length (first-of b x p)) (x ∷ xs)
+first-front-by true x p xs e = refl
+first-front-by false x p xs e = ap (λ (q : List ℕ). x ∷ q) e
+
+pub first-front : (c : ℕ) (xs : List ℕ) → first-piece c xs ≡ take (length (first-piece c xs)) xs
+first-front c [] = refl
+first-front c (x ∷ xs) = first-front-by (eqb x c) x (first-piece c xs) xs (first-front c xs)
+
+first-long-by : (b : Bool) (x k : ℕ) (p : List ℕ) → b ≡ false → k ≤ length p → suc k ≤ length (first-of b x p)
+first-long-by true x k p e l = absurd (no-true (sym e))
+first-long-by false x k p e l = omega arith
+
+-- it has all bytes before the first c
+pub first-long : (c k : ℕ) (xs : List ℕ) → k ≤ length xs → ((i : ℕ) → i < k → getD xs i 0 ≡ c → ⊥) → k ≤ length (first-piece c xs)
+first-long c zero xs l h = omega arith
+first-long c (suc k) [] l h = absurd (omega arith)
+first-long c (suc k) (x ∷ xs) l h =
+    first-long-by (eqb x c) x k (first-piece c xs) (ne-eqb x c (h 0 (omega arith))) (first-long c k xs (omega arith) (λ i j. h (suc i) (omega arith)))
+
+pub free-at : (c : ℕ) (xs : List ℕ) → free c xs ≡ true → (i : ℕ) → i < length xs → getD xs i 0 ≡ c → ⊥
+free-at c [] h i l e = absurd (omega arith)
+free-at c (x ∷ xs) h zero l e = eqb-false x c (not-true (eqb x c) (and-first (not (eqb x c)) (free c xs) h)) e
+free-at c (x ∷ xs) h (suc i) l e = free-at c xs (and-second (not (eqb x c)) (free c xs) h) i (omega arith) e
+
+pub free-from : (c : ℕ) (xs : List ℕ) → ((i : ℕ) → i < length xs → getD xs i 0 ≡ c → ⊥) → free c xs ≡ true
+free-from c [] h = refl
+free-from c (x ∷ xs) h =
+    and-both (not (eqb x c)) (free c xs) (ap not (ne-eqb x c (h 0 (omega arith)))) (free-from c xs (λ i l. h (suc i) (omega arith)))
+
+-- ---- every one of them, or none
+
+pub prefixed : {A : Type 0} → List A → Option (List A) → Option (List A)
+prefixed [] r = r
+prefixed (a ∷ as′) r = joined (some a) (prefixed as′ r)
+
+pub prefixed-start : {A : Type 0} (r : Option (List A)) → r ≡ prefixed [] r
+unfolding prefixed
+prefixed-start r = refl
+
+pub prefixed-more : {A : Type 0} (xs : List A) (a : A) (r : Option (List A)) → prefixed xs (joined (some a) r) ≡ prefixed (xs ++ (a ∷ [])) r
+unfolding prefixed
+prefixed-more [] a r = refl
+prefixed-more (x ∷ xs) a r = ap (λ o. joined (some x) o) (prefixed-more xs a r)
+
+pub prefixed-none : {A : Type 0} (xs : List A) → prefixed xs none ≡ none
+unfolding prefixed
+prefixed-none [] = refl
+prefixed-none (x ∷ xs) = ap (λ o. joined (some x) o) (prefixed-none xs)
+
+pub prefixed-some : {A : Type 0} (xs ys : List A) → prefixed xs (some ys) ≡ some (xs ++ ys)
+unfolding prefixed
+prefixed-some [] ys = refl
+prefixed-some (x ∷ xs) ys = ap (λ o. joined (some x) o) (prefixed-some xs ys)

@@ -1,0 +1,47 @@
+use Rattle.names.proofs.hex.Statement.{statement}
+use Rattle.names.proofs.hex.Tie as tie
+use mathlib.Core.Path.{refl}
+use Prim.Native.Nat.{_-_}
+use native.Mathlib.Omega.{arith}
+use Rattle.names.proofs.Digits.{Writing, writing-start, writing-more, writing-end}
+
+abbrev Inv-loop : tie.InvT-loop
+Inv-loop n out₀ rest₀ i₀ out rest i = Writing n rest i out
+
+abbrev μ-loop : tie.MeasureT-loop
+μ-loop n out₀ rest₀ i₀ out rest i = i
+
+loop-holds : tie.Need-loop-holds Inv-loop μ-loop
+loop-holds c = writing-start (c .args .n) _ refl
+
+sub-i : tie.Need-sub-i Inv-loop μ-loop
+sub-i c = omega arith
+
+array-read-out : tie.Need-array-read-out Inv-loop μ-loop
+array-read-out c = omega arith
+
+array-write-out : tie.Need-array-write-out Inv-loop μ-loop
+array-write-out c = omega (arith, c .before .loop .inv .below, c .before .loop .inv .all)
+
+loop-less : tie.Need-loop-less Inv-loop μ-loop
+loop-less c = omega arith
+
+loop-again : tie.Need-loop-again Inv-loop μ-loop
+loop-again c = writing-more (c .before .before .args .n) (c .before .loop .rest) (c .before .loop .i) (c .before .loop .out) (c .before .loop .inv) (λ e. omega arith)
+
+returns : tie.Need-returns Inv-loop μ-loop
+returns c = writing-end (c .before .before .args .n) (c .before .loop .rest) (c .before .loop .i) (c .before .loop .out) (c .before .loop .inv) (omega arith)
+
+pub hex-spec : {M : Type 1} → statement M
+hex-spec =
+    tie.close
+    (tie.spec
+    Inv-loop
+    μ-loop
+    loop-holds
+    sub-i
+    array-read-out
+    array-write-out
+    loop-less
+    loop-again
+    returns)

@@ -1,0 +1,376 @@
+ghost use mathlib.Core.Path.{_≡_};
+ghost use mathlib.Core.Bool.{false, _||_};
+ghost use mathlib.Core.List.{_++_};
+ghost use Prim.Native.Nat.{_+_, _≤_, _<_};
+ghost use lib.ListN.{length, take, drop, set};
+ghost use Rattle.formula.specs.Text.{same-bytes, split, zeros};
+ghost use Rattle.formula.specs.Names.{is-letter, is-digit, is-name, kind-of, symbol-of, symbols-of};
+ghost use Rattle.formula.specs.Values.{digit-of, value-of, values-of, hex as hex-text};
+ghost use Rattle.names.specs.Lines.{place, bits, Piece-read, answer, filled, kind-place, part, Ends, entry, repeats, Listed, names-of};
+
+// ---- Lines of values: "each value is 16 lower-case hexadecimal digits, the bits of an f64, joined by commas."
+
+// "Hex digits come from a table of sixteen bytes."
+const DIGITS: [u8; 16] = *b"0123456789abcdef";
+
+// The place of a byte in the table, or 16.
+fn digit(b: u8) -> u64
+    ensures { λ r. ⌜ (r ≡ place (digit-of b)) × (r ≤ 16) ⌝ }
+{
+    let mut i = 0;
+    while i < 16 {
+        if DIGITS[i] == b {
+            return i as u64;
+        }
+        i += 1;
+    }
+    16
+}
+
+enum Value {
+    Bits(u64),
+    NoValue,
+}
+
+// The value whose 16 digits start at a byte.
+fn value_at(line: &[u8], at: usize) -> Value
+    requires { ⌜ at ≤ length (now line) ⌝ }
+    ensures { λ r. ⌜ r ≡ bits (value-of (take 16 (drop at (now (line .entry))))) ⌝ }
+{
+    if line.len() - at < 16 {
+        return Value::NoValue;
+    }
+    let mut n: u64 = 0;
+    let mut i = 0;
+    while i < 16 {
+        let d = digit(line[at + i]);
+        if d == 16 {
+            return Value::NoValue;
+        }
+        n = 16 * n + d;
+        i += 1;
+    }
+    Value::Bits(n)
+}
+
+// A value of a line: the last one, one that a comma follows, or none.
+enum Piece {
+    Last(u64),
+    More(u64),
+    Malformed,
+}
+
+fn piece_at(line: &[u8], at: usize) -> Piece
+    requires { ⌜ at ≤ length (now line) ⌝ }
+    ensures { λ r. ⌜ Piece-read (now (line .entry)) at r ⌝ }
+{
+    let v = value_at(line, at);
+    let Value::Bits(n) = v else {
+        return Piece::Malformed;
+    };
+    if line.len() - at == 16 {
+        return Piece::Last(n);
+    }
+    if line[at + 16] == b',' {
+        return Piece::More(n);
+    }
+    Piece::Malformed
+}
+
+// Stores a value, if there is a place for it.
+fn store(out: &mut [u64], i: usize, v: u64)
+    ensures { λ _. ⌜ now (out .exit) ≡ set (now (out .entry)) i v ⌝ }
+{
+    if i < out.len() {
+        out[i] = v;
+    }
+}
+
+fn clear(out: &mut [u64])
+    ensures { λ _. ⌜ now (out .exit) ≡ zeros (length (now (out .entry))) ⌝ }
+{
+    let mut i = 0;
+    while i < out.len() {
+        out[i] = 0;
+        i += 1;
+    }
+}
+
+// What a line of values is found to be. Its form is judged to the end before its count.
+pub enum Answer {
+    Values,
+    Malformed,
+    WrongCount,
+}
+
+// Reads a line of as many values as the slice has places. The slice then holds them, or zeros where the answer is another.
+pub fn read_values(line: &[u8], out: &mut [u64]) -> Answer
+    ensures { λ r. ⌜ r ≡ answer (length (now (out .entry))) (values-of (now (line .entry))) ⌝ }
+    ensures { λ _. ⌜ now (out .exit) ≡ filled (length (now (out .entry))) (values-of (now (line .entry))) ⌝ }
+{
+    if line.len() == 0 {
+        if out.len() == 0 {
+            return Answer::Values;
+        }
+        clear(out);
+        return Answer::WrongCount;
+    }
+    let mut at = 0;
+    let mut n = 0;
+    loop {
+        let p = piece_at(line, at);
+        match p {
+            Piece::More(v) => {
+                store(out, n, v);
+                n += 1;
+                at += 17;
+            }
+            Piece::Last(v) => {
+                store(out, n, v);
+                if n + 1 == out.len() {
+                    return Answer::Values;
+                }
+                clear(out);
+                return Answer::WrongCount;
+            }
+            Piece::Malformed => {
+                clear(out);
+                return Answer::Malformed;
+            }
+        }
+    }
+}
+
+// The 16 digits of a value.
+pub fn hex(n: u64) -> [u8; 16]
+    ensures { λ r. ⌜ r ≡ hex-text n ⌝ }
+{
+    let mut out = [0u8; 16];
+    let mut rest = n;
+    let mut i = 16;
+    while i > 0 {
+        i -= 1;
+        let d = (rest % 16) as usize;
+        out[i] = DIGITS[d];
+        rest = rest / 16;
+    }
+    out
+}
+
+// ---- The name line: "Names joined by commas, each followed by `:` and its kind"
+
+// "`a-z`, `_`"
+fn is_letter(b: u8) -> bool
+    ensures { λ r. ⌜ r ≡ is-letter b ⌝ }
+{
+    if b < b'a' {
+        return b == b'_';
+    }
+    b <= b'z'
+}
+
+// "and, not first, `0-9`"
+fn is_digit(b: u8) -> bool
+    ensures { λ r. ⌜ r ≡ is-digit b ⌝ }
+{
+    b'0' <= b && b <= b'9'
+}
+
+fn is_letter_or_digit(b: u8) -> bool
+    ensures { λ r. ⌜ r ≡ (is-letter b || is-digit b) ⌝ }
+{
+    is_letter(b) || is_digit(b)
+}
+
+// Whether n bytes are a name: "1 to 64 bytes".
+fn is_name(line: &[u8], at: usize, n: usize) -> bool
+    requires { ⌜ at + n ≤ length (now line) ⌝ }
+    ensures { λ r. ⌜ r ≡ is-name (take n (drop at (now (line .entry)))) ⌝ }
+{
+    if n == 0 {
+        return false;
+    }
+    if n > 64 {
+        return false;
+    }
+    let first = is_letter(line[at]);
+    if first {
+        let mut i = 1;
+        while i < n {
+            let ok = is_letter_or_digit(line[at + i]);
+            if ok {
+                i += 1;
+            } else {
+                return false;
+            }
+        }
+        return true;
+    }
+    false
+}
+
+// "`p` parameter, `s` state, `t` time, `i` input": 0 to 3; 4 is no kind.
+fn kind_place(b: u8) -> u8
+    ensures { λ r. ⌜ (r ≡ kind-place (kind-of b)) × (r ≤ 4) ⌝ }
+{
+    if b == b'p' {
+        return 0;
+    }
+    if b == b's' {
+        return 1;
+    }
+    if b == b't' {
+        return 2;
+    }
+    if b == b'i' {
+        return 3;
+    }
+    4
+}
+
+// Where the first comma from a byte on is, or the line's end.
+fn entry_end(line: &[u8], at: usize) -> usize
+    requires { ⌜ at ≤ length (now line) ⌝ }
+    ensures { λ r. ⌜ Ends (now (line .entry)) at r ⌝ }
+{
+    let mut end = at;
+    while end < line.len() {
+        if line[end] == b',' {
+            return end;
+        }
+        end += 1;
+    }
+    end
+}
+
+// A name with its kind: how long the name is, and the kind's number.
+enum Entry {
+    Named(usize, u8),
+    NoEntry,
+}
+
+// A name of one byte or more, a `:` and a byte for the kind.
+fn entry_at(line: &[u8], at: usize, end: usize) -> Entry
+    requires { ⌜ (at ≤ end) × (end ≤ length (now line)) ⌝ }
+    ensures { λ r. ⌜ r ≡ entry (symbol-of (split 58 (part (now (line .entry)) at end))) ⌝ }
+{
+    if end - at < 3 {
+        return Entry::NoEntry;
+    }
+    let n = end - at - 2;
+    if line[at + n] == b':' {
+        let kind = kind_place(line[at + n + 1]);
+        if kind == 4 {
+            return Entry::NoEntry;
+        }
+        let ok = is_name(line, at, n);
+        if ok {
+            return Entry::Named(n, kind);
+        }
+    }
+    Entry::NoEntry
+}
+
+// Whether two names are the same: their lengths first, then byte by byte to the first that differs.
+fn same_name(line: &[u8], a: usize, m: usize, b: usize, n: usize) -> bool
+    requires { ⌜ (a + m ≤ length (now line)) × (b + n ≤ length (now line)) ⌝ }
+    ensures { λ r. ⌜ r ≡ same-bytes (take m (drop a (now (line .entry)))) (take n (drop b (now (line .entry)))) ⌝ }
+{
+    if m == n {
+        let mut i = 0;
+        while i < m {
+            if line[a + i] == line[b + i] {
+                i += 1;
+            } else {
+                return false;
+            }
+        }
+        return true;
+    }
+    false
+}
+
+// Whether one of the names before is the n bytes at a byte.
+fn is_repeated(
+    line: &[u8],
+    starts: &[usize; 256],
+    lengths: &[usize; 256],
+    count: usize,
+    at: usize,
+    n: usize,
+) -> bool
+    requires { ⌜ (count ≤ 256) × (at + n ≤ length (now line)) × Listed (now line) (now starts) (now lengths) count ⌝ }
+    ensures { λ r. ⌜ r ≡ repeats (now (line .entry)) (now (starts .entry)) (now (lengths .entry)) (take n (drop at (now (line .entry)))) count ⌝ }
+{
+    let mut k = count;
+    while k > 0 {
+        k -= 1;
+        let same = same_name(line, starts[k], lengths[k], at, n);
+        if same {
+            return true;
+        }
+    }
+    false
+}
+
+// The names of a line: how many there are, and the kind of each, 0 parameter, 1 state, 2 time, 3 input; zeros after them.
+pub struct Names {
+    pub ok: bool,
+    pub count: usize,
+    pub kinds: [u8; 256],
+}
+
+fn no_names() -> Names
+    ensures { λ r. ⌜ r ≡ record { ok = false; count = 0; kinds = zeros 256 } ⌝ }
+{
+    let kinds = [0u8; 256];
+    Names {
+        ok: false,
+        count: 0,
+        kinds: kinds,
+    }
+}
+
+// Reads a name line: "none twice. At most 256 names; an empty line has none."
+pub fn read_names(line: &[u8]) -> Names
+    ensures { λ r. ⌜ r ≡ names-of (symbols-of (now (line .entry))) ⌝ }
+{
+    let mut starts = [0usize; 256];
+    let mut lengths = [0usize; 256];
+    let mut kinds = [0u8; 256];
+    if line.len() == 0 {
+        return Names {
+            ok: true,
+            count: 0,
+            kinds: kinds,
+        };
+    }
+    let mut count = 0;
+    let mut at = 0;
+    loop {
+        let end = entry_end(line, at);
+        let found = entry_at(line, at, end);
+        let Entry::Named(n, kind) = found else {
+            return no_names();
+        };
+        if count == 256 {
+            return no_names();
+        }
+        let again = is_repeated(line, &starts, &lengths, count, at, n);
+        if again {
+            return no_names();
+        }
+        starts[count] = at;
+        lengths[count] = n;
+        kinds[count] = kind;
+        count += 1;
+        if end == line.len() {
+            return Names {
+                ok: true,
+                count: count,
+                kinds: kinds,
+            };
+        }
+        at = end + 1;
+    }
+}

@@ -1,0 +1,3 @@
+-- Paths as records, and their text in a slice.
+pub mod Over
+pub mod Table

@@ -1,0 +1,61 @@
+-- The loop over a list of calls.
+use mathlib.Core.Path.{_≡_, refl, ap, ap₂, sym, _∙_}
+use mathlib.Core.Bool.{cond}
+use mathlib.Core.List.{List, [], _∷_}
+use mathlib.Core.Option.{Option, none, some}
+use Prim.Native.Nat.{ℕ, zero, suc, _+_, _-_, _≤_, _<_}
+use native.Mathlib.Numerals.{add-one}
+use native.Mathlib.Omega.{arith}
+use borrow.Author.Tests.{eq-eqb, ne-eqb}
+use lib.ListN.{getD, length}
+use lib.Dec.{eqb}
+use lib.Ieee.{Float, binary64}
+use Rattle.arithmetic.specs.Value.{0f}
+use Rattle.formula.specs.Path.{placed}
+use Rattle.machine.specs.Machine as Machine
+use Rattle.machine.specs.Machine.{place-of}
+use Rattle.layout.specs.Decode.{program-at}
+use Rattle.run.specs.Views.{answer-of, reply-of, state-of}
+use Rattle.run.specs.Calls.{resume-at, run-at}
+use Rattle.run.specs.declared.Reply.{Reply}
+use Rattle.play.specs.Listed.{Played, call-at, calls-from, first-call, noted, play-at, playing, value-at}
+
+pub no-value : (flags : List ℕ) (values : List Float) (i f : ℕ) → f ≡ getD flags i 0 → f ≡ 0 → none ≡ value-at flags values i
+no-value flags values i f e z = rw (eq-eqb (getD flags i 0) 0 (sym e ∙ z))
+
+pub one-value : (flags : List ℕ) (values : List Float) (i f : ℕ) (v : Float) → f ≡ getD flags i 0 → (f ≡ 0 → ⊥) → v ≡ getD values i 0f → some v ≡ value-at flags values i
+one-value flags values i f v e z g = rw (ne-eqb (getD flags i 0) 0 (λ y. z (e ∙ y)), g)
+
+-- a reply of the code, with registers and path slice after it
+abbrev pub seen : List ℕ → Reply → List Float → List ℕ → Played
+seen b r regs path = record { reply = reply-of b r regs; path = path }
+
+seen-is : (b : List ℕ) (r : Reply) (regs : List Float) (path before : List ℕ) (m : Machine.Reply) → reply-of b r regs ≡ m → path ≡ placed (place-of (answer-of b (r .answer))) before
+    → seen b r regs path ≡ noted m before
+seen-is b r regs path before m e f =
+    ap₂ (λ x y. record { reply = x; path = y }) e (f ∙ ap (λ (x : Machine.Reply). placed (place-of (x .answer)) before) e)
+
+module _ (inputs : List Float) (b : List ℕ) (room : ℕ) (budgets flags : List ℕ) (values : List Float) where
+  unfoldable pub left-at : Played → ℕ → Played
+  left-at x i = playing inputs (program-at b) x (calls-from room budgets flags values (length budgets - i) i)
+
+  pub left-start : (regs regs′ : List Float) (path path′ : List ℕ) (r : Reply) (n : ℕ) → room ≡ length path → n ≡ getD budgets 0 0
+      → reply-of b r regs′ ≡ run-at inputs b (length path) n regs → path′ ≡ placed (place-of (answer-of b (r .answer))) path
+      → left-at (seen b r regs′ path′) 1 ≡ play-at inputs b path budgets flags values regs
+  unfolding left-at play-at run-at
+  left-start regs regs′ path path′ r n er en e f =
+      ap (λ x. playing inputs (program-at b) x (calls-from room budgets flags values (length budgets - 1) 1)) (seen-is b r regs′ path′ path _ e f) ∙ rw (en, er)
+
+  pub left-step : (r r′ : Reply) (regs regs′ : List Float) (path path′ : List ℕ) (i n : ℕ) (g : Option Float) → room ≡ length path → i < length budgets → n ≡ getD budgets i 0
+      → g ≡ value-at flags values i → reply-of b r′ regs′ ≡ resume-at inputs b (length path) n g (state-of (r .state)) regs
+      → path′ ≡ placed (place-of (answer-of b (r′ .answer))) path → left-at (seen b r regs path) i ≡ left-at (seen b r′ regs′ path′) (i + 1)
+  unfolding left-at resume-at
+  left-step r r′ regs regs′ path path′ i n g er h en eg e f =
+      let z : length budgets - i ≡ suc (length budgets - (i + 1)) = omega arith in
+      ap (λ (k : ℕ). playing inputs (program-at b) (seen b r regs path) (calls-from room budgets flags values k i)) z
+      ∙ rw (er, ← en, ← eg, add-one)
+      (sym (ap (λ x. playing inputs (program-at b) x (calls-from (length path) budgets flags values (length budgets - suc i) (suc i))) (seen-is b r′ regs′ path′ path _ e f)))
+
+  pub left-end : (x : Played) (i : ℕ) → length budgets ≤ i → left-at x i ≡ x
+  unfolding left-at
+  left-end x i h = let z : length budgets - i ≡ 0 = omega arith in rw z

@@ -1,0 +1,307 @@
+// The check of a program's bytes (docs/PROGRAM.md): "10, not a program: bytes that docs/PROGRAM.md doesn't allow, no
+// instruction at all, a register, input, list or target outside its range (a target may be the code's end), a jump not
+// forward, or a path above 8,192 bytes". Each record, instruction and list entry is looked at once.
+ghost use mathlib.Core.Path.{_≡_};
+ghost use mathlib.Core.Bool.{true, _&&_};
+ghost use mathlib.Core.Option.{some};
+ghost use Prim.Native.Nat.{_+_, _*_, _<_, _≤_};
+ghost use lib.Dec.{eqb, leb, ltb};
+ghost use lib.ListN.{length};
+ghost use Rattle.formula.specs.Text.{half-at};
+ghost use Rattle.formula.specs.Path.{placed};
+ghost use Rattle.machine.specs.Program.{all-below, op-allowed, valid};
+ghost use Rattle.layout.specs.Decode.{code-count, entries-from, length-at, op-at, path-of, path-total, program-at, raw-program, record-ok, records-ok, uses-b, uses-c, uses-list, zero-unless};
+ghost use Rattle.program.specs.Fields.{header-of, row-of};
+ghost use Rattle.program.specs.Check.{Fits-header, Fits-row, header-ok, instruction-ok, instructions-ok, list-fields-ok, named-ok, root-record-ok, row-fields-ok, unused-zero, first-ops-ok};
+use reader::byte;
+use reader::half;
+use reader::word;
+
+// The numbers of the header.
+pub struct Header {
+    pub code: usize,
+    pub registers: usize,
+    pub result: usize,
+    pub inputs: usize,
+    pub paths: usize,
+    pub entries: usize,
+}
+
+pub fn read_header(p: &[u8]) -> Header
+    ensures { λ r. ⌜ (r ≡ header-of (now (p .entry))) × Fits-header r ⌝ }
+{
+    Header {
+        code: word(p, 4),
+        registers: word(p, 8),
+        result: word(p, 12),
+        inputs: word(p, 16),
+        paths: word(p, 24),
+        entries: word(p, 28),
+    }
+}
+
+fn header_ok(p: &[u8], h: Header) -> bool
+    requires { ⌜ (h ≡ header-of (now p)) × Fits-header h ⌝ }
+    ensures { λ r. ⌜ r ≡ header-ok (now (p .entry)) ⌝ }
+{
+    if p.len() < 32 {
+        return false;
+    }
+    if word(p, 0) != 0x3152_4256 {
+        return false;
+    }
+    if 1 < word(p, 20) {
+        return false;
+    }
+    if p.len() < 32 + 24 * h.code + 12 * h.paths + 4 * h.entries {
+        return false;
+    }
+    0 < h.code && h.result < h.registers
+}
+
+// ---- path records
+
+fn root_ok(p: &[u8], at: usize) -> bool
+    requires { ⌜ at < 1099511627776 ⌝ }
+    ensures { λ r. ⌜ r ≡ root-record-ok (now (p .entry)) at ⌝ }
+{
+    word(p, at) == 0 && (word(p, at + 4) == 0 && word(p, at + 8) == 4)
+}
+
+fn record_ok(p: &[u8], h: Header, k: usize) -> bool
+    requires { ⌜ (h ≡ header-of (now p)) × Fits-header h × (k < 4294967296) ⌝ }
+    ensures { λ r. ⌜ r ≡ record-ok (now (p .entry)) k ⌝ }
+{
+    let first = 32 + 24 * h.code;
+    if k == 0 {
+        return root_ok(p, first);
+    }
+    let parent = word(p, first + 12 * k);
+    if k <= parent {
+        return false;
+    }
+    let before = word(p, first + 12 * parent + 8);
+    let step = paths::step_length(word(p, first + 12 * k + 4));
+    word(p, first + 12 * k + 8) == before + step
+}
+
+fn all_records_ok(p: &[u8], h: Header) -> bool
+    requires { ⌜ (h ≡ header-of (now p)) × Fits-header h ⌝ }
+    ensures { λ r. ⌜ r ≡ records-ok (now (p .entry)) (path-total (now (p .entry))) 0 ⌝ }
+{
+    let paths = h.paths;
+    let mut k = 0;
+    while k < paths {
+        let ok = record_ok(p, h, k);
+        if ok {
+            k += 1;
+        } else {
+            return false;
+        }
+    }
+    true
+}
+
+// ---- instructions
+
+// The fields of an instruction.
+pub struct Row {
+    pub op: u8,
+    pub zero: u8,
+    pub count: usize,
+    pub destination: usize,
+    pub a: usize,
+    pub b: usize,
+    pub c: usize,
+    pub path: usize,
+}
+
+pub fn read_row(p: &[u8], n: usize) -> Row
+    requires { ⌜ n < 4294967296 ⌝ }
+    ensures { λ r. ⌜ (r ≡ row-of (now (p .entry)) n) × Fits-row r ⌝ }
+{
+    let at = 32 + 24 * n;
+    Row {
+        op: byte(p, at),
+        zero: byte(p, at + 1),
+        count: half(p, at + 2),
+        destination: word(p, at + 4),
+        a: word(p, at + 8),
+        b: word(p, at + 12),
+        c: word(p, at + 16),
+        path: word(p, at + 20),
+    }
+}
+
+fn lists(op: u8) -> bool
+    ensures { λ r. ⌜ r ≡ uses-list op ⌝ }
+{
+    op == 31 || op == 32
+}
+
+fn reads_b(op: u8) -> bool
+    ensures { λ r. ⌜ r ≡ uses-b op ⌝ }
+{
+    if op == 0 {
+        return true;
+    }
+    if op < 8 {
+        return false;
+    }
+    op <= 19 || 33 <= op
+}
+
+fn reads_c(op: u8) -> bool
+    ensures { λ r. ⌜ r ≡ uses-c op ⌝ }
+{
+    op == 3 || (op == 4 || 33 <= op)
+}
+
+fn zero_unless(used: bool, n: usize) -> bool
+    ensures { λ r. ⌜ r ≡ zero-unless used n ⌝ }
+{
+    used || n == 0
+}
+
+// "unused fields zero"
+fn unused_zero(r: Row) -> bool
+    ensures { λ x. ⌜ x ≡ unused-zero r ⌝ }
+{
+    let op = r.op;
+    zero_unless(lists(op), r.count)
+        && (zero_unless(op != 4, r.a) && (zero_unless(reads_b(op), r.b) && zero_unless(reads_c(op), r.c)))
+}
+
+// The opcode, the zero after it, unused fields, and a path number that there is.
+fn row_ok(r: Row, paths: usize) -> bool
+    ensures { λ x. ⌜ x ≡ row-fields-ok r paths ⌝ }
+{
+    r.op < 35 && (r.zero == 0 && (unused_zero(r) && r.path < paths))
+}
+
+// The list of a Min or Max begins where the last one ended, and has two entries at least.
+fn list_ok(r: Row, next: usize) -> bool
+    ensures { λ x. ⌜ x ≡ list-fields-ok r next ⌝ }
+{
+    let listed = lists(r.op);
+    if listed {
+        return r.a == next && 2 <= r.count;
+    }
+    true
+}
+
+// All registers of the list are there.
+fn list_below(p: &[u8], h: Header, r: Row) -> bool
+    requires { ⌜ (h ≡ header-of (now p)) × Fits-header h × Fits-row r ⌝ }
+    ensures { λ x. ⌜ x ≡ all-below (h .registers) (entries-from (now (p .entry)) (r .count) (r .a)) ⌝ }
+{
+    let first = 32 + 24 * h.code + 12 * h.paths;
+    let registers = h.registers;
+    let a = r.a;
+    let count = r.count;
+    let mut i = 0;
+    while i < count {
+        if word(p, first + 4 * (a + i)) < registers {
+            i += 1;
+        } else {
+            return false;
+        }
+    }
+    true
+}
+
+fn forward(n: usize, target: usize, code: usize) -> bool
+    ensures { λ r. ⌜ r ≡ (ltb n target && leb target code) ⌝ }
+{
+    n < target && target <= code
+}
+
+// Opcodes below 8: constant, load, copy, the jumps, and the operations of one register.
+fn first_ops_ok(h: Header, n: usize, r: Row) -> bool
+    requires { ⌜ r .op < 8 ⌝ }
+    ensures { λ x. ⌜ x ≡ first-ops-ok h n r ⌝ }
+{
+    let op = r.op;
+    match op {
+        0 => true,
+        1 => r.a < h.inputs,
+        3 => r.a < h.registers && forward(n, r.c, h.code),
+        4 => forward(n, r.c, h.code),
+        _ => r.a < h.registers,
+    }
+}
+
+// What the operation reads is there, and a jump goes forward.
+fn op_ok(p: &[u8], h: Header, n: usize, r: Row) -> bool
+    requires { ⌜ (h ≡ header-of (now p)) × Fits-header h × (r ≡ row-of (now p) n) × Fits-row r × (r .op < 35) ⌝ }
+    ensures { λ x. ⌜ x ≡ op-allowed (raw-program (now (p .entry))) n (op-at (now (p .entry)) n) ⌝ }
+{
+    let op = r.op;
+    if op < 8 {
+        return first_ops_ok(h, n, r);
+    }
+    if op < 20 {
+        return r.a < h.registers && r.b < h.registers;
+    }
+    if op < 31 {
+        return r.a < h.registers;
+    }
+    if op < 33 {
+        return list_below(p, h, r);
+    }
+    r.a < h.registers && (r.b < h.registers && r.c < h.registers)
+}
+
+// What an instruction names is inside the program: list, destination, path, operands.
+fn named_ok(p: &[u8], h: Header, n: usize, r: Row, next: usize) -> bool
+    requires { ⌜ (h ≡ header-of (now p)) × Fits-header h × (r ≡ row-of (now p) n) × Fits-row r × (r .op < 35) × (next < 4294967296) ⌝ }
+    ensures { λ x. ⌜ x ≡ named-ok (now (p .entry)) n next ⌝ }
+{
+    next + r.count <= h.entries
+        && (r.destination < h.registers
+            && (word(p, 32 + 24 * h.code + 12 * r.path + 8) <= 8192 && op_ok(p, h, n, r)))
+}
+
+fn instruction_ok(p: &[u8], h: Header, n: usize, r: Row, next: usize) -> bool
+    requires { ⌜ (h ≡ header-of (now p)) × Fits-header h × (r ≡ row-of (now p) n) × Fits-row r × (next < 4294967296) ⌝ }
+    ensures { λ x. ⌜ x ≡ instruction-ok (now (p .entry)) n next ⌝ }
+{
+    row_ok(r, h.paths) && (list_ok(r, next) && named_ok(p, h, n, r, next))
+}
+
+fn all_instructions_ok(p: &[u8], h: Header) -> bool
+    requires { ⌜ (h ≡ header-of (now p)) × Fits-header h ⌝ }
+    ensures { λ r. ⌜ r ≡ instructions-ok (now (p .entry)) (code-count (now (p .entry))) 0 0 ⌝ }
+{
+    let code = h.code;
+    let mut n = 0;
+    let mut next = 0;
+    while n < code {
+        let r = read_row(p, n);
+        let ok = instruction_ok(p, h, n, r, next);
+        if ok {
+            next += r.count;
+            n += 1;
+        } else {
+            return false;
+        }
+    }
+    next == h.entries
+}
+
+// Whether the bytes are a program that may run.
+pub fn is_program(p: &[u8]) -> bool
+    ensures { λ r. ⌜ r ≡ valid (program-at (now (p .entry))) ⌝ }
+{
+    let h = read_header(p);
+    header_ok(p, h) && (all_records_ok(p, h) && all_instructions_ok(p, h))
+}
+
+// The text of the path whose record is k, then zeros to the slice's end.
+pub fn write_place(p: &[u8], k: usize, out: &mut [u8])
+    requires { ⌜ (valid (program-at (now p)) ≡ true) × (k < path-total (now p)) × (length-at (now p) k ≤ length (now out)) ⌝ }
+    ensures { λ r. ⌜ now (out .exit) ≡ placed (some (path-of (now (p .entry)) k)) (now (out .entry)) ⌝ }
+{
+    let h = read_header(p);
+    paths::write_path(p, 32 + 24 * h.code, k, out);
+}

@@ -1,0 +1,34 @@
+use borrow.Author.Needs.{needs}
+use Rattle.reader.proofs.long.Statement.{statement}
+use Rattle.reader.proofs.long.Tie as tie
+use mathlib.Core.Path.{sym}
+use native.Mathlib.Omega.{arith}
+use Rattle.formula.specs.Text.{long-at}
+use Rattle.reader.proofs.Past.{long-past}
+
+word-requires : tie.Need-word-requires
+word-requires c κs = search needs
+
+add-word : tie.Need-add-word
+add-word c = search needs
+
+word-requires-2 : tie.Need-word-requires-2
+word-requires-2 c κs = search needs
+
+mul-result : tie.Need-mul-result
+mul-result c = search needs
+
+add-result : tie.Need-add-result
+add-result c = search needs
+
+returns : tie.Need-returns
+unfolding long-at
+returns c = omega arith
+
+returns-2 : tie.Need-returns-2
+returns-2 c = sym (long-past (c .before .before .args .b .now) (c .before .before .args .at) (c .if1 .left))
+
+pub long-spec : {M : Type 1} → statement M
+long-spec =
+    tie.close
+    (tie.spec word-requires add-word word-requires-2 mul-result add-result returns returns-2)

@@ -1,0 +1,217 @@
+ghost use mathlib.Core.Path.{_≡_};
+ghost use mathlib.Core.Bool.{true, _&&_};
+ghost use Prim.Native.Nat.{_+_, _*_, _^_, _<_, _≤_};
+ghost use lib.ListN.{length};
+ghost use lib.Dec.{ltb, eqb};
+ghost use Rattle.formula.specs.Text.{byte-at, half-at, word-at, long-at};
+ghost use Rattle.formula.specs.Formula.{size, well-formed};
+ghost use Rattle.formula.specs.Node.{fields-at, head-of, head-at, tree-at, formula-of};
+ghost use Rattle.reader.specs.Read.{is-some, written, extent-at, limited};
+
+fn wide(x: u8) -> usize
+    ensures { λ r. ⌜ (r ≡ x) × (r < 256) ⌝ }
+{
+    x as usize
+}
+
+// The little-endian number of 1, 2, 4 or 8 bytes from a place on; there is 0 past the end.
+pub fn byte(b: &[u8], at: usize) -> u8
+    ensures { λ r. ⌜ r ≡ byte-at (now (b .entry)) at ⌝ }
+{
+    if at < b.len() {
+        return b[at];
+    }
+    0
+}
+
+pub fn half(b: &[u8], at: usize) -> usize
+    ensures { λ r. ⌜ (r ≡ half-at (now (b .entry)) at) × (r < 65536) ⌝ }
+{
+    if at < b.len() {
+        return wide(byte(b, at)) + 256 * wide(byte(b, at + 1));
+    }
+    0
+}
+
+pub fn word(b: &[u8], at: usize) -> usize
+    ensures { λ r. ⌜ (r ≡ word-at (now (b .entry)) at) × (r < 2 ^ 32) ⌝ }
+{
+    if at < b.len() {
+        return half(b, at) + 65536 * half(b, at + 2);
+    }
+    0
+}
+
+pub fn long(b: &[u8], at: usize) -> u64
+    ensures { λ r. ⌜ r ≡ long-at (now (b .entry)) at ⌝ }
+{
+    if at < b.len() {
+        return word(b, at) as u64 + 4294967296 * (word(b, at + 4) as u64);
+    }
+    0
+}
+
+// "Byte 0 is the kind, byte 1 the operator, bytes 2-3 the child count, 4-7 the symbol number from 0, 8-15 the value".
+pub struct Fields {
+    pub kind: u8,
+    pub operator: u8,
+    pub children: usize,
+    pub symbol: usize,
+    pub value: u64,
+}
+
+// The fields of the node at a byte.
+pub fn node(b: &[u8], at: usize) -> Fields
+    ensures { λ r. ⌜ written r ≡ fields-at (now (b .entry)) at ⌝ }
+{
+    if at < b.len() {
+        return Fields {
+            kind: byte(b, at),
+            operator: byte(b, at + 1),
+            children: half(b, at + 2),
+            symbol: word(b, at + 4),
+            value: long(b, at + 8),
+        };
+    }
+    Fields {
+        kind: 0,
+        operator: 0,
+        children: 0,
+        symbol: 0,
+        value: 0,
+    }
+}
+
+// A leaf has no operator and no children.
+fn is_leaf(f: Fields) -> bool
+    ensures { λ r. ⌜ r ≡ (eqb (f .operator) 0 && eqb (f .children) 0) ⌝ }
+{
+    f.operator == 0 && f.children == 0
+}
+
+// A number and a truth value have no symbol besides.
+fn is_literal(f: Fields) -> bool
+    ensures { λ r. ⌜ r ≡ (eqb (f .operator) 0 && eqb (f .children) 0 && eqb (f .symbol) 0) ⌝ }
+{
+    is_leaf(f) && f.symbol == 0
+}
+
+// An inner node has one of so many operators, no symbol and no value.
+fn is_inner(f: Fields, operators: u8) -> bool
+    ensures { λ r. ⌜ r ≡ (ltb (f .operator) operators && (eqb (f .symbol) 0 && eqb (f .value) 0)) ⌝ }
+{
+    f.operator < operators && (f.symbol == 0 && f.value == 0)
+}
+
+// Whether the fields are a node's: "unused fields zero".
+fn is_head(f: Fields) -> bool
+    ensures { λ r. ⌜ r ≡ is-some (head-of (written f)) ⌝ }
+{
+    let kind = f.kind;
+    match kind {
+        0 => is_literal(f),
+        1 => is_literal(f) && f.value < 2,
+        2 => is_leaf(f) && f.value == 0,
+        3 => is_inner(f, 3) && f.children == 1,
+        4 => is_inner(f, 6) && f.children == 2,
+        5 => is_inner(f, 6) && f.children == 2,
+        6 => is_inner(f, 2),
+        7 => is_inner(f, 16),
+        8 => is_inner(f, 1) && f.children == 3,
+        _ => false,
+    }
+}
+
+// Whether the 16 bytes at a byte are a node.
+pub fn is_node(b: &[u8], at: usize) -> bool
+    ensures { λ r. ⌜ r ≡ is-some (head-at (now (b .entry)) at) ⌝ }
+{
+    if b.len() < 16 {
+        return false;
+    }
+    if b.len() - 16 < at {
+        return false;
+    }
+    is_head(node(b, at))
+}
+
+// Whether the bytes are a formula: "Nodes of 16 bytes, each followed by its children, nothing after the root's last."
+// Each tree that is owed takes 16 bytes or more, so the count of them stays below the length.
+pub fn is_formula(b: &[u8]) -> bool
+    ensures { λ r. ⌜ r ≡ is-some (formula-of (now (b .entry))) ⌝ }
+{
+    let mut at = 0;
+    let mut owed = 1;
+    while owed > 0 {
+        if owed > (b.len() - at) / 16 {
+            return false;
+        }
+        let ok = is_node(b, at);
+        if ok {
+            owed = owed - 1 + half(b, at + 2);
+            at += 16;
+        } else {
+            return false;
+        }
+    }
+    at == b.len()
+}
+
+// The byte after the tree at a byte.
+pub fn skip(b: &[u8], at: usize) -> usize
+    requires { ⌜ well-formed (tree-at (now b) at) ≡ true ⌝ }
+    ensures { λ r. ⌜ r ≡ at + 16 * size (tree-at (now (b .entry)) at) ⌝ }
+{
+    let mut end = at;
+    let mut owed = 1;
+    while owed > 0 {
+        owed = owed - 1 + half(b, end + 2);
+        end += 16;
+    }
+    end
+}
+
+// Where a tree ends, or that it is deeper than it may be.
+enum Extent {
+    To(usize),
+    Deeper,
+}
+
+// The byte after the tree at a byte, if it has at most so many levels.
+fn extent_of(b: &[u8], at: usize, levels: usize) -> Extent
+    requires { ⌜ well-formed (tree-at (now b) at) ≡ true ⌝ }
+    ensures { λ r. ⌜ r ≡ extent-at (now (b .entry)) at levels ⌝ }
+{
+    if levels == 0 {
+        return Extent::Deeper;
+    }
+    let mut left = half(b, at + 2);
+    let mut end = at + 16;
+    while left > 0 {
+        let child = extent_of(b, end, levels - 1);
+        let Extent::To(next) = child else {
+            return child;
+        };
+        end = next;
+        left -= 1;
+    }
+    Extent::To(end)
+}
+
+// Whether the bytes are a formula of at most so many nodes and levels. The nodes are counted first, so that long bytes are not gone into.
+pub fn within_limits(b: &[u8], nodes: usize, levels: usize) -> bool
+    ensures { λ r. ⌜ r ≡ limited nodes levels (formula-of (now (b .entry))) ⌝ }
+{
+    if b.len() / 16 > nodes {
+        return false;
+    }
+    let ok = is_formula(b);
+    if ok {
+        let whole = extent_of(b, 0, levels);
+        let Extent::To(_) = whole else {
+            return false;
+        };
+        return true;
+    }
+    false
+}

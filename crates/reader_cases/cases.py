@@ -1,0 +1,184 @@
+#!/usr/bin/env python3
+"""Writes the file `stdin` of this program: cases, and what document 01 says of each, read anew here."""
+import random
+import struct
+
+OPERATORS = {3: 3, 4: 6, 5: 6, 6: 2, 7: 16, 8: 1}
+COUNTS = {3: 1, 4: 2, 5: 2, 8: 3}
+
+
+def node(kind, operator=0, children=0, symbol=0, value=0):
+    return struct.pack("<BBHIQ", kind, operator, children, symbol, value)
+
+
+def is_node(b):
+    kind, operator, children, symbol, value = struct.unpack("<BBHIQ", b)
+    if kind == 0:
+        return operator == children == symbol == 0
+    if kind == 1:
+        return operator == children == symbol == 0 and value in (0, 1)
+    if kind == 2:
+        return operator == children == value == 0
+    if kind not in OPERATORS:
+        return False
+    return operator < OPERATORS[kind] and children == COUNTS.get(kind, children) and symbol == value == 0
+
+
+def depth_of(b):
+    """The depth, or None where the bytes are no formula."""
+    at, open_counts, deepest = 0, [1], 0
+    while open_counts:
+        if open_counts[-1] == 0:
+            open_counts.pop()
+            continue
+        if at + 16 > len(b) or not is_node(b[at:at + 16]):
+            return None
+        open_counts[-1] -= 1
+        deepest = max(deepest, len(open_counts))
+        open_counts.append(struct.unpack("<H", b[at + 2:at + 4])[0])
+        at += 16
+    return deepest if at == len(b) else None
+
+
+def marks(b):
+    d = depth_of(b)
+    if d is None:
+        return "0--"
+    n = len(b) // 16
+    return "1" + "01"[n <= 256 and d <= 32] + "01"[n <= 16384 and d <= 128]
+
+
+lines = []
+
+
+def formula(b):
+    lines.append("f%s %s" % (marks(b), b.hex()))
+
+
+def repeated(b, first, last):
+    whole = b[:16] * first + b[16:-16] + b[-16:] * last
+    lines.append("g%s %d %d %s" % (marks(whole), first, last, b.hex()))
+
+
+def kinds_of(line):
+    """The kinds as digits, or None."""
+    if line == "":
+        return ""
+    seen, kinds = set(), ""
+    for entry in line.split(","):
+        name, colon, kind = entry.partition(":")
+        first = "abcdefghijklmnopqrstuvwxyz_"
+        if not (1 <= len(name) <= 64 and name[0] in first and all(c in first + "0123456789" for c in name)):
+            return None
+        if colon == "" or kind not in ("p", "s", "t", "i") or name in seen:
+            return None
+        seen.add(name)
+        kinds += str("psti".index(kind))
+    return kinds if len(kinds) <= 256 else None
+
+
+def names(line):
+    k = kinds_of(line)
+    lines.append("n0 " + line if k is None else "n1" + k + " " + line)
+
+
+def values(places, line):
+    pieces = [] if line == "" else line.split(",")
+    good = all(len(p) == 16 and all(c in "0123456789abcdef" for c in p) for p in pieces)
+    answer = "M" if not good else "V" if len(pieces) == places else "C"
+    lines.append("v%d%s %s" % (places, answer, line))
+
+
+def step(n):
+    lines.append("s%d %s" % (n, [".condition", ".then", ".else"][n] if n < 3 else ".arguments[%d]" % (n - 3)))
+
+
+number = node(0, value=0x4059000000000000)
+symbol = node(2, symbol=3)
+leaf = node(1, value=1)
+flights = (node(4, 0, 2) + node(2, symbol=0) + node(4, 3, 2) + node(4, 2, 2) + node(2, symbol=1) + node(2, symbol=2)
+           + node(4, 0, 2) + node(2, symbol=3) + node(2, symbol=4))
+
+# one of each kind, and each byte of its first node changed in turn
+for head, count in [(number, 0), (leaf, 0), (symbol, 0), (node(3, 2, 1), 1), (node(4, 5, 2), 2), (node(5, 5, 2), 2),
+                    (node(6, 1, 2), 2), (node(7, 15, 3), 3), (node(8, 0, 3), 3)]:
+    b = head + leaf * count
+    formula(b)
+    for i in range(16):
+        for v in {b[i] ^ 1, b[i] ^ 128, (b[i] + 1) % 256} if i < 4 else {b[i] ^ 1}:
+            formula(b[:i] + bytes([v]) + b[i + 1:])
+# every kind with every operator to one past the last, and every count to four
+for kind in range(11):
+    for operator in range(OPERATORS.get(kind, 1) + 1):
+        formula(node(kind, operator, COUNTS.get(kind, 0)) + leaf * COUNTS.get(kind, 0))
+    for count in range(5):
+        formula(node(kind, 0, count) + leaf * count)
+# cut at every byte, and bytes left over
+for n in range(len(flights) + 1):
+    formula(flights[:n])
+for extra in (b"\0", leaf[:15], leaf):
+    formula(flights + extra)
+# the limits at their edges
+unary = node(3, 1, 1)
+for levels in (1, 2, 31, 32, 33, 127, 128, 129, 255, 256, 257, 16383, 16384, 16385, 16392):
+    repeated(unary + symbol, levels - 1, 1)
+for count in (0, 1, 254, 255, 256, 257, 16382, 16383, 16384, 16385):
+    repeated(node(7, 11, count) + symbol, 1, count)
+    repeated(node(6, 0, count) + symbol, 1, count + 1)
+repeated(node(7, 12, 65535) + symbol, 1, 16383)
+for levels in (31, 32):
+    repeated(unary + node(4, 0, 2) + symbol, levels, 2)
+# nodes by chance, one byte of some changed
+rng = random.Random(1)
+
+
+def some_formula(depth):
+    kind = rng.choice([0, 1, 2]) if depth == 0 else rng.choice([0, 2, 3, 4, 5, 6, 7, 8])
+    if kind < 3:
+        return node(kind, symbol=rng.randrange(300) if kind == 2 else 0,
+                    value=rng.getrandbits(64) if kind == 0 else rng.randrange(2) if kind == 1 else 0)
+    count = COUNTS.get(kind, rng.randrange(4))
+    return node(kind, rng.randrange(OPERATORS[kind]), count) + b"".join(some_formula(depth - 1) for _ in range(count))
+
+
+for _ in range(150):
+    b = some_formula(rng.randrange(4))
+    if len(b) > 400:
+        continue
+    formula(b)
+    i = rng.randrange(len(b))
+    formula(b[:i] + bytes([rng.choice([0, 1, 2, 3, 255, rng.randrange(256)])]) + b[i + 1:])
+
+# name lines
+for line in ["", "a:p", "a:s", "a:t", "a:i", "climb:p,burn:p,distance:i,tas:i,wind:i", "_:t", "_9:t", "a_b:s,ab_:s", "a:x", "a:P", "a", "a:",
+             ":p", "a:pp", "a::p", "a:p:", "9a:p", "A:p", "a-b:p", "a:p,", ",a:p", "a:p,,b:p", ",", ":", "a:p\r", "a:p ", " a:p", "a:p,a:p",
+             "a:p,b:s,a:i", "ab:p,a:s,b:t", "a:p,aa:p,aaa:p", "a{:p", "a`:p", "z:i", "a/:p", "a0:p,a9:s", "p:p,s:s,t:t,i:i", "a;p", "a:p;b:p"]:
+    names(line)
+for n in (63, 64, 65):
+    names("x" * n + ":p")
+    names("y:s," + "x" * n + ":t")
+for n in (255, 256, 257):
+    names(",".join("n%d:%s" % (i, "psti"[i % 4]) for i in range(n)))
+names(",".join("n%d:p" % (i % 255) for i in range(256)))
+names("x" * 63 + "a:p," + "x" * 63 + "b:p")
+names("x" * 63 + "a:p," + "x" * 63 + "a:p")
+
+# lines of values
+v = "4056800000000000"
+for line in ["", v, v + "," + v, v + ",", "," + v, v + ",," + v, v[:15], v + "0", v[:15] + "," + v, v + "," + v[:15], v.upper(), "405680000000000A",
+             "405680000000000g", "40568000000000/0", "4056800000000:00", "4056800000000`00", v + ";" + v, v + "\r", v + " ", " " + v, "0123456789abcdef",
+             "fedcba9876543210", "ffffffffffffffff", "0" * 16, "7ff0000000000000", v + "," + "g" * 16, "g" * 16 + "," + v]:
+    for places in (0, 1, 2, 3):
+        values(places, line)
+for n in (9, 10, 11, 300):
+    values(9, ",".join("%016x" % rng.getrandbits(64) for _ in range(n)))
+    values(9, ",".join("%016x" % rng.getrandbits(64) for _ in range(n)) + "g")
+
+# steps of paths
+for n in (0, 1, 2, 3, 4, 5, 12, 13, 102, 103, 255, 1002, 1003, 65538, 65539, 10002, 10003, 999999, 4294967294, 4294967295):
+    step(n)
+
+with open(__file__.rsplit("/", 1)[0] + "/stdin", "w", newline="") as f:
+    f.write("\n".join(lines) + "\n")
+with open(__file__.rsplit("/", 1)[0] + "/stdout", "w") as f:
+    f.write("%d cases\nok\n" % len(lines))

@@ -1,0 +1,368 @@
+-- "Sqrt is the nearest f64 to the exact root, proved over whole numbers; of -0 it is -0": for any width, p digits in a significand and values below 2 ^ (em + 1).
+-- In units of the smallest positive value the radicand a / c is n / c, a square of units. A value of the format is j units, where j has at most p digits with
+-- zeros after them (`Short`). The result's v is nearer to the root than j is where the root lies on v's side of half way between them: 4 n < (v + j)² c for a
+-- j above v, and the other way round for one below. No root of a value lies half way, so v is nearer than any other value.
+use mathlib.Core.Path.{_≡_, refl, sym, ap, ap₂, _∙_, subst}
+use mathlib.Core.Logic.{_⊎_, inl, inr}
+use mathlib.Core.Bool.{Bool, true, false, cond}
+use Prim.Native.Nat.{ℕ, zero-le, suc, _+_, _-_, _*_, _/_, _^_, _≤_, _<_, compare}
+use native.Mathlib.Nat.{mul-le-mul-left, eq-of-mul-eq-mul-right, mul-lt-mul-of-pos-left, le-trans, le-of-eq, le-of-lt, lt-of-lt-of-le, lt-of-le-of-lt, lt-of-not-le, not-le-of-lt, eq-or-lt-of-le, one-mul, mul-pos, mul-one, mul-assoc, mul-comm, mul-left-comm, add-mul, mul-le-mul, mul-le-mul-right, mul-lt-mul-of-pos-right, le-div-iff-mul-le, div-lt-iff-lt-mul, lt-of-mul-lt-mul-right, suc-mul, add-comm, pow-succ'}
+use native.Mathlib.Decide.{decLe}
+use native.Mathlib.Numerals.{add-one}
+use native.Mathlib.Omega.{arith}
+use borrow.Author.Tests.{lt-ltb}
+use lib.Arith.{lt-of-le-ne}
+use lib.Dec.{T, lit<, lit≤}
+use lib.IntN.{ℤ}
+use lib.Pow.{pow-pos, pow-add, pow-mono, pow-lt}
+use lib.Ieee.{Float, nan, inf, fin, Format, binary32, binary64, prec, emax, low, up, down, size, nearest, odd, fits}
+use lib.Ieee.Digits.{size-lt, size-reaches}
+use lib.Ieee.Exact.{HasValue, odd-sign}
+use lib.Ieee.Fits.{down-pos, nearest-le}
+use Rattle.arithmetic.specs.Root.{least, units, root, nearest-root, sqrt-at, sqrt}
+use Rattle.rounding.specs.Square.{square-more, square-twice, root-is, root-ge, root-lt}
+use Rattle.rounding.specs.Digits.{nearest-cases}
+use Rattle.rounding.specs.Value.{Short, fits-says, placed}
+
+-- the radicand in squared units, times c
+abbrev pub squared-units : ℕ → ℕ → ℕ → ℕ
+squared-units p em a = a * 2 ^ least p em * 2 ^ least p em
+
+-- of the root in units the format drops so many digits, and keeps these
+abbrev pub dropped : ℕ → ℕ → ℕ → ℕ
+dropped p n c = size (root (n / c)) - p
+
+abbrev pub lower : ℕ → ℕ → ℕ → ℕ
+lower n c k = root (n / (c * (2 ^ k * 2 ^ k)))
+
+abbrev pub kept : ℕ → ℕ → ℕ → ℕ
+kept n c k = nearest (lower n c k) (compare (4 * n) ((2 * lower n c k + 1) * (2 * lower n c k + 1) * (c * (2 ^ k * 2 ^ k))))
+
+-- ---- squares of multiples
+scaled-square : (z w c : ℕ) → z * w * (z * w) * c ≡ z * z * (c * (w * w))
+scaled-square z w c = simp (mul-assoc, mul-comm, mul-left-comm)
+
+square-le : (x y c : ℕ) → x ≤ y → x * x * c ≤ y * y * c
+square-le x y c h = mul-le-mul-right c (mul-le-mul h h)
+
+square-lt : (x y c : ℕ) → 0 < c → x < y → x * x * c < y * y * c
+square-lt x y c C h = mul-lt-mul-of-pos-right (lt-of-le-of-lt (mul-le-mul-right x (le-of-lt h)) (mul-lt-mul-of-pos-left h (lt-of-le-of-lt zero-le h))) C
+
+-- ---- no odd number's square is an even number, or a number of fewer digits
+odd-square : (q x : ℕ) → (2 * q + 1) * (2 * q + 1) ≡ 2 * x → ⊥
+odd-square q x e = let a = square-more (2 * q) in let b = square-twice q in omega arith
+
+-- a * 2 ^ i ≡ b * 2 ^ j, without the fewer of the two powers
+split : (a b i j : ℕ) → i ≤ j → a * 2 ^ i ≡ b * 2 ^ j → a ≡ b * 2 ^ (j - i)
+split a b i j h e =
+    eq-of-mul-eq-mul-right (2 ^ i) (pow-pos i) a (b * 2 ^ (j - i))
+    (e ∙ ap (λ (x : ℕ). b * 2 ^ x) back ∙ ap (λ (x : ℕ). b * x) (pow-add 2 (j - i) i) ∙ sym (mul-assoc b (2 ^ (j - i)) (2 ^ i)))
+  where
+    back : j ≡ j - i + i
+    back = omega arith
+
+-- four times a radicand of m * 2 ^ i units, and o multiples of c * 4 ^ k, without the denominator c
+without : (m i l o k n c M W : ℕ) → 0 < c → M ≡ m * 2 ^ i → W ≡ 2 ^ l → n ≡ M * c * W → 4 * n ≡ o * (c * (2 ^ k * 2 ^ k)) → m * 2 ^ (i + l + 2) ≡ o * 2 ^ (k + k)
+without m i l o k n c M W C M-is W-is n-is e =
+    eq-of-mul-eq-mul-right c C (m * 2 ^ (i + l + 2)) (o * 2 ^ (k + k))
+    (ap (λ (x : ℕ). m * x * c) (pow-add 2 (i + l) 2 ∙ ap (λ (x : ℕ). x * 4) (pow-add 2 i l))
+    ∙ regroup m (2 ^ i) (2 ^ l) c
+    ∙ ap₂ (λ (x y : ℕ). 4 * (x * c * y)) (sym M-is) (sym W-is)
+    ∙ ap (λ (x : ℕ). 4 * x) (sym n-is)
+    ∙ e
+    ∙ ap (λ (x : ℕ). o * x) (mul-comm c (2 ^ k * 2 ^ k) ∙ ap (λ (x : ℕ). x * c) (sym (pow-add 2 k k)))
+    ∙ sym (mul-assoc o (2 ^ (k + k)) c))
+  where
+    regroup : (m x y c : ℕ) → m * (x * y * 4) * c ≡ 4 * (m * x * c * y)
+    regroup m x y c = simp (mul-assoc, mul-comm, mul-left-comm)
+
+-- ---- the nearer of q and q + 1 multiples of w: Q, by how 4 n compares with the square of 2 q + 1
+abbrev Nearer : ℕ → ℕ → ℕ → ℕ → ℕ → Type 0
+Nearer q w c n Q = ((Q ≡ q) × (4 * n < (2 * q + 1) * (2 * q + 1) * (c * (w * w)))) ⊎ ((Q ≡ suc q) × ((2 * q + 1) * (2 * q + 1) * (c * (w * w)) < 4 * n))
+
+module _ (q w c n j Q : ℕ) (C : 0 < c) (N : Nearer q w c n Q) (next : q * w < j → (q + 1) * w ≤ j) where
+  -- half way between the two
+  middle : (2 * q + 1) * w ≡ q * w + (q + 1) * w
+  middle = ap (λ (x : ℕ). x * w) twice ∙ add-mul q (q + 1) w
+    where
+      twice : 2 * q + 1 ≡ q + (q + 1)
+      twice = omega arith
+
+  doubled : (r : ℕ) → 4 * (r * r * (c * (w * w))) ≡ (r * w + r * w) * (r * w + r * w) * c
+  doubled r =
+      sym (mul-assoc 4 (r * r) (c * (w * w)))
+      ∙ ap (λ (x : ℕ). x * (c * (w * w))) (sym (square-twice r))
+      ∙ sym (scaled-square (2 * r) w c)
+      ∙ ap (λ (x : ℕ). x * x * c) (mul-assoc 2 r w ∙ twice (r * w))
+    where
+      twice : (x : ℕ) → 2 * x ≡ x + x
+      twice x = omega arith
+
+  up-one : suc q * w ≡ (q + 1) * w
+  up-one = ap (λ (x : ℕ). x * w) (sym (add-one q))
+
+  nearer-above : n < (q + 1) * (q + 1) * (c * (w * w)) → Q * w < j → 4 * n < (Q * w + j) * (Q * w + j) * c
+  nearer-above t l = elim N [
+    | inl d ↦
+        let e : Q * w ≡ q * w = ap (λ (x : ℕ). x * w) (d .0) in
+        let g = next (lt-of-le-of-lt (le-of-eq (sym e)) l) in
+        let m = middle in
+        lt-of-lt-of-le (d .1) (le-trans (le-of-eq (sym (scaled-square (2 * q + 1) w c))) (square-le ((2 * q + 1) * w) (Q * w + j) c (omega arith)))
+    | inr d ↦
+        let e : Q * w ≡ (q + 1) * w = ap (λ (x : ℕ). x * w) (d .0) ∙ up-one in
+        let x = doubled (q + 1) in
+        let y : ((q + 1) * w + (q + 1) * w) * ((q + 1) * w + (q + 1) * w) * c ≤ (Q * w + j) * (Q * w + j) * c = square-le ((q + 1) * w + (q + 1) * w) (Q * w + j) c (omega arith) in
+        omega arith
+  ]
+
+  nearer-below : q * q * (c * (w * w)) ≤ n → j < Q * w → (Q * w + j) * (Q * w + j) * c < 4 * n
+  nearer-below f l = elim N [
+    | inl d ↦
+        let e : Q * w ≡ q * w = ap (λ (x : ℕ). x * w) (d .0) in
+        let x = doubled q in
+        let y : (Q * w + j) * (Q * w + j) * c < (q * w + q * w) * (q * w + q * w) * c = square-lt (Q * w + j) (q * w + q * w) c C (omega arith) in
+        omega arith
+    | inr d ↦
+        let e : Q * w ≡ (q + 1) * w = ap (λ (x : ℕ). x * w) (d .0) ∙ up-one in
+        let g : j ≤ q * w = at-most (λ (h : q * w < j). not-le-of-lt (lt-of-lt-of-le l (le-of-eq e)) (next h)) in
+        let m = middle in
+        lt-of-le-of-lt (square-le (Q * w + j) ((2 * q + 1) * w) c (omega arith)) (lt-of-le-of-lt (le-of-eq (scaled-square (2 * q + 1) w c)) (d .1))
+  ]
+    where
+      at-most : {a b : ℕ} → (b < a → ⊥) → a ≤ b
+      at-most f = omega arith
+
+module _ (p n c : ℕ) (P : 0 < p) (C : 0 < c) where
+  abbrev k : ℕ
+  k = dropped p n c
+
+  abbrev w : ℕ
+  w = 2 ^ k
+
+  abbrev u : ℕ
+  u = c * (2 ^ k * 2 ^ k)
+
+  abbrev q : ℕ
+  q = lower n c k
+
+  u-pos : 0 < u
+  u-pos = mul-pos C (mul-pos (pow-pos k) (pow-pos k))
+
+  -- the root lies between q and q + 1 multiples of w
+  from : q * q * u ≤ n
+  from = le-div-iff-mul-le u-pos .0 (root-is (n / u) .0)
+
+  to : n < (q + 1) * (q + 1) * u
+  to = div-lt-iff-lt-mul u-pos .0 (root-is (n / u) .1)
+
+  -- where digits are dropped q has all of p
+  abbrev whole : ℕ
+  whole = root (n / c)
+
+  full : (k ≡ 0) ⊎ (2 ^ (p - 1) ≤ q)
+  full = go (decLe (size whole) p)
+    where
+      go : Dec (size whole ≤ p) → (k ≡ 0) ⊎ (2 ^ (p - 1) ≤ q)
+      go (yes h) = inl (omega arith)
+      go (no f) =
+          let a : 2 ^ (p - 1) * w ≤ whole = le-trans (le-of-eq (sym (pow-add 2 (p - 1) k))) (size-reaches whole (p - 1 + k) (omega arith)) in
+          let b : 2 ^ (p - 1) * w * (2 ^ (p - 1) * w) ≤ n / c = le-trans (mul-le-mul a a) (root-is (n / c) .0) in
+          inr (root-ge (n / u) q (2 ^ (p - 1)) (root-is (n / u)) (le-div-iff-mul-le u-pos .1 (le-trans (le-of-eq (sym (scaled-square (2 ^ (p - 1)) w c))) (le-div-iff-mul-le C .0 b))))
+
+  few : q < 2 ^ p
+  few =
+      let a : whole + 1 ≤ 2 ^ p * w =
+      le-trans (le-of-eq (add-one whole)) (lt-of-lt-of-le (size-lt whole) (le-trans (pow-mono {i = size whole} {j = p + k} (omega arith)) (le-of-eq (pow-add 2 p k)))) in
+      let b : n / c < 2 ^ p * w * (2 ^ p * w) = lt-of-lt-of-le (root-is (n / c) .1) (mul-le-mul a a) in
+      root-lt (n / u) q (2 ^ p) (root-is (n / u)) (div-lt-iff-lt-mul u-pos .1 (lt-of-lt-of-le (div-lt-iff-lt-mul C .0 b) (le-of-eq (scaled-square (2 ^ p) w c))))
+
+  -- no value of at most p digits lies between the two
+  next : (j h i : ℕ) → h < 2 ^ p → j ≡ h * 2 ^ i → q * w < j → (q + 1) * w ≤ j
+  next j h i H J l = elim full [ inl z ↦ unit q w j (ap (λ (x : ℕ). 2 ^ x) z) l | inr g ↦ multiple g ]
+    where
+      unit : (q w j : ℕ) → w ≡ 1 → q * w < j → (q + 1) * w ≤ j
+      unit q w j e l =
+          let a : q * w ≡ q = ap (λ (x : ℕ). q * x) e ∙ mul-one q in
+          let b : (q + 1) * w ≡ q + 1 = ap (λ (x : ℕ). (q + 1) * x) e ∙ mul-one (q + 1) in
+          omega arith
+
+      coarse : 2 ^ (p - 1) ≤ q → k ≤ i
+      coarse g = le-of-not-lt (λ (f : i < k). not-le-of-lt l
+          (le-trans (le-of-eq J) (le-trans (mul-le-mul-right (2 ^ i) (le-of-lt H)) (le-trans (le-of-eq (sym (pow-add 2 p i)))
+          (le-trans (pow-mono {i = p + i} {j = p - 1 + k} (omega arith)) (le-trans (le-of-eq (pow-add 2 (p - 1) k)) (mul-le-mul-right w g)))))))
+        where
+          le-of-not-lt : (i < k → ⊥) → k ≤ i
+          le-of-not-lt f = omega arith
+
+      multiple : 2 ^ (p - 1) ≤ q → (q + 1) * w ≤ j
+      multiple g =
+          let e : i ≡ i - k + k = let x = coarse g in omega arith in
+          let m : j ≡ h * 2 ^ (i - k) * w = J ∙ ap (λ (x : ℕ). h * 2 ^ x) e ∙ ap (λ (x : ℕ). h * x) (pow-add 2 (i - k) k) ∙ sym (mul-assoc h (2 ^ (i - k)) w) in
+          let a : q < h * 2 ^ (i - k) = lt-of-mul-lt-mul-right w (lt-of-lt-of-le l (le-of-eq m)) in
+          le-trans (mul-le-mul-right w (le-trans (le-of-eq (add-one q)) a)) (le-of-eq (sym m))
+
+  abbrev v : ℕ
+  v = kept n c k * 2 ^ k
+
+  near : ((kept n c k ≡ q) × (4 * n ≤ (2 * q + 1) * (2 * q + 1) * u)) ⊎ ((kept n c k ≡ suc q) × ((2 * q + 1) * (2 * q + 1) * u ≤ 4 * n))
+  near = nearest-cases q (4 * n) ((2 * q + 1) * (2 * q + 1) * u)
+
+  -- ---- where the radicand is itself a value of the format, of m * 2 ^ i units, no tie can be: the square of 2 q + 1 is odd, and too long
+  module _ (W M : ℕ) (m i l : ℕ) (few-m : m < 2 ^ p) (M-is : M ≡ m * 2 ^ i) (W-is : W ≡ 2 ^ l) (n-is : n ≡ M * c * W) where
+    abbrev o : ℕ
+    o = (2 * q + 1) * (2 * q + 1)
+
+    -- both sides without the denominator
+    plain : 4 * n ≡ o * u → m * 2 ^ (i + l + 2) ≡ o * 2 ^ (k + k)
+    plain e = without m i l o k n c M W C M-is W-is n-is e
+
+    no-tie : 4 * n ≡ o * u → ⊥
+    no-tie e = go (decLe (i + l + 2) (k + k))
+      where
+        long : 2 ^ (p - 1) ≤ q → m < o
+        long g =
+            let t : 2 ^ p ≡ 2 * 2 ^ (p - 1) = ap (λ (x : ℕ). 2 ^ x) one-less ∙ pow-succ' 2 (p - 1) in
+            let a : 2 ^ p ≤ 2 * q + 1 = omega arith in
+            lt-of-lt-of-le few-m (le-trans (le-trans (le-of-eq (sym (mul-one (2 ^ p)))) (mul-le-mul-left (2 ^ p) (pow-pos p))) (mul-le-mul a a))
+          where
+            one-less : p ≡ suc (p - 1)
+            one-less = omega arith
+
+        go : Dec (i + l + 2 ≤ k + k) → ⊥
+        go (yes h) =
+            let a : m ≡ o * 2 ^ (k + k - (i + l + 2)) = split m o (i + l + 2) (k + k) h (plain e) in
+            let b : o * 1 ≤ o * 2 ^ (k + k - (i + l + 2)) = mul-le-mul-left o (pow-pos (k + k - (i + l + 2))) in
+            elim full [ inl z ↦ none k (i + l) z h | inr g ↦ not-le-of-lt (long g) (le-trans (le-of-eq (sym (mul-one o))) (le-trans b (le-of-eq (sym a)))) ]
+          where
+            none : (k x : ℕ) → k ≡ 0 → x + 2 ≤ k + k → ⊥
+            none k x z h = omega arith
+        go (no f) =
+            let d = i + l + 2 - (k + k) in
+            let a : o ≡ m * 2 ^ d = split o m (k + k) (i + l + 2) (omega arith) (sym (plain e)) in
+            let t : d ≡ suc (d - 1) = omega arith in
+            odd-square q (m * 2 ^ (d - 1)) (a ∙ ap (λ (x : ℕ). m * 2 ^ x) t ∙ ap (λ (x : ℕ). m * x) (pow-succ' 2 (d - 1)) ∙ mul-left-comm m 2 (2 ^ (d - 1)))
+
+    nearer : Nearer q w c n (kept n c k)
+    nearer = elim near [
+      | inl d ↦ inl (d .0, lt-of-le-ne (d .1) no-tie)
+      | inr d ↦ inr (d .0, lt-of-le-ne (d .1) (λ (e : o * u ≡ 4 * n). no-tie (sym e)))
+    ]
+
+    -- the root is on v's side of half way to a j above
+    above : (j h i : ℕ) → h < 2 ^ p → j ≡ h * 2 ^ i → v < j → 4 * n < (v + j) * (v + j) * c
+    above j h i H J l = nearer-above q w c n j (kept n c k) C nearer (next j h i H J) to l
+
+    -- and to a j below
+    below : (j h i : ℕ) → h < 2 ^ p → j ≡ h * 2 ^ i → j < v → (v + j) * (v + j) * c < 4 * n
+    below j h i H J l = nearer-below q w c n j (kept n c k) C nearer (next j h i H J) from l
+
+  -- ---- v is a value of the format
+  kept-le : kept n c k ≤ 2 ^ p
+  kept-le = elim near [ inl d ↦ le-trans (le-of-eq (d .0)) (le-of-lt few) | inr d ↦ le-trans (le-of-eq (d .0)) few ]
+
+  short : Short p v
+  short = elim (eq-or-lt-of-le kept-le) [
+    | inl e ↦ record { digits = 1; zeros = p + k; few = pow-lt {i = 0} {j = p} P; same = ap (λ (x : ℕ). x * 2 ^ k) e ∙ sym (pow-add 2 p k) ∙ sym (one-mul (2 ^ (p + k))) }
+    | inr l ↦ record { digits = kept n c k; zeros = k; few = l; same = refl }
+  ]
+
+  -- below twice any B whose square is above the radicand
+  bounded : (B : ℕ) → 1 < B → n < B * B * c → v < 2 * B
+  bounded B b h = elim full [
+    | inl z ↦ let e : w ≡ 1 = ap (λ (x : ℕ). 2 ^ x) z in let l = under in let m = most in omega arith
+    | inr g ↦
+        let e : 1 * w ≤ q * w = mul-le-mul-right w (le-trans (pow-pos (p - 1)) g) in
+        let l = under in
+        let m = most in
+        omega arith
+  ]
+    where
+      under : q * w < B
+      under = lt-of-not-le (λ (g : B ≤ q * w). not-le-of-lt h (le-trans (square-le B (q * w) c g) (le-trans (le-of-eq (scaled-square q w c)) from)))
+
+      most : v ≤ q * w + w
+      most = le-trans (mul-le-mul-right w (nearest-le q (compare (4 * n) ((2 * q + 1) * (2 * q + 1) * u)))) (le-of-eq (suc-mul q w))
+
+-- ---- the root of a / c, below 2 ^ (em + 1): y is a value of the format, and no value of the format is nearer
+pub record IsNearestRoot (p em a c : ℕ) (y : Float) : Type 0 where
+  pub value : ℕ
+  pub has : HasValue y false value (2 ^ least p em)
+  pub short : Short p value
+  pub in-range : value < 2 ^ (least p em + suc em)
+  pub above : (j : ℕ) → Short p j → value < j → 4 * squared-units p em a < (value + j) * (value + j) * c
+  pub below : (j : ℕ) → Short p j → j < value → (value + j) * (value + j) * c < 4 * squared-units p em a
+
+units-value : (p em q k : ℕ) → q * 2 ^ k < 2 ^ (least p em + suc em) → HasValue (units p em false q k) false (q * 2 ^ k) (2 ^ least p em)
+unfolding units
+units-value p em q k h =
+    subst (λ (b : Bool). HasValue (cond b (odd (suc p) false q k (least p em)) (inf false)) false (q * 2 ^ k) (2 ^ least p em)) (sym (lt-ltb (q * 2 ^ k) (2 ^ (least p em + suc em)) h))
+    (odd-sign (suc p) false q k (least p em))
+
+nearest-root-is : (p em a c : ℕ) → nearest-root p em a c ≡ units p em false (kept (squared-units p em a) c (dropped p (squared-units p em a) c)) (dropped p (squared-units p em a) c)
+unfolding nearest-root
+nearest-root-is p em a c = refl
+
+root-in-range : (p em a c : ℕ) (P : 0 < p) (C : 0 < c) → 1 ≤ em → a < 2 ^ suc em * c → v p (squared-units p em a) c P C < 2 ^ (least p em + suc em)
+root-in-range p em a c P C E h =
+    let W = 2 ^ least p em in
+    let M = 2 ^ em in
+    let n = squared-units p em a in
+    let two : 2 ^ 1 ≤ M = pow-mono E in
+    let b : 2 ^ 1 * 1 ≤ M * W = mul-le-mul two (pow-pos (least p em)) in
+    let e : 2 ^ suc em ≤ M * M = le-trans (pow-mono {i = suc em} {j = em + em} (omega arith)) (le-of-eq (pow-add 2 em em)) in
+    let g : a < M * M * c = lt-of-lt-of-le h (mul-le-mul-right c e) in
+    let r : n < M * W * (M * W) * c = lt-of-lt-of-le (mul-lt-mul-of-pos-right (mul-lt-mul-of-pos-right g (pow-pos (least p em))) (pow-pos (least p em))) (le-of-eq (regroup M c W)) in
+    lt-of-lt-of-le (bounded p n c P C (M * W) (omega arith) r)
+    (le-of-eq (sym (mul-assoc 2 M W) ∙ ap (λ (x : ℕ). x * W) (sym (pow-succ' 2 em)) ∙ sym (pow-add 2 (suc em) (least p em)) ∙ ap (λ (x : ℕ). 2 ^ x) (add-comm (suc em) (least p em))))
+  where
+    regroup : (M c W : ℕ) → M * M * c * W * W ≡ M * W * (M * W) * c
+    regroup M c W = simp (mul-assoc, mul-comm, mul-left-comm)
+
+-- a / c is a value of the format: `units` of the smallest one
+pub nearest-root-nearest : (p em a c units : ℕ) → 0 < p → 1 ≤ em → 0 < c → a < 2 ^ suc em * c → Short p units → a * 2 ^ least p em ≡ units * c → IsNearestRoot p em a c (nearest-root p em a c)
+nearest-root-nearest p em a c units P E C h x e =
+    let n = squared-units p em a in
+    let k = dropped p n c in
+    let W = 2 ^ least p em in
+    let l = root-in-range p em a c P C E h in
+    let n-is : n ≡ units * c * W = ap (λ (z : ℕ). z * W) e in
+    record {
+      value = v p n c P C;
+      has = subst (λ (y : Float). HasValue y false (v p n c P C) W) (sym (nearest-root-is p em a c)) (units-value p em (kept n c k) k l);
+      short = short p n c P C;
+      in-range = l;
+      above = λ j s l. above p n c P C W units (x .digits) (x .zeros) (least p em) (x .few) (x .same) refl n-is j (s .digits) (s .zeros) (s .few) (s .same) l;
+      below = λ j s l. below p n c P C W units (x .digits) (x .zeros) (least p em) (x .few) (x .same) refl n-is j (s .digits) (s .zeros) (s .few) (s .same) l;
+    }
+
+-- ---- Sqrt
+-- of a value above 0 that the format holds
+pub sqrt-nearest : (F : Format) (m : ℕ) (e : ℤ) → T (fits F (fin false (suc m) e)) → IsNearestRoot (prec F) (emax F) (suc m * up e) (down e) (sqrt F (fin false (suc m) e))
+unfolding sqrt-at
+sqrt-nearest F m e t =
+    let h = fits-says F false m e t in
+    let x = placed (low F) e (h .fine) in
+    nearest-root-nearest (prec F) (emax F) (suc m * up e) (down e) (suc m * 2 ^ x .exponent) (digits F) (exponents F) (down-pos e) (h .range)
+    (record { digits = suc m; zeros = x .exponent; few = h .digits; same = refl })
+    (mul-assoc (suc m) (up e) (2 ^ low F) ∙ ap (λ (z : ℕ). suc m * z) (x .same) ∙ sym (mul-assoc (suc m) (2 ^ x .exponent) (down e)))
+  where
+    digits : (F : Format) → 0 < prec F
+    digits binary32 = lit< tt
+    digits binary64 = lit< tt
+
+    exponents : (F : Format) → 1 ≤ emax F
+    exponents binary32 = lit≤ tt
+    exponents binary64 = lit≤ tt
+
+-- "of -0 it is -0": a zero is its own root, and below zero there is none
+pub sqrt-zero : (p em : ℕ) (s : Bool) (e : ℤ) → sqrt-at p em (fin s 0 e) ≡ fin s 0 e
+unfolding sqrt-at
+sqrt-zero p em s e = refl
+
+pub sqrt-below-zero : (p em m : ℕ) (e : ℤ) → sqrt-at p em (fin true (suc m) e) ≡ nan
+unfolding sqrt-at
+sqrt-below-zero p em m e = refl
+
+pub sqrt-infinity : (p em : ℕ) → (sqrt-at p em (inf false) ≡ inf false) × (sqrt-at p em (inf true) ≡ nan)
+unfolding sqrt-at
+sqrt-infinity p em = (refl, refl)

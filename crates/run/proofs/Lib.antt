@@ -1,0 +1,4 @@
+pub mod Tags
+pub mod Looping
+pub mod Late
+pub mod Whole

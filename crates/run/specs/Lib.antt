@@ -1,0 +1,3 @@
+-- Run and resume of a program's bytes, beside the machine's.
+pub mod Views
+pub mod Calls

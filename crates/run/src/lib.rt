@@ -1,0 +1,398 @@
+// Run and resume of a program's bytes (reference `evaluate_into`).
+ghost use mathlib.Core.Path.{_≡_};
+ghost use mathlib.Core.Bool.{true, not};
+ghost use mathlib.Core.List.{[]};
+ghost use lib.ListN.{length};
+ghost use lib.Ieee.{binary64};
+ghost use Prim.Native.Nat.{_<_};
+ghost use Rattle.arithmetic.specs.Value.{finite};
+ghost use Rattle.formula.specs.Text.{all};
+ghost use Rattle.formula.specs.Path.{placed};
+ghost use Rattle.meaning.specs.Work.{elementary, power, same-bits};
+ghost use Rattle.machine.specs.Program.{valid};
+ghost use Rattle.machine.specs.Machine.{fresh, more, place-of};
+ghost use Rattle.layout.specs.Decode.{code-count, program-at};
+ghost use Rattle.work.specs.View.{kept-values};
+ghost use Rattle.instruction.specs.declared.Effect.the-variants.{Work};
+ghost use Rattle.run.specs.Views.{Hands-back, Writable, answer-of, pending-of, reply-of, state-of, supplied-of};
+ghost use Rattle.run.specs.Calls.{Finished, Known-place, putting, refusing, replying, resume-at, run-at, stale-at, steps-at, stopping, supplying, unasked, unfit-at};
+use instruction::Effect;
+use instruction::Progress;
+use reader::word;
+use work::Kept;
+use work::Outcome;
+
+// A question that was shown and has no answer yet.
+pub enum Pending {
+    Nothing,
+    Elementary(u8, f64),
+    Power(f64, f64),
+}
+
+// "Run state: made by the run, read by the next call": position, "the values supplied" to a half-done Hill or density, and
+// the question that pends.
+pub struct State {
+    pub position: usize,
+    pub kept: Kept,
+    pub pending: Pending,
+}
+
+// A value supplied by the host, or none.
+pub enum Supplied {
+    Nothing,
+    Value(f64),
+}
+
+// "The answer of a run carries its number in the case": a value; a question, its function's number and its argument, or
+// Power's base and exponent; spent; 9, with the number of its path's record; another refusal, with its number.
+pub enum Answer {
+    Value(f64),
+    Elementary(u8, f64),
+    Power(f64, f64),
+    Spent,
+    Domain(usize),
+    Refused(usize),
+}
+
+// "The count returned is the instructions completed by this call."
+pub struct Reply {
+    pub answer: Answer,
+    pub count: usize,
+    pub state: State,
+}
+
+// ---- the loop
+
+fn replied(answer: Answer, count: usize, position: usize, kept: Kept, pending: Pending) -> Reply
+    ensures { λ r. ⌜ r ≡ replying answer count position kept pending ⌝ }
+{
+    Reply {
+        answer: answer,
+        count: count,
+        state: State {
+            position: position,
+            kept: kept,
+            pending: pending,
+        },
+    }
+}
+
+// "After a value or 9 the position is the code's end."
+fn finished(p: &[u8], regs: &[f64], code: usize, done: usize) -> Reply
+    requires { ⌜ code ≡ code-count (now p) ⌝ }
+    ensures { λ r. ⌜ Finished (now (p .entry)) done r (now (regs .entry)) ⌝ }
+{
+    let none = work::fresh();
+    let value = instruction::value_at(regs, word(p, 12));
+    replied(Answer::Value(value), done, code, none, Pending::Nothing)
+}
+
+// An instruction that was not done ends the call.
+fn stopped(t: Progress, code: usize, done: usize, at: usize, kept: Kept, none: Kept) -> Reply
+    ensures { λ r. ⌜ r ≡ stopping t code done at kept none ⌝ }
+{
+    match t {
+        Progress::Next(to) => replied(Answer::Spent, done, at, kept, Pending::Nothing),
+        Progress::Domain(k) => replied(Answer::Domain(k), done, code, none, Pending::Nothing),
+        Progress::Elementary(f, x) => replied(Answer::Elementary(f, x), done, at, kept, Pending::Elementary(f, x)),
+        Progress::Power(x, y) => replied(Answer::Power(x, y), done, at, kept, Pending::Power(x, y)),
+    }
+}
+
+// "Spent means that the whole budget was completed and code remains": the code's end is looked at first, then the budget,
+// then the instruction.
+pub fn steps(p: &[u8], inputs: &[f64], regs: &mut [f64], budget: usize, position: usize, kept: Kept) -> Reply
+    ensures reply { λ r. ⌜ reply-of (now (p .entry)) r (now (regs .exit)) ≡ steps-at (now (inputs .entry)) (now (p .entry)) budget position (kept-values kept) (now (regs .entry)) ⌝ }
+    ensures place { λ r. ⌜ Known-place (now (p .entry)) (r .answer) ⌝ }
+{
+    let code = word(p, 4);
+    let none = work::fresh();
+    let mut left = budget;
+    let mut done = 0;
+    let mut at = position;
+    let mut k = kept;
+    while 0 < left {
+        if code <= at {
+            return finished(p, regs, code, done);
+        }
+        let t = instruction::step(p, at, inputs, regs, k);
+        let Progress::Next(to) = t else {
+            return stopped(t, code, done, at, k, none);
+        };
+        at = to;
+        k = none;
+        left -= 1;
+        done += 1;
+    }
+    if code <= at {
+        return finished(p, regs, code, done);
+    }
+    replied(Answer::Spent, done, at, k, Pending::Nothing)
+}
+
+// ---- refusals
+
+fn all_finite(xs: &[f64]) -> bool
+    ensures { λ r. ⌜ r ≡ all finite (now (xs .entry)) ⌝ }
+{
+    let mut i = 0;
+    while i < xs.len() {
+        let ok = floats::value::is_finite(xs[i]);
+        if ok {
+            i += 1;
+        } else {
+            return false;
+        }
+    }
+    true
+}
+
+// "5 at `root`, input count wrong, too few registers, an input not finite, or budget 0"
+fn unfit(p: &[u8], inputs: &[f64], regs: &[f64], budget: usize) -> bool
+    ensures { λ r. ⌜ r ≡ unfit-at (now (inputs .entry)) (now (p .entry)) (now (regs .entry)) budget ⌝ }
+{
+    let count = word(p, 16);
+    if inputs.len() != count {
+        return true;
+    }
+    let registers = word(p, 8);
+    if regs.len() < registers {
+        return true;
+    }
+    let ok = all_finite(inputs);
+    if ok {
+        return budget == 0;
+    }
+    true
+}
+
+fn same_bits(x: f64, y: f64) -> bool
+    ensures { λ r. ⌜ r ≡ same-bits binary64 x y ⌝ }
+{
+    let a = floats::value::bits_of(x);
+    let b = floats::value::bits_of(y);
+    a == b
+}
+
+// Whether an effect does not put the question of a function; compared by bits, every NaN as one.
+fn other_elementary(w: Outcome, f: u8, x: f64) -> bool
+    ensures { λ r. ⌜ r ≡ not (putting (elementary f x) (Work w)) ⌝ }
+{
+    match w {
+        Outcome::Elementary(g, y) => {
+            if f != g {
+                return true;
+            }
+            let same = same_bits(x, y);
+            !same
+        }
+        Outcome::Value(v) => true,
+        Outcome::Undefined => true,
+        Outcome::Power(a, b) => true,
+    }
+}
+
+fn other_power(w: Outcome, x: f64, y: f64) -> bool
+    ensures { λ r. ⌜ r ≡ not (putting (power x y) (Work w)) ⌝ }
+{
+    match w {
+        Outcome::Power(a, b) => {
+            let same = same_bits(x, a);
+            if same {
+                let same = same_bits(y, b);
+                return !same;
+            }
+            true
+        }
+        Outcome::Value(v) => true,
+        Outcome::Undefined => true,
+        Outcome::Elementary(f, a) => true,
+    }
+}
+
+fn other_question(e: Effect, pending: Pending, supplied: Supplied) -> bool
+    ensures { λ r. ⌜ r ≡ unasked e (pending-of pending) (supplied-of supplied) ⌝ }
+{
+    match pending {
+        Pending::Nothing => match supplied {
+            Supplied::Nothing => false,
+            Supplied::Value(x) => true,
+        },
+        Pending::Elementary(f, x) => match e {
+            Effect::Work(w) => other_elementary(w, f, x),
+            Effect::Jump(to) => true,
+        },
+        Pending::Power(x, y) => match e {
+            Effect::Work(w) => other_power(w, x, y),
+            Effect::Jump(to) => true,
+        },
+    }
+}
+
+// "11 (resume), position not at an instruction, a pending question that this instruction, with these registers and kept
+// values, doesn't put, or a value supplied while no question shown for that instruction is pending"
+fn stale(p: &[u8], inputs: &[f64], regs: &[f64], state: State, supplied: Supplied) -> bool
+    ensures { λ r. ⌜ r ≡ stale-at (now (inputs .entry)) (now (p .entry)) (now (regs .entry)) (state .position) (kept-values (state .kept)) (pending-of (state .pending)) (supplied-of supplied) ⌝ }
+{
+    let position = state.position;
+    let code = word(p, 4);
+    if code <= position {
+        return true;
+    }
+    let kept = state.kept;
+    let pending = state.pending;
+    let e = instruction::effect_at(p, position, inputs, regs, kept);
+    other_question(e, pending, supplied)
+}
+
+// The values kept, and one more.
+fn supply(kept: Kept, supplied: Supplied) -> Kept
+    ensures { λ r. ⌜ kept-values r ≡ supplying (kept-values kept) (supplied-of supplied) ⌝ }
+{
+    match supplied {
+        Supplied::Nothing => kept,
+        Supplied::Value(x) => work::keep(kept, x),
+    }
+}
+
+// ---- the calls
+
+// "A fresh state is at the first instruction, nothing kept or pending"
+pub fn fresh_state() -> State
+    ensures { λ r. ⌜ state-of r ≡ fresh ⌝ }
+{
+    let none = work::fresh();
+    State {
+        position: 0,
+        kept: none,
+        pending: Pending::Nothing,
+    }
+}
+
+// "These change no register and hand the state back unaltered."
+fn refusal(n: usize, state: State) -> Reply
+    ensures { λ r. ⌜ r ≡ refusing n state ⌝ }
+{
+    Reply {
+        answer: Answer::Refused(n),
+        count: 0,
+        state: state,
+    }
+}
+
+// "A refusal with a place writes the text, then zeros to the slice's end. Otherwise it isn't written."
+fn write_place(p: &[u8], answer: Answer, path: &mut [u8])
+    requires { ⌜ (valid (program-at (now p)) ≡ true) × Writable (now p) (length (now path)) answer ⌝ }
+    ensures { λ r. ⌜ now (path .exit) ≡ placed (place-of (answer-of (now (p .entry)) answer)) (now (path .entry)) ⌝ }
+{
+    match answer {
+        Answer::Domain(k) => program::write_place(p, k, path),
+        Answer::Refused(n) => {
+            if n == 5 {
+                paths::write_root(path);
+            }
+        }
+        Answer::Value(v) => {}
+        Answer::Elementary(f, x) => {}
+        Answer::Power(x, y) => {}
+        Answer::Spent => {}
+    }
+}
+
+fn run_reply(p: &[u8], inputs: &[f64], regs: &mut [f64], room: usize, budget: usize, state: State) -> Reply
+    requires { ⌜ (valid (program-at (now p)) ≡ true) × (state-of state ≡ fresh) ⌝ }
+    ensures reply { λ r. ⌜ reply-of (now (p .entry)) r (now (regs .exit)) ≡ run-at (now (inputs .entry)) (now (p .entry)) room budget (now (regs .entry)) ⌝ }
+    ensures place { λ r. ⌜ Writable (now (p .entry)) room (r .answer) ⌝ }
+    ensures state { λ r. ⌜ Hands-back state r ⌝ }
+{
+    if room < 8192 {
+        return refusal(1, state);
+    }
+    let bad = unfit(p, inputs, regs, budget);
+    if bad {
+        return refusal(5, state);
+    }
+    let kept = state.kept;
+    steps(p, inputs, regs, budget, 0, kept)
+}
+
+fn resume_reply(p: &[u8], inputs: &[f64], regs: &mut [f64], room: usize, budget: usize, state: State, supplied: Supplied) -> Reply
+    requires { ⌜ valid (program-at (now p)) ≡ true ⌝ }
+    ensures reply { λ r. ⌜ reply-of (now (p .entry)) r (now (regs .exit)) ≡ resume-at (now (inputs .entry)) (now (p .entry)) room budget (supplied-of supplied) (state-of state) (now (regs .entry)) ⌝ }
+    ensures place { λ r. ⌜ Writable (now (p .entry)) room (r .answer) ⌝ }
+    ensures state { λ r. ⌜ Hands-back state r ⌝ }
+{
+    if room < 8192 {
+        return refusal(1, state);
+    }
+    let bad = unfit(p, inputs, regs, budget);
+    if bad {
+        return refusal(5, state);
+    }
+    let late = stale(p, inputs, regs, state, supplied);
+    if late {
+        return refusal(11, state);
+    }
+    let position = state.position;
+    let kept = state.kept;
+    let k = supply(kept, supplied);
+    steps(p, inputs, regs, budget, position, k)
+}
+
+// A run of bytes that were checked before.
+pub fn run_checked(p: &[u8], inputs: &[f64], regs: &mut [f64], path: &mut [u8], budget: usize) -> Reply
+    requires { ⌜ valid (program-at (now p)) ≡ true ⌝ }
+    ensures reply { λ r. ⌜ reply-of (now (p .entry)) r (now (regs .exit)) ≡ run-at (now (inputs .entry)) (now (p .entry)) (length (now (path .entry))) budget (now (regs .entry)) ⌝ }
+    ensures place { λ r. ⌜ now (path .exit) ≡ placed (place-of (answer-of (now (p .entry)) (r .answer))) (now (path .entry)) ⌝ }
+{
+    let room = path.len();
+    let r = run_reply(p, inputs, regs, room, budget, fresh_state());
+    let answer = r.answer;
+    write_place(p, answer, path);
+    r
+}
+
+// A resume of bytes that were checked before.
+pub fn resume_checked(p: &[u8], inputs: &[f64], regs: &mut [f64], path: &mut [u8], budget: usize, state: State, supplied: Supplied) -> Reply
+    requires { ⌜ valid (program-at (now p)) ≡ true ⌝ }
+    ensures reply { λ r. ⌜ reply-of (now (p .entry)) r (now (regs .exit)) ≡ resume-at (now (inputs .entry)) (now (p .entry)) (length (now (path .entry))) budget (supplied-of supplied) (state-of state) (now (regs .entry)) ⌝ }
+    ensures place { λ r. ⌜ now (path .exit) ≡ placed (place-of (answer-of (now (p .entry)) (r .answer))) (now (path .entry)) ⌝ }
+    ensures state { λ r. ⌜ Hands-back state r ⌝ }
+{
+    let room = path.len();
+    let r = resume_reply(p, inputs, regs, room, budget, state, supplied);
+    let answer = r.answer;
+    write_place(p, answer, path);
+    r
+}
+
+// "In order: 1, path slice too short; 10, not a program; 5 at `root` ..; 11 (resume) .. Otherwise: a value, a question,
+// spent, or 9 at the instruction's path."
+pub fn run(p: &[u8], inputs: &[f64], regs: &mut [f64], path: &mut [u8], budget: usize) -> Reply
+    ensures reply { λ r. ⌜ reply-of (now (p .entry)) r (now (regs .exit)) ≡ run-at (now (inputs .entry)) (now (p .entry)) (length (now (path .entry))) budget (now (regs .entry)) ⌝ }
+    ensures place { λ r. ⌜ now (path .exit) ≡ placed (place-of (answer-of (now (p .entry)) (r .answer))) (now (path .entry)) ⌝ }
+{
+    if path.len() < 8192 {
+        return refusal(1, fresh_state());
+    }
+    let ok = program::is_program(p);
+    if ok {
+        return run_checked(p, inputs, regs, path, budget);
+    }
+    refusal(10, fresh_state())
+}
+
+pub fn resume(p: &[u8], inputs: &[f64], regs: &mut [f64], path: &mut [u8], budget: usize, state: State, supplied: Supplied) -> Reply
+    ensures reply { λ r. ⌜ reply-of (now (p .entry)) r (now (regs .exit)) ≡ resume-at (now (inputs .entry)) (now (p .entry)) (length (now (path .entry))) budget (supplied-of supplied) (state-of state) (now (regs .entry)) ⌝ }
+    ensures place { λ r. ⌜ now (path .exit) ≡ placed (place-of (answer-of (now (p .entry)) (r .answer))) (now (path .entry)) ⌝ }
+    ensures state { λ r. ⌜ Hands-back state r ⌝ }
+{
+    if path.len() < 8192 {
+        return refusal(1, state);
+    }
+    let ok = program::is_program(p);
+    if ok {
+        return resume_checked(p, inputs, regs, path, budget, state, supplied);
+    }
+    refusal(10, state)
+}

@@ -1,0 +1,4 @@
+mod Answers
+mod Numbers
+pub mod Arguments
+pub mod Questions

@@ -1,0 +1,69 @@
+-- `density`: each test of the definition in turn, and as many values kept as questions are answered.
+use native.Mathlib.Omega.{arith}
+use lib.Ieee.{ofBits}
+use lib.ListN.{drop}
+use Rattle.work.specs.View.{kept-values, places}
+use Rattle.work.proofs.Answers.{given, outside, took}
+use Rattle.meaning.specs.Work.{density-work}
+use borrow.Author.Needs.{needs}
+use Rattle.work.proofs.density.density.Statement.{statement}
+use Rattle.work.proofs.density.density.Tie as tie
+
+returns : tie.Need-returns
+unfolding density-work ofBits
+returns c = rw (c .if1 .taken) (outside (kept-values (c .before .args .kept)))
+
+returns-2 : tie.Need-returns-2
+unfolding density-work ofBits
+returns-2 c = rw (c .before .if1 .left, c .if2 .taken) (outside (kept-values (c .before .before .args .kept)))
+
+returns-3 : tie.Need-returns-3
+unfolding density-work ofBits
+returns-3 c = rw (c .before .before .if1 .left, c .before .if2 .left, c .if3 .taken) (given _ (kept-values (c .before .before .before .args .kept)))
+
+returns-4 : tie.Need-returns-4
+unfolding density-work ofBits
+returns-4 c = rw (c .before .before .before .before .if1 .left, c .before .before .before .if2 .left, c .before .before .if3 .left, c .if4 .taken)
+
+two-pi-requires : tie.Need-two-pi-requires
+two-pi-requires c κs = search needs
+
+returns-5 : tie.Need-returns-5
+unfolding density-work ofBits
+returns-5 c = rw (c .before .before .before .before .before .before .before .if1 .left, c .before .before .before .before .before .before .if2 .left, c .before .before .before .before .before .if3 .left, c .before .if5 .taken, c .two-pi .ensures)
+
+returns-6 : tie.Need-returns-6
+unfolding density-work ofBits
+returns-6 c = rw (c .before .before .before .before .before .before .before .before .if1 .left, c .before .before .before .before .before .before .before .if2 .left, c .before .before .before .before .before .before .if3 .left, c .if6 .taken)
+
+returns-7 : tie.Need-returns-7
+unfolding density-work ofBits
+returns-7 c = rw (c .before .before .before .before .before .before .before .before .before .before .before .before .before .if1 .left, c .before .before .before .before .before .before .before .before .before .before .before .before .if2 .left, c .before .before .before .before .before .before .before .before .before .before .before .if3 .left, c .if8 .taken, c .before .before .if7 .taken)
+
+returns-8 : tie.Need-returns-8
+unfolding density-work ofBits
+returns-8 c = rw (c .before .before .before .before .before .before .before .before .before .before .before .before .before .if1 .left, c .before .before .before .before .before .before .before .before .before .before .before .before .if2 .left, c .before .before .before .before .before .before .before .before .before .before .before .if3 .left, took 4 (c .before .before .before .before .before .before .before .before .before .before .before .before .before .before .args .kept .count) (places (c .before .before .before .before .before .before .before .before .before .before .before .before .before .before .args .kept)) (omega (arith, c .before .before .before .before .before .before .before .before .before .if4 .left, c .before .before .before .before .before .before .before .if5 .left, c .before .before .before .before .before .if6 .left, c .if8 .left)), c .before .before .if7 .taken) (given _ (drop 4 (kept-values (c .before .before .before .before .before .before .before .before .before .before .before .before .before .before .args .kept))))
+
+with-cost-requires : tie.Need-with-cost-requires
+unfolding density-work ofBits
+with-cost-requires c κs = omega (arith, c .before .before .before .before .before .before .before .if4 .left, c .before .before .before .before .before .if5 .left, c .before .before .before .if6 .left)
+
+returns-9 : tie.Need-returns-9
+unfolding density-work ofBits
+returns-9 c = rw (c .before .before .before .before .before .before .before .before .before .before .before .before .if1 .left, c .before .before .before .before .before .before .before .before .before .before .before .if2 .left, c .before .before .before .before .before .before .before .before .before .before .if3 .left, took 3 (c .before .before .before .before .before .before .before .before .before .before .before .before .before .args .kept .count) (places (c .before .before .before .before .before .before .before .before .before .before .before .before .before .args .kept)) (omega (arith, c .before .before .before .before .before .before .before .before .if4 .left, c .before .before .before .before .before .before .if5 .left, c .before .before .before .before .if6 .left)), c .before .if7 .left) (c .with-cost .ensures)
+
+pub density-spec : {M : Type 1} → statement M
+density-spec =
+    tie.close
+    (tie.spec
+    returns
+    returns-2
+    returns-3
+    returns-4
+    two-pi-requires
+    returns-5
+    returns-6
+    returns-7
+    returns-8
+    with-cost-requires
+    returns-9)
