@@ -1,7 +1,7 @@
 // Runs `floats` on recorded cases and compares the bits of each result with another implementation's.
 //
 // Standard input has a record of 50 bytes for each: a letter, then a, b and the result in 16 hexadecimal
-// digits each, and a newline. tools/make_cases.py made it: the answers are the C library's, by way of
+// digits each, and a newline. tools/floats/make_cases.py made it: the answers are the C library's, by way of
 // Python's math, and those of Sqrt, Floor, Ceil and the remainder were worked out a second time with whole
 // numbers. The arguments are zeros, subnormals, infinities, NaNs, ends of range, neighbours of squares and of
 // half way cases, negative multiples and remainders too small to move b, and random bits.

@@ -1,11 +1,11 @@
 -- What an instruction does, by its opcode.
-use mathlib.Core.Path.{_≡_, refl, ap, ap₂, sym, _∙_, subst}
+use mathlib.Core.Path.{_≡_, refl, ap, sym, _∙_}
 use mathlib.Core.Bool.{Bool, true, false, cond}
 use mathlib.Core.List.{List, [], _∷_}
-use Prim.Native.Nat.{ℕ, zero, suc, _+_, _*_, _≤_, _<_}
+use Prim.Native.Nat.{ℕ, zero, suc, _+_, _≤_, _<_}
 use mathlib.Core.Logic.{_⊎_, inl, inr, ⊎-elim}
 use native.Mathlib.Omega.{arith}
-use lib.ListN.{length, getD}
+use lib.ListN.{getD}
 use lib.Ieee.{Float, binary64, ofBits}
 use Rattle.arithmetic.specs.Value.{0f, is-zero}
 use Rattle.formula.specs.Text.{byte-at, half-at, long-at, word-at}
@@ -18,7 +18,7 @@ use Rattle.work.specs.declared.Outcome.{Outcome}
 use Rattle.work.specs.declared.Outcome.the-variants.{Value}
 use Rattle.program.proofs.Tests.{one-of}
 use Rattle.program.proofs.Ops.{op-of}
-use Rattle.instruction.specs.Effects.{beyond, effect-at, extremum-at, operation-at, shown-effect}
+use Rattle.instruction.specs.Effects.{effect-at, extremum-at, operation-at, shown-effect}
 use Rattle.instruction.specs.declared.Effect.{Effect}
 use Rattle.instruction.specs.declared.Effect.the-variants.{Work, Jump}
 use Rattle.instruction.proofs.Leaves.{getD-past}

@@ -3,7 +3,7 @@ use mathlib.Core.Bool.{Bool, true, false, cond}
 use mathlib.Core.List.{List, []}
 use Prim.Native.Nat.{ℕ, suc, _+_}
 use lib.ListN.{getD}
-use lib.Ieee.{Float, binary64, lt}
+use lib.Ieee.{Float, binary64}
 use Rattle.arithmetic.specs.Value.{0f, is-zero}
 use Rattle.arithmetic.specs.Extremum.{above, below, extremum}
 use Rattle.formula.specs.Text.{half-at, word-at}

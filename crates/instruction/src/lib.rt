@@ -1,17 +1,16 @@
 // One instruction of a program's bytes (docs/PROGRAM.md): reads and stores are total, so nothing is asked of the bytes.
 ghost use mathlib.Core.Path.{_≡_};
-ghost use Prim.Native.Nat.{_+_, _*_, _<_};
+ghost use Prim.Native.Nat.{_<_};
 ghost use lib.ListN.{getD, set};
 ghost use Rattle.arithmetic.specs.Value.{0f};
 ghost use Rattle.arithmetic.specs.Extremum.{held};
-ghost use Rattle.layout.specs.Decode.{entry-at};
 ghost use Rattle.work.specs.View.{kept-values};
 ghost use Rattle.instruction.specs.Effects.{beyond, effect-at, extremum-at, operation-at};
 ghost use Rattle.instruction.specs.Progressing.{Progressed, machine-effect};
+use program::long;
+use program::word;
 use reader::byte;
 use reader::half;
-use reader::long;
-use reader::word;
 use work::Kept;
 use work::Outcome;
 

@@ -1,13 +1,13 @@
 -- From a record to the root.
 use mathlib.Core.Path.{_≡_, refl, sym, ap, ap₂, _∙_}
 use mathlib.Core.Option.{some}
-use mathlib.Core.Bool.{Bool, true, false, cond, _&&_}
-use mathlib.Core.List.{List, [], _∷_, _++_}
+use mathlib.Core.Bool.{true}
+use mathlib.Core.List.{List}
 use Prim.Native.Nat.{ℕ, zero, suc, _+_, _-_, _*_, _≤_, _<_}
 use native.Mathlib.Omega.{arith}
 use borrow.Author.Tests.{ne-eqb, ltb-true}
 use lib.ListN.{length, length-append}
-use lib.Dec.{eqb, ltb, eqb→eq}
+use lib.Dec.{ltb, eqb→eq}
 use Rattle.formula.specs.Text.{ascii, word-at}
 use Rattle.formula.specs.Path.{Path, _▸_, placed, root, step-text, text}
 use Rattle.layout.specs.Opcode.{step-of}

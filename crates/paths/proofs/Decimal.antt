@@ -6,7 +6,7 @@ use Prim.Native.Nat.{ℕ, zero, suc, _+_, _-_, _/_, _%_, _≤_, _<_}
 use native.Mathlib.Omega.{arith}
 use borrow.Author.Tests.{lt-ltb, le-ltb, ltb-false, ne-eqb}
 use lib.ListN.{length, length-append, set}
-use lib.Dec.{ltb, eqb}
+use lib.Dec.{ltb}
 use Rattle.formula.specs.Text.{ascii, decimal, decimal-in}
 use Rattle.formula.specs.Path.{step-text}
 use Rattle.layout.specs.Opcode.{step-of}

@@ -1,10 +1,10 @@
 -- Bytes written over a part of a list.
-use mathlib.Core.Path.{_≡_, refl, sym, ap, _∙_, subst}
+use mathlib.Core.Path.{_≡_, sym, ap, _∙_, subst}
 use mathlib.Core.List.{List, [], _∷_, _++_, append-assoc, append-nil}
-use Prim.Native.Nat.{ℕ, zero, suc, _+_, _-_, _≤_, _<_}
+use Prim.Native.Nat.{ℕ, suc, _+_, _-_, _≤_, _<_}
 use native.Mathlib.Omega.{arith}
 use native.Mathlib.Nat.{add-zero}
-use lib.ListN.{length, take, drop, set, length-append, length-drop, take-append-drop, getD, length-set, replicate, length-replicate, replicate-append-replicate}
+use lib.ListN.{length, take, drop, set, length-append, length-drop, take-append-drop, getD, replicate, length-replicate, replicate-append-replicate}
 use lib.Seq.{paste, paste-suc, take-length, set-split, take-at, drop-at, drop-append-add, drop-drop, length-take-le, take-append-le, drop-length}
 use Rattle.formula.specs.Text.{zeros}
 use Rattle.paths.specs.Over.{over, zeroed}

@@ -83,7 +83,7 @@ fn step_before(out: &mut [u8], end: usize, step: usize) -> usize
     }
 }
 
-fn zero_from(out: &mut [u8], at: usize)
+pub fn zero_from(out: &mut [u8], at: usize)
     requires { ⌜ at ≤ length (now out) ⌝ }
     ensures { λ r. ⌜ now (out .exit) ≡ zeroed (now (out .entry)) at ⌝ }
 {
@@ -97,7 +97,7 @@ fn zero_from(out: &mut [u8], at: usize)
 // "A refusal with a place writes the text, then zeros to the slice's end." The records lie in `b` from `base` on; the
 // steps are written from the last one back to `root`.
 pub fn write_path(b: &[u8], base: usize, k: usize, out: &mut [u8])
-    requires { ⌜ (base + 12 * k + 12 ≤ 2 ^ 63) × Linked (now b) base k × (length-in (now b) base k ≤ length (now out)) ⌝ }
+    requires { ⌜ (base + 12 * k + 12 < 2 ^ 64) × Linked (now b) base k × (length-in (now b) base k ≤ length (now out)) ⌝ }
     ensures { λ r. ⌜ now (out .exit) ≡ placed (some (path-in-table (now (b .entry)) base k)) (now (out .entry)) ⌝ }
 {
     let end = reader::word(b, base + 12 * k + 8);

@@ -1,24 +1,20 @@
 -- What the claim says of the last reply of any list.
 use mathlib.Core.Path.{_≡_, refl, ap, ap₂, sym, _∙_, subst}
-use mathlib.Core.Bool.{true}
 use mathlib.Core.List.{List, [], _∷_, _++_}
-use Prim.Native.Nat.{ℕ, zero, suc, _+_, _-_, _≤_, _<_}
+use Prim.Native.Nat.{ℕ, zero, suc, _+_, _-_, _≤_}
 use native.Mathlib.Omega.{arith}
 use lib.ListN.{getD, length}
 use lib.Ieee.{Float, binary64}
-use Rattle.arithmetic.specs.Value.{finite}
-use Rattle.formula.specs.Text.{all}
 use Rattle.formula.specs.Term.{Term}
 use Rattle.machine.specs.Check.{Context}
 use Rattle.machine.specs.Program.{Program}
 use Rattle.machine.specs.Lower.{program}
 use Rattle.machine.specs.Machine.{Answer, Call, Reply, asks, gives, outside, refused, resume, run, spent}
-use Rattle.layout.specs.Decode.{program-at}
-use Rattle.claim.specs.Claim.{Calls, Fulfils, History, Lists, Resumes, after, noted, ready, refusal, start}
+use Rattle.claim.specs.Claim.{Calls, Fulfils, History, Lists, Resumes, after, noted, refusal, start}
 use Rattle.claim.proofs.Demand.{derivative-demand, formula-demand}
 use Rattle.play.specs.Listed.{Played, call-at, calls-from, first-call, play-at, playing}
 use Rattle.play.specs.Listed as Listed
-use Rattle.play.specs.Owed.{Demand, Last, Source, Within, begun, compiled, differentiated, resumed}
+use Rattle.play.specs.Owed.{Demand, Last, Source, begun, compiled, differentiated, resumed}
 
 sourced : (C : Context) (t : Term) → Source C t → Lists binary64 C t
 sourced _ _ (compiled formula names p q f symbols e) = formula-demand formula names p q f symbols e

@@ -1,15 +1,13 @@
 -- The loop over a list of calls.
-use mathlib.Core.Path.{_≡_, refl, ap, ap₂, sym, _∙_}
-use mathlib.Core.Bool.{cond}
-use mathlib.Core.List.{List, [], _∷_}
+use mathlib.Core.Path.{_≡_, ap, ap₂, sym, _∙_}
+use mathlib.Core.List.{List}
 use mathlib.Core.Option.{Option, none, some}
-use Prim.Native.Nat.{ℕ, zero, suc, _+_, _-_, _≤_, _<_}
+use Prim.Native.Nat.{ℕ, suc, _+_, _-_, _≤_, _<_}
 use native.Mathlib.Numerals.{add-one}
 use native.Mathlib.Omega.{arith}
 use borrow.Author.Tests.{eq-eqb, ne-eqb}
 use lib.ListN.{getD, length}
-use lib.Dec.{eqb}
-use lib.Ieee.{Float, binary64}
+use lib.Ieee.{Float}
 use Rattle.arithmetic.specs.Value.{0f}
 use Rattle.formula.specs.Path.{placed}
 use Rattle.machine.specs.Machine as Machine
@@ -18,7 +16,7 @@ use Rattle.layout.specs.Decode.{program-at}
 use Rattle.run.specs.Views.{answer-of, reply-of, state-of}
 use Rattle.run.specs.Calls.{resume-at, run-at}
 use Rattle.run.specs.declared.Reply.{Reply}
-use Rattle.play.specs.Listed.{Played, call-at, calls-from, first-call, noted, play-at, playing, value-at}
+use Rattle.play.specs.Listed.{Played, calls-from, noted, play-at, playing, value-at}
 
 pub no-value : (flags : List ℕ) (values : List Float) (i f : ℕ) → f ≡ getD flags i 0 → f ≡ 0 → none ≡ value-at flags values i
 no-value flags values i f e z = rw (eq-eqb (getD flags i 0) 0 (sym e ∙ z))

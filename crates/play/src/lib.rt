@@ -28,7 +28,15 @@ fn supplied_at(flags: &[u8], values: &[f64], i: usize) -> Supplied
 }
 
 // The reply to the last call of a list: as many calls as there are budgets, one at least.
-pub fn play(p: &[u8], inputs: &[f64], regs: &mut [f64], path: &mut [u8], budgets: &[usize], flags: &[u8], values: &[f64]) -> Reply
+pub fn play(
+    p: &[u8],
+    inputs: &[f64],
+    regs: &mut [f64],
+    path: &mut [u8],
+    budgets: &[usize],
+    flags: &[u8],
+    values: &[f64],
+) -> Reply
     ensures reply { λ r. ⌜ reply-of (now (p .entry)) r (now (regs .exit)) ≡ play-at (now (inputs .entry)) (now (p .entry)) (now (path .entry)) (now (budgets .entry)) (now (flags .entry)) (now (values .entry)) (now (regs .entry)) .reply ⌝ }
     ensures place { λ r. ⌜ now (path .exit) ≡ play-at (now (inputs .entry)) (now (p .entry)) (now (path .entry)) (now (budgets .entry)) (now (flags .entry)) (now (values .entry)) (now (regs .entry)) .path ⌝ }
     ensures demand { λ r. ⌜ Demand (now (inputs .entry)) (now (p .entry)) (length (now (path .entry))) (now (budgets .entry)) (now (flags .entry)) (now (values .entry)) (now (regs .entry)) (reply-of (now (p .entry)) r (now (regs .exit))) ⌝ }
@@ -38,7 +46,15 @@ pub fn play(p: &[u8], inputs: &[f64], regs: &mut [f64], path: &mut [u8], budgets
     while i < budgets.len() {
         let supplied = supplied_at(flags, values, i);
         let state = r.state;
-        r = run::resume(p, inputs, regs, path, budget_at(budgets, i), state, supplied);
+        r = run::resume(
+            p,
+            inputs,
+            regs,
+            path,
+            budget_at(budgets, i),
+            state,
+            supplied,
+        );
         i += 1;
     }
     r

@@ -1,20 +1,19 @@
 -- What an operation may read, by its opcode.
-use mathlib.Core.Path.{_≡_, refl, sym, ap, _∙_, subst}
-use mathlib.Core.Bool.{Bool, true, false, cond, _&&_}
-use mathlib.Core.List.{List, [], _∷_}
+use mathlib.Core.Path.{_≡_, refl, sym, ap, _∙_}
+use mathlib.Core.Bool.{Bool, true, _&&_}
+use mathlib.Core.List.{List}
 use Prim.Native.Nat.{ℕ, zero, suc, _+_, _-_, _*_, _≤_, _<_}
-use native.Mathlib.Numerals.{add-one}
 use native.Mathlib.Omega.{arith}
-use lib.ListN.{length, getD}
-use lib.Dec.{eqb, leb, ltb}
+use lib.ListN.{getD}
+use lib.Dec.{ltb}
 use Rattle.formula.specs.Text.{byte-at, half-at, long-at, word-at}
 use Rattle.machine.specs.Program.{Op, all-below, jump, op-allowed}
-use Rattle.layout.specs.Decode.{code-count, entries-from, entry-at, input-count, op-at, ops, path-total, raw-program, register-total, row-at}
+use Rattle.layout.specs.Decode.{entries-from, entry-at, op-at, ops, raw-program, register-total, row-at}
 use Rattle.program.specs.declared.Header.{Header}
 use Rattle.program.specs.declared.Row.{Row}
 use Rattle.program.specs.Fields.{header-of, row-of}
 use Rattle.program.specs.Check.{first-ops-ok}
-use Rattle.program.proofs.Tests.{Each, and-one, one-of}
+use Rattle.program.proofs.Tests.{and-one, one-of}
 use Rattle.program.proofs.Body.{code-length}
 
 module _ (b : List ℕ) (n : ℕ) where

@@ -62,7 +62,7 @@ pub struct Fields {
 
 // The fields of the node at a byte.
 pub fn node(b: &[u8], at: usize) -> Fields
-    ensures { λ r. ⌜ written r ≡ fields-at (now (b .entry)) at ⌝ }
+    ensures { λ r. ⌜ (written r ≡ fields-at (now (b .entry)) at) × (r .children < 65536) ⌝ }
 {
     if at < b.len() {
         return Fields {

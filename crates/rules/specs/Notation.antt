@@ -117,107 +117,135 @@ N-LESS-ONE = 0xca
 -- ---- the rules, by the kind and the operator of the node
 
 abbrev pub others : List (ℕ × List ℕ)
-others =
-    (0x20,
-      ONE ∷ [])
-    ∷
-    (0x30,
-      DA ∷ [])
-    ∷
-    (0x31,
-      MUL ∷ MINUS-ONE ∷ DA ∷ [])
-    ∷
-    (0x80,
-      IF ∷ A ∷ DB ∷ DC ∷ [])
-    ∷
-    (0x8d,
+others = (
+  0x20,
+  ONE ∷ [],
+)
+    ∷ (
+      0x30,
+      DA ∷ [],
+    )
+    ∷ (
+      0x31,
+      MUL ∷ MINUS-ONE ∷ DA ∷ [],
+    )
+    ∷ (
+      0x80,
+      IF ∷ A ∷ DB ∷ DC ∷ [],
+    )
+    ∷ (
+      0x8d,
       IF ∷ GT ∷ A ∷ ZERO ∷ ADD ∷ MUL ∷ MUL ∷ MUL ∷ DIV ∷ HILL ∷ A ∷ B ∷ C ∷ A ∷ HILL ∷ C ∷ B ∷ A ∷ B ∷ DA ∷ ADD ∷ MUL ∷ MUL ∷ MUL ∷ WHOLE ∷
-      HILL ∷ C ∷ B ∷ A ∷ ADD ∷ LOG ∷ A ∷ MUL ∷ MINUS-ONE ∷ LOG ∷ C ∷ DB ∷ MUL ∷ MINUS-ONE ∷ MUL ∷ MUL ∷ MUL ∷ DIV ∷ WHOLE ∷ C ∷ HILL ∷ C ∷
-      B ∷ A ∷ B ∷ DC ∷ IF ∷ LT ∷ A ∷ ZERO ∷ ZERO ∷ UNLESS-DA ∷ IF ∷ GT ∷ B ∷ ONE ∷ ZERO ∷ IF ∷ EQ ∷ B ∷ ONE ∷ DIV ∷ DA ∷ C ∷ MUL ∷ MUL ∷
-      MUL ∷ DIV ∷ HILL ∷ MUL ∷ TINY ∷ C ∷ B ∷ C ∷ MUL ∷ TINY ∷ C ∷ HILL ∷ C ∷ B ∷ MUL ∷ TINY ∷ C ∷ B ∷ DA ∷ [])
+          HILL ∷ C ∷ B ∷ A ∷ ADD ∷ LOG ∷ A ∷ MUL ∷ MINUS-ONE ∷ LOG ∷ C ∷ DB ∷ MUL ∷ MINUS-ONE ∷ MUL ∷ MUL ∷ MUL ∷ DIV ∷ WHOLE ∷ C ∷ HILL ∷ C ∷
+          B ∷ A ∷ B ∷ DC ∷ IF ∷ LT ∷ A ∷ ZERO ∷ ZERO ∷ UNLESS-DA ∷ IF ∷ GT ∷ B ∷ ONE ∷ ZERO ∷ IF ∷ EQ ∷ B ∷ ONE ∷ DIV ∷ DA ∷ C ∷ MUL ∷ MUL ∷
+          MUL ∷ DIV ∷ HILL ∷ MUL ∷ TINY ∷ C ∷ B ∷ C ∷ MUL ∷ TINY ∷ C ∷ HILL ∷ C ∷ B ∷ MUL ∷ TINY ∷ C ∷ B ∷ DA ∷ [],
+    )
     ∷
     []
 
 abbrev pub binaries : List (ℕ × List ℕ)
-binaries =
-    (0x40,
-      ADD ∷ DA ∷ DB ∷ [])
-    ∷
-    (0x41,
-      ADD ∷ DA ∷ MUL ∷ MINUS-ONE ∷ DB ∷ [])
-    ∷
-    (0x42,
-      ADD ∷ MUL ∷ DA ∷ B ∷ MUL ∷ A ∷ DB ∷ [])
-    ∷
-    (0x43,
-      DIV ∷ ADD ∷ MUL ∷ DA ∷ B ∷ MUL ∷ MINUS-ONE ∷ MUL ∷ A ∷ DB ∷ POW ∷ B ∷ TWO ∷ [])
-    ∷
-    (0x44,
+binaries = (
+  0x40,
+  ADD ∷ DA ∷ DB ∷ [],
+)
+    ∷ (
+      0x41,
+      ADD ∷ DA ∷ MUL ∷ MINUS-ONE ∷ DB ∷ [],
+    )
+    ∷ (
+      0x42,
+      ADD ∷ MUL ∷ DA ∷ B ∷ MUL ∷ A ∷ DB ∷ [],
+    )
+    ∷ (
+      0x43,
+      DIV ∷ ADD ∷ MUL ∷ DA ∷ B ∷ MUL ∷ MINUS-ONE ∷ MUL ∷ A ∷ DB ∷ POW ∷ B ∷ TWO ∷ [],
+    )
+    ∷ (
+      0x44,
       ADD ∷ UNLESS-DA ∷ IF ∷ EQ ∷ B ∷ ZERO ∷ ZERO ∷ IF ∷ EQ ∷ B ∷ ONE ∷ DA ∷ MUL ∷ MUL ∷ B ∷ POW ∷ A ∷ ADD ∷ B ∷ MUL ∷ MINUS-ONE ∷ ONE ∷
-      DA ∷ UNLESS-DB ∷ IF ∷ EQ ∷ A ∷ ZERO ∷ ZERO ∷ MUL ∷ MUL ∷ WHOLE ∷ LOG ∷ A ∷ DB ∷ [])
-    ∷
-    (0x45,
-      ADD ∷ DIV ∷ ZERO ∷ WHOLE ∷ ADD ∷ DA ∷ MUL ∷ MINUS-ONE ∷ MUL ∷ FLOOR ∷ DIV ∷ A ∷ B ∷ DB ∷ [])
-    ∷
-    (0x46,
-      MUL ∷ MUL ∷ N ∷ POW ∷ A ∷ N-LESS-ONE ∷ DA ∷ [])
-    ∷
-    (0x47,
-      MUL ∷ MUL ∷ N ∷ A ∷ DA ∷ [])
-    ∷
-    (0x48,
-      MUL ∷ MUL ∷ N ∷ ONE ∷ DA ∷ [])
+          DA ∷ UNLESS-DB ∷ IF ∷ EQ ∷ A ∷ ZERO ∷ ZERO ∷ MUL ∷ MUL ∷ WHOLE ∷ LOG ∷ A ∷ DB ∷ [],
+    )
+    ∷ (
+      0x45,
+      ADD ∷ DIV ∷ ZERO ∷ WHOLE ∷ ADD ∷ DA ∷ MUL ∷ MINUS-ONE ∷ MUL ∷ FLOOR ∷ DIV ∷ A ∷ B ∷ DB ∷ [],
+    )
+    ∷ (
+      0x46,
+      MUL ∷ MUL ∷ N ∷ POW ∷ A ∷ N-LESS-ONE ∷ DA ∷ [],
+    )
+    ∷ (
+      0x47,
+      MUL ∷ MUL ∷ N ∷ A ∷ DA ∷ [],
+    )
+    ∷ (
+      0x48,
+      MUL ∷ MUL ∷ N ∷ ONE ∷ DA ∷ [],
+    )
     ∷
     []
 
 abbrev pub calls : List (ℕ × List ℕ)
-calls =
-    (0x70,
-      MUL ∷ WHOLE ∷ DA ∷ [])
-    ∷
-    (0x71,
-      MUL ∷ DIV ∷ ONE ∷ A ∷ DA ∷ [])
-    ∷
-    (0x72,
-      MUL ∷ DIV ∷ ONE ∷ MUL ∷ A ∷ LN-TEN ∷ DA ∷ [])
-    ∷
-    (0x73,
-      MUL ∷ DIV ∷ ONE ∷ MUL ∷ TWO ∷ WHOLE ∷ DA ∷ [])
-    ∷
-    (0x74,
-      MUL ∷ COS ∷ A ∷ DA ∷ [])
-    ∷
-    (0x75,
-      MUL ∷ MUL ∷ MINUS-ONE ∷ SIN ∷ A ∷ DA ∷ [])
-    ∷
-    (0x76,
-      MUL ∷ DIV ∷ ONE ∷ POW ∷ COS ∷ A ∷ TWO ∷ DA ∷ [])
-    ∷
-    (0x77,
-      MUL ∷ ADD ∷ ONE ∷ MUL ∷ MINUS-ONE ∷ POW ∷ WHOLE ∷ TWO ∷ DA ∷ [])
-    ∷
-    (0x78,
-      IF ∷ GT ∷ A ∷ ZERO ∷ DA ∷ IF ∷ LT ∷ A ∷ ZERO ∷ MUL ∷ MINUS-ONE ∷ DA ∷ ZERO ∷ [])
-    ∷
-    (0x7b,
-      EXTREMUM ∷ [])
-    ∷
-    (0x7c,
-      EXTREMUM ∷ [])
-    ∷
-    (0x7d,
+calls = (
+  0x70,
+  MUL ∷ WHOLE ∷ DA ∷ [],
+)
+    ∷ (
+      0x71,
+      MUL ∷ DIV ∷ ONE ∷ A ∷ DA ∷ [],
+    )
+    ∷ (
+      0x72,
+      MUL ∷ DIV ∷ ONE ∷ MUL ∷ A ∷ LN-TEN ∷ DA ∷ [],
+    )
+    ∷ (
+      0x73,
+      MUL ∷ DIV ∷ ONE ∷ MUL ∷ TWO ∷ WHOLE ∷ DA ∷ [],
+    )
+    ∷ (
+      0x74,
+      MUL ∷ COS ∷ A ∷ DA ∷ [],
+    )
+    ∷ (
+      0x75,
+      MUL ∷ MUL ∷ MINUS-ONE ∷ SIN ∷ A ∷ DA ∷ [],
+    )
+    ∷ (
+      0x76,
+      MUL ∷ DIV ∷ ONE ∷ POW ∷ COS ∷ A ∷ TWO ∷ DA ∷ [],
+    )
+    ∷ (
+      0x77,
+      MUL ∷ ADD ∷ ONE ∷ MUL ∷ MINUS-ONE ∷ POW ∷ WHOLE ∷ TWO ∷ DA ∷ [],
+    )
+    ∷ (
+      0x78,
+      IF ∷ GT ∷ A ∷ ZERO ∷ DA ∷ IF ∷ LT ∷ A ∷ ZERO ∷ MUL ∷ MINUS-ONE ∷ DA ∷ ZERO ∷ [],
+    )
+    ∷ (
+      0x7b,
+      EXTREMUM ∷ [],
+    )
+    ∷ (
+      0x7c,
+      EXTREMUM ∷ [],
+    )
+    ∷ (
+      0x7d,
       IF ∷ GT ∷ A ∷ ZERO ∷ ADD ∷ MUL ∷ MUL ∷ MUL ∷ DIV ∷ HILL ∷ A ∷ B ∷ C ∷ A ∷ HILL ∷ C ∷ B ∷ A ∷ B ∷ DA ∷ ADD ∷ MUL ∷ MUL ∷ MUL ∷ WHOLE ∷
-      HILL ∷ C ∷ B ∷ A ∷ ADD ∷ LOG ∷ A ∷ MUL ∷ MINUS-ONE ∷ LOG ∷ C ∷ DB ∷ MUL ∷ MINUS-ONE ∷ MUL ∷ MUL ∷ MUL ∷ DIV ∷ WHOLE ∷ C ∷ HILL ∷ C ∷
-      B ∷ A ∷ B ∷ DC ∷ IF ∷ LT ∷ A ∷ ZERO ∷ ZERO ∷ UNLESS-DA ∷ IF ∷ GT ∷ B ∷ ONE ∷ ZERO ∷ DIV ∷ ONE ∷ ZERO ∷ [])
-    ∷
-    (0x7e,
-      IF ∷ A ∷ DB ∷ DC ∷ [])
-    ∷
-    (0x7f,
+          HILL ∷ C ∷ B ∷ A ∷ ADD ∷ LOG ∷ A ∷ MUL ∷ MINUS-ONE ∷ LOG ∷ C ∷ DB ∷ MUL ∷ MINUS-ONE ∷ MUL ∷ MUL ∷ MUL ∷ DIV ∷ WHOLE ∷ C ∷ HILL ∷ C ∷
+          B ∷ A ∷ B ∷ DC ∷ IF ∷ LT ∷ A ∷ ZERO ∷ ZERO ∷ UNLESS-DA ∷ IF ∷ GT ∷ B ∷ ONE ∷ ZERO ∷ DIV ∷ ONE ∷ ZERO ∷ [],
+    )
+    ∷ (
+      0x7e,
+      IF ∷ A ∷ DB ∷ DC ∷ [],
+    )
+    ∷ (
+      0x7f,
       IF ∷ GT ∷ WHOLE ∷ ZERO ∷ MUL ∷ WHOLE ∷ ADD ∷ ADD ∷ MUL ∷ ADD ∷ MUL ∷ MINUS-ONE ∷ DIV ∷ THREE-HALVES ∷ A ∷ MUL ∷ HALF ∷ ADD ∷ DIV ∷
-      C ∷ POW ∷ A ∷ TWO ∷ MUL ∷ MINUS-ONE ∷ DIV ∷ C ∷ POW ∷ B ∷ TWO ∷ DA ∷ MUL ∷ DIV ∷ MUL ∷ C ∷ ADD ∷ A ∷ MUL ∷ MINUS-ONE ∷ B ∷ POW ∷ B ∷
-      THREE ∷ DB ∷ MUL ∷ ADD ∷ DIV ∷ HALF ∷ C ∷ MUL ∷ MINUS-ONE ∷ DIV ∷ POW ∷ ADD ∷ A ∷ MUL ∷ MINUS-ONE ∷ B ∷ TWO ∷ MUL ∷ TWO ∷ MUL ∷ POW ∷
-      B ∷ TWO ∷ A ∷ DC ∷ ZERO ∷ [])
+          C ∷ POW ∷ A ∷ TWO ∷ MUL ∷ MINUS-ONE ∷ DIV ∷ C ∷ POW ∷ B ∷ TWO ∷ DA ∷ MUL ∷ DIV ∷ MUL ∷ C ∷ ADD ∷ A ∷ MUL ∷ MINUS-ONE ∷ B ∷ POW ∷ B ∷
+          THREE ∷ DB ∷ MUL ∷ ADD ∷ DIV ∷ HALF ∷ C ∷ MUL ∷ MINUS-ONE ∷ DIV ∷ POW ∷ ADD ∷ A ∷ MUL ∷ MINUS-ONE ∷ B ∷ TWO ∷ MUL ∷ TWO ∷ MUL ∷ POW ∷
+          B ∷ TWO ∷ A ∷ DC ∷ ZERO ∷ [],
+    )
     ∷
     []
 

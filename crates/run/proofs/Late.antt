@@ -1,5 +1,5 @@
 -- Refusals 5 and 11, and room for a value that is taken.
-use mathlib.Core.Path.{_≡_, refl, ap, ap₂, sym, _∙_, subst}
+use mathlib.Core.Path.{_≡_, refl, ap, sym, _∙_}
 use mathlib.Core.Bool.{Bool, true, false, cond, not, _&&_}
 use mathlib.Core.List.{List, [], _∷_, _++_}
 use mathlib.Core.Option.{Option, none, some}
@@ -15,7 +15,7 @@ use lib.Ieee.{Float, binary64}
 use Rattle.arithmetic.specs.Value.{finite}
 use Rattle.formula.specs.Text.{all}
 use Rattle.formula.specs.Path.{Path}
-use Rattle.meaning.specs.Work.{Question, advance, same-question, work}
+use Rattle.meaning.specs.Work.{Question, advance, work}
 use Rattle.machine.specs.Program.{Op, constant, copy, jump, jump-if-false, load, perform}
 use Rattle.machine.specs.Machine as Machine
 use Rattle.machine.specs.Machine.{fails, goes, more, puts, read-all}
@@ -30,7 +30,7 @@ use Rattle.instruction.specs.Progressing.{machine-effect}
 use Rattle.instruction.specs.declared.Effect.{Effect}
 use Rattle.instruction.specs.declared.Effect.the-variants.{Jump, Work}
 use Rattle.instruction.proofs.Done.{done, done-is}
-use Rattle.run.specs.Calls.{present, putting, stale-at, supplying, unasked, unfit-at}
+use Rattle.run.specs.Calls.{putting, stale-at, supplying, unasked, unfit-at}
 
 -- ---- 5
 

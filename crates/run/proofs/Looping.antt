@@ -1,9 +1,8 @@
 -- The loop's invariant: what is left of the call, with the count so far, is the whole call.
 use mathlib.Core.Path.{_≡_, refl, ap, ap₂, sym, _∙_, subst}
-use mathlib.Core.Bool.{Bool, true, false, cond}
-use mathlib.Core.List.{List, [], _∷_}
+use mathlib.Core.List.{List, []}
 use mathlib.Core.Option.{Option, none, some}
-use Prim.Native.Nat.{ℕ, zero, suc, _+_, _*_, _-_, _≤_, _<_}
+use Prim.Native.Nat.{ℕ, zero, suc, _+_, _-_, _≤_, _<_}
 use native.Mathlib.Omega.{arith}
 use lib.ListN.{length, getD, getElem?}
 use lib.Ieee.{Float, binary64}
@@ -11,8 +10,8 @@ use Rattle.arithmetic.specs.Value.{0f}
 use Rattle.meaning.specs.Work.{Question, elementary, power}
 use Rattle.machine.specs.Program.{Instruction, Program, instruction}
 use Rattle.machine.specs.Machine as Machine
-use Rattle.machine.specs.Machine.{asks, counted, fails, gives, goes, outside, refused, spent, wants}
-use Rattle.layout.specs.Decode.{code-count, path-number, path-of, raw-program, result-at}
+use Rattle.machine.specs.Machine.{counted, fails, gives, goes, refused, wants}
+use Rattle.layout.specs.Decode.{code-count, raw-program, result-at}
 use Rattle.work.specs.View.{kept-values}
 use Rattle.work.specs.declared.Kept.{Kept}
 use Rattle.program.proofs.Body.{code-at, code-length, code-past}
@@ -68,17 +67,17 @@ module _ (inputs : List Float) (b : List ℕ) where
   end-is zero done at kept regs r h F =
       rw (code-past b at h)
       (let e : answer-of b (r .answer) ≡ gives (getD regs (result-at b) 0f) = ap (answer-of b) (F .value) in
-       let c : r .count ≡ done + 0 = omega (arith, F .counted) in
-       let s : state-of (r .state) ≡ record { position = length (raw-program b .code); kept = []; pending = none } =
-       F .ended ∙ ap (λ (n : ℕ). record { position = n; kept = []; pending = none }) (sym (code-length b)) in
-       cc)
+      let c : r .count ≡ done + 0 = omega (arith, F .counted) in
+      let s : state-of (r .state) ≡ record { position = length (raw-program b .code); kept = []; pending = none } =
+      F .ended ∙ ap (λ (n : ℕ). record { position = n; kept = []; pending = none }) (sym (code-length b)) in
+      cc)
   end-is (suc budget) done at kept regs r h F =
       rw (code-past b at h)
       (let e : answer-of b (r .answer) ≡ gives (getD regs (result-at b) 0f) = ap (answer-of b) (F .value) in
-       let c : r .count ≡ done + 0 = omega (arith, F .counted) in
-       let s : state-of (r .state) ≡ record { position = length (raw-program b .code); kept = []; pending = none } =
-       F .ended ∙ ap (λ (n : ℕ). record { position = n; kept = []; pending = none }) (sym (code-length b)) in
-       cc)
+      let c : r .count ≡ done + 0 = omega (arith, F .counted) in
+      let s : state-of (r .state) ≡ record { position = length (raw-program b .code); kept = []; pending = none } =
+      F .ended ∙ ap (λ (n : ℕ). record { position = n; kept = []; pending = none }) (sym (code-length b)) in
+      cc)
 
   spent-is : (done at : ℕ) (k : Kept) (regs : List Float) → at < code-count b
       → reply-of b (replying A.Spent done at k Pending.Nothing) regs ≡ after done (steps-at inputs b 0 at (kept-values k) regs)

@@ -1,18 +1,17 @@
 -- The two calls, by their tests.
-use mathlib.Core.Path.{_≡_, refl, ap, ap₂, sym, _∙_, subst}
-use mathlib.Core.Bool.{Bool, true, false, cond, not}
-use mathlib.Core.List.{List, [], _∷_}
-use mathlib.Core.Option.{Option, none, some}
+use mathlib.Core.Path.{_≡_, refl, ap, sym, _∙_, subst}
+use mathlib.Core.Bool.{true, false}
+use mathlib.Core.List.{List, []}
+use mathlib.Core.Option.{Option}
 use Prim.Native.Nat.{ℕ, _≤_, _<_}
 use native.Mathlib.Omega.{arith}
 use borrow.Author.Tests.{lt-ltb, le-ltb, ne-eqb}
-use lib.Dec.{ltb}
 use lib.Ieee.{Float}
 use Rattle.formula.specs.Path.{placed}
 use Rattle.machine.specs.Program.{valid}
 use Rattle.machine.specs.Machine as Machine
 use Rattle.machine.specs.Machine.{fresh, place-of, refuse}
-use Rattle.layout.specs.Decode.{code-count, length-at, path-number, path-total, program-at, raw-program}
+use Rattle.layout.specs.Decode.{length-at, path-number, program-at}
 use Rattle.program.proofs.Pass.{valid-at, valid-raw}
 use Rattle.run.specs.Views.{Hands-back, Writable, answer-of, reply-of, state-of}
 use Rattle.run.specs.Calls.{Known-place, refusing, resume-at, run-at, stale-at, steps-at, supplying, unfit-at}

@@ -1,16 +1,14 @@
 // Run and resume of a program's bytes (reference `evaluate_into`).
 ghost use mathlib.Core.Path.{_≡_};
 ghost use mathlib.Core.Bool.{true, not};
-ghost use mathlib.Core.List.{[]};
 ghost use lib.ListN.{length};
 ghost use lib.Ieee.{binary64};
-ghost use Prim.Native.Nat.{_<_};
 ghost use Rattle.arithmetic.specs.Value.{finite};
 ghost use Rattle.formula.specs.Text.{all};
 ghost use Rattle.formula.specs.Path.{placed};
 ghost use Rattle.meaning.specs.Work.{elementary, power, same-bits};
 ghost use Rattle.machine.specs.Program.{valid};
-ghost use Rattle.machine.specs.Machine.{fresh, more, place-of};
+ghost use Rattle.machine.specs.Machine.{fresh, place-of};
 ghost use Rattle.layout.specs.Decode.{code-count, program-at};
 ghost use Rattle.work.specs.View.{kept-values};
 ghost use Rattle.instruction.specs.declared.Effect.the-variants.{Work};
@@ -18,7 +16,7 @@ ghost use Rattle.run.specs.Views.{Hands-back, Writable, answer-of, pendi
 ghost use Rattle.run.specs.Calls.{Finished, Known-place, putting, refusing, replying, resume-at, run-at, stale-at, steps-at, stopping, supplying, unasked, unfit-at};
 use instruction::Effect;
 use instruction::Progress;
-use reader::word;
+use program::word;
 use work::Kept;
 use work::Outcome;
 
@@ -94,14 +92,27 @@ fn stopped(t: Progress, code: usize, done: usize, at: usize, kept: Kept, none: K
     match t {
         Progress::Next(to) => replied(Answer::Spent, done, at, kept, Pending::Nothing),
         Progress::Domain(k) => replied(Answer::Domain(k), done, code, none, Pending::Nothing),
-        Progress::Elementary(f, x) => replied(Answer::Elementary(f, x), done, at, kept, Pending::Elementary(f, x)),
+        Progress::Elementary(f, x) => replied(
+            Answer::Elementary(f, x),
+            done,
+            at,
+            kept,
+            Pending::Elementary(f, x),
+        ),
         Progress::Power(x, y) => replied(Answer::Power(x, y), done, at, kept, Pending::Power(x, y)),
     }
 }
 
 // "Spent means that the whole budget was completed and code remains": the code's end is looked at first, then the budget,
 // then the instruction.
-pub fn steps(p: &[u8], inputs: &[f64], regs: &mut [f64], budget: usize, position: usize, kept: Kept) -> Reply
+pub fn steps(
+    p: &[u8],
+    inputs: &[f64],
+    regs: &mut [f64],
+    budget: usize,
+    position: usize,
+    kept: Kept,
+) -> Reply
     ensures reply { λ r. ⌜ reply-of (now (p .entry)) r (now (regs .exit)) ≡ steps-at (now (inputs .entry)) (now (p .entry)) budget position (kept-values kept) (now (regs .entry)) ⌝ }
     ensures place { λ r. ⌜ Known-place (now (p .entry)) (r .answer) ⌝ }
 {
@@ -299,7 +310,14 @@ fn write_place(p: &[u8], answer: Answer, path: &mut [u8])
     }
 }
 
-fn run_reply(p: &[u8], inputs: &[f64], regs: &mut [f64], room: usize, budget: usize, state: State) -> Reply
+fn run_reply(
+    p: &[u8],
+    inputs: &[f64],
+    regs: &mut [f64],
+    room: usize,
+    budget: usize,
+    state: State,
+) -> Reply
     requires { ⌜ (valid (program-at (now p)) ≡ true) × (state-of state ≡ fresh) ⌝ }
     ensures reply { λ r. ⌜ reply-of (now (p .entry)) r (now (regs .exit)) ≡ run-at (now (inputs .entry)) (now (p .entry)) room budget (now (regs .entry)) ⌝ }
     ensures place { λ r. ⌜ Writable (now (p .entry)) room (r .answer) ⌝ }
@@ -316,7 +334,15 @@ fn run_reply(p: &[u8], inputs: &[f64], regs: &mut [f64], room: usize, budget: us
     steps(p, inputs, regs, budget, 0, kept)
 }
 
-fn resume_reply(p: &[u8], inputs: &[f64], regs: &mut [f64], room: usize, budget: usize, state: State, supplied: Supplied) -> Reply
+fn resume_reply(
+    p: &[u8],
+    inputs: &[f64],
+    regs: &mut [f64],
+    room: usize,
+    budget: usize,
+    state: State,
+    supplied: Supplied,
+) -> Reply
     requires { ⌜ valid (program-at (now p)) ≡ true ⌝ }
     ensures reply { λ r. ⌜ reply-of (now (p .entry)) r (now (regs .exit)) ≡ resume-at (now (inputs .entry)) (now (p .entry)) room budget (supplied-of supplied) (state-of state) (now (regs .entry)) ⌝ }
     ensures place { λ r. ⌜ Writable (now (p .entry)) room (r .answer) ⌝ }
@@ -340,7 +366,13 @@ fn resume_reply(p: &[u8], inputs: &[f64], regs: &mut [f64], room: usize, budget:
 }
 
 // A run of bytes that were checked before.
-pub fn run_checked(p: &[u8], inputs: &[f64], regs: &mut [f64], path: &mut [u8], budget: usize) -> Reply
+pub fn run_checked(
+    p: &[u8],
+    inputs: &[f64],
+    regs: &mut [f64],
+    path: &mut [u8],
+    budget: usize,
+) -> Reply
     requires { ⌜ valid (program-at (now p)) ≡ true ⌝ }
     ensures reply { λ r. ⌜ reply-of (now (p .entry)) r (now (regs .exit)) ≡ run-at (now (inputs .entry)) (now (p .entry)) (length (now (path .entry))) budget (now (regs .entry)) ⌝ }
     ensures place { λ r. ⌜ now (path .exit) ≡ placed (place-of (answer-of (now (p .entry)) (r .answer))) (now (path .entry)) ⌝ }
@@ -353,7 +385,15 @@ pub fn run_checked(p: &[u8], inputs: &[f64], regs: &mut [f64], path: &mut [u8], 
 }
 
 // A resume of bytes that were checked before.
-pub fn resume_checked(p: &[u8], inputs: &[f64], regs: &mut [f64], path: &mut [u8], budget: usize, state: State, supplied: Supplied) -> Reply
+pub fn resume_checked(
+    p: &[u8],
+    inputs: &[f64],
+    regs: &mut [f64],
+    path: &mut [u8],
+    budget: usize,
+    state: State,
+    supplied: Supplied,
+) -> Reply
     requires { ⌜ valid (program-at (now p)) ≡ true ⌝ }
     ensures reply { λ r. ⌜ reply-of (now (p .entry)) r (now (regs .exit)) ≡ resume-at (now (inputs .entry)) (now (p .entry)) (length (now (path .entry))) budget (supplied-of supplied) (state-of state) (now (regs .entry)) ⌝ }
     ensures place { λ r. ⌜ now (path .exit) ≡ placed (place-of (answer-of (now (p .entry)) (r .answer))) (now (path .entry)) ⌝ }
@@ -382,7 +422,15 @@ pub fn run(p: &[u8], inputs: &[f64], regs: &mut [f64], path: &mut [u8], budget: 
     refusal(10, fresh_state())
 }
 
-pub fn resume(p: &[u8], inputs: &[f64], regs: &mut [f64], path: &mut [u8], budget: usize, state: State, supplied: Supplied) -> Reply
+pub fn resume(
+    p: &[u8],
+    inputs: &[f64],
+    regs: &mut [f64],
+    path: &mut [u8],
+    budget: usize,
+    state: State,
+    supplied: Supplied,
+) -> Reply
     ensures reply { λ r. ⌜ reply-of (now (p .entry)) r (now (regs .exit)) ≡ resume-at (now (inputs .entry)) (now (p .entry)) (length (now (path .entry))) budget (supplied-of supplied) (state-of state) (now (regs .entry)) ⌝ }
     ensures place { λ r. ⌜ now (path .exit) ≡ placed (place-of (answer-of (now (p .entry)) (r .answer))) (now (path .entry)) ⌝ }
     ensures state { λ r. ⌜ Hands-back state r ⌝ }

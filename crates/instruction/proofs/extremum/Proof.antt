@@ -1,5 +1,5 @@
-use mathlib.Core.Path.{_≡_, refl, sym, ap, _∙_}
-use Prim.Native.Nat.{ℕ, _+_, _-_, _*_, _≤_, _<_}
+use mathlib.Core.Path.{_≡_, sym, ap, _∙_}
+use Prim.Native.Nat.{_+_, _-_, _≤_}
 use native.Mathlib.Omega.{arith}
 use borrow.Author.Needs.{needs}
 use lib.Ieee.{div, ofBits}
@@ -8,11 +8,6 @@ use Rattle.instruction.specs.Effects.{extremum-at}
 use Rattle.instruction.proofs.Extremes.{extreme-end, extreme-left, extreme-none, extreme-start, extreme-step, list-place}
 use Rattle.instruction.proofs.extremum.Statement.{statement}
 use Rattle.instruction.proofs.extremum.Tie as tie
-use Rattle.instruction.proofs.extremum.Reads as reads
-use Rattle.instruction.proofs.extremum.Lts as lts
-use Rattle.instruction.proofs.hold.Reads as hold-reads
-use Rattle.instruction.proofs.value_at.Reads as value-at-reads
-use Rattle.reader.proofs.word.Reads as word-reads
 
 abbrev Inv-loop : tie.InvT-loop
 Inv-loop most p count a regs first extreme₀ i₀ extreme i = (i ≤ count) × (extremum-at most p count a regs ≡ extreme-left most p count a regs extreme i)
@@ -20,94 +15,75 @@ Inv-loop most p count a regs first extreme₀ i₀ extreme i = (i ≤ count) × 
 abbrev μ-loop : tie.MeasureT-loop
 μ-loop most p count a regs first extreme₀ i₀ extreme i = count - i
 
--- src/lib.rt:64:9
 returns : tie.Need-returns Inv-loop μ-loop
 unfolding div ofBits
 returns c = extreme-none (c .before .before .before .args .most) (c .before .before .before .args .p .now) (c .before .before .before .args .count) (c .before .before .before .args .a) (c .before .before .before .args .regs .now) (c .if1 .taken)
 
--- src/lib.rt:66:27
 word-requires : tie.Need-word-requires Inv-loop μ-loop
 word-requires c κs = search needs
 
--- src/lib.rt:66:22
 mul-first : tie.Need-mul-first Inv-loop μ-loop
 mul-first c = omega arith
 
--- src/lib.rt:66:17
 add-first : tie.Need-add-first Inv-loop μ-loop
 add-first c = omega arith
 
--- src/lib.rt:66:45
 word-requires-2 : tie.Need-word-requires-2 Inv-loop μ-loop
 word-requires-2 c κs = search needs
 
--- src/lib.rt:66:40
 mul-first-2 : tie.Need-mul-first-2 Inv-loop μ-loop
 mul-first-2 c = omega arith
 
--- src/lib.rt:66:17
 add-first-2 : tie.Need-add-first-2 Inv-loop μ-loop
 add-first-2 c = omega arith
 
--- src/lib.rt:67:54
 mul-word : tie.Need-mul-word Inv-loop μ-loop
 mul-word c = omega arith
 
--- src/lib.rt:67:46
 add-word : tie.Need-add-word Inv-loop μ-loop
 add-word c = omega arith
 
--- src/lib.rt:67:38
 word-requires-3 : tie.Need-word-requires-3 Inv-loop μ-loop
 word-requires-3 c κs = search needs
 
--- src/lib.rt:67:9
 value-at-requires : tie.Need-value-at-requires Inv-loop μ-loop
 value-at-requires c κs = search needs
 
--- src/lib.rt:69:5
 loop-holds : tie.Need-loop-holds Inv-loop μ-loop
 loop-holds c = (omega arith, extreme-start (c .before .before .before .before .before .before .before .args .most) (c .before .before .before .before .before .before .before .args .p .now) (c .before .before .before .before .before .before .before .args .count) (c .before .before .before .before .before .before .before .args .a) (c .before .before .before .before .before .before .before .args .regs .now) (c .value-at .result) (c .before .word3 .result) (c .before .before .before .before .if1 .left) (c .value-at .ensures) (c .before .word3 .ensures .0 ∙ ap (word-at (c .before .before .before .before .before .before .before .args .p .now)) (list-place (c .before .before .before .before .before .before .before .args .p .now) (c .before .before .before .word .result) (c .before .before .word2 .result) (c .before .before .before .before .before .before .before .args .a) (c .before .before .before .word .ensures .0) (c .before .before .word2 .ensures .0))))
 
--- src/lib.rt:70:56
 add-word-2 : tie.Need-add-word-2 Inv-loop μ-loop
 add-word-2 c = omega arith
 
--- src/lib.rt:70:51
 mul-word-2 : tie.Need-mul-word-2 Inv-loop μ-loop
 mul-word-2 c = omega arith
 
--- src/lib.rt:70:43
 add-word-3 : tie.Need-add-word-3 Inv-loop μ-loop
 add-word-3 c = omega arith
 
--- src/lib.rt:70:35
 word-requires-4 : tie.Need-word-requires-4 Inv-loop μ-loop
 word-requires-4 c κs = search needs
 
--- src/lib.rt:70:13
 value-at-requires-2 : tie.Need-value-at-requires-2 Inv-loop μ-loop
 value-at-requires-2 c κs = search needs
 
--- src/lib.rt:71:9
 hold-requires : tie.Need-hold-requires Inv-loop μ-loop
 hold-requires c κs = search needs
 
--- src/lib.rt:72:9
 add-i : tie.Need-add-i Inv-loop μ-loop
 add-i c = omega arith
 
--- src/lib.rt:69:5
 loop-less : tie.Need-loop-less Inv-loop μ-loop
 loop-less c = omega arith
 
--- src/lib.rt:69:5
 loop-again : tie.Need-loop-again Inv-loop μ-loop
-loop-again c = (omega arith, c .before .before .before .before .loop .inv .1 ∙ extreme-step (c .before .before .before .before .before .before .before .before .before .before .before .before .args .most) (c .before .before .before .before .before .before .before .before .before .before .before .before .args .p .now) (c .before .before .before .before .before .before .before .before .before .before .before .before .args .count) (c .before .before .before .before .before .before .before .before .before .before .before .before .args .a) (c .before .before .before .before .before .before .before .before .before .before .before .before .args .regs .now) (c .before .before .before .before .loop .extreme) (c .before .value-at2 .result) (c .before .before .before .before .loop .i) (c .before .before .word4 .result) (c .before .before .before .loop-test .taken) (c .before .value-at2 .ensures)
-    (c .before .before .word4 .ensures .0 ∙ ap (word-at (c .before .before .before .before .before .before .before .before .before .before .before .before .args .p .now)) (list-place (c .before .before .before .before .before .before .before .before .before .before .before .before .args .p .now) (c .before .before .before .before .before .before .before .before .word .result) (c .before .before .before .before .before .before .before .word2 .result) (c .before .before .before .before .before .before .before .before .before .before .before .before .args .a + c .before .before .before .before .loop .i) (c .before .before .before .before .before .before .before .before .word .ensures .0) (c .before .before .before .before .before .before .before .word2 .ensures .0)))
-    ∙ ap (λ x. extreme-left (c .before .before .before .before .before .before .before .before .before .before .before .before .args .most) (c .before .before .before .before .before .before .before .before .before .before .before .before .args .p .now) (c .before .before .before .before .before .before .before .before .before .before .before .before .args .count) (c .before .before .before .before .before .before .before .before .before .before .before .before .args .a) (c .before .before .before .before .before .before .before .before .before .before .before .before .args .regs .now) x (c .before .before .before .before .loop .i + 1)) (sym (c .hold .ensures)))
+loop-again c = (
+  omega arith,
+  c .before .before .before .before .loop .inv .1 ∙ extreme-step (c .before .before .before .before .before .before .before .before .before .before .before .before .args .most) (c .before .before .before .before .before .before .before .before .before .before .before .before .args .p .now) (c .before .before .before .before .before .before .before .before .before .before .before .before .args .count) (c .before .before .before .before .before .before .before .before .before .before .before .before .args .a) (c .before .before .before .before .before .before .before .before .before .before .before .before .args .regs .now) (c .before .before .before .before .loop .extreme) (c .before .value-at2 .result) (c .before .before .before .before .loop .i) (c .before .before .word4 .result) (c .before .before .before .loop-test .taken) (c .before .value-at2 .ensures)
+      (c .before .before .word4 .ensures .0 ∙ ap (word-at (c .before .before .before .before .before .before .before .before .before .before .before .before .args .p .now)) (list-place (c .before .before .before .before .before .before .before .before .before .before .before .before .args .p .now) (c .before .before .before .before .before .before .before .before .word .result) (c .before .before .before .before .before .before .before .word2 .result) (c .before .before .before .before .before .before .before .before .before .before .before .before .args .a + c .before .before .before .before .loop .i) (c .before .before .before .before .before .before .before .before .word .ensures .0) (c .before .before .before .before .before .before .before .word2 .ensures .0)))
+      ∙ ap (λ x. extreme-left (c .before .before .before .before .before .before .before .before .before .before .before .before .args .most) (c .before .before .before .before .before .before .before .before .before .before .before .before .args .p .now) (c .before .before .before .before .before .before .before .before .before .before .before .before .args .count) (c .before .before .before .before .before .before .before .before .before .before .before .before .args .a) (c .before .before .before .before .before .before .before .before .before .before .before .before .args .regs .now) x (c .before .before .before .before .loop .i + 1)) (sym (c .hold .ensures)),
+)
 
--- src/lib.rt:59:1
 returns-2 : tie.Need-returns-2 Inv-loop μ-loop
 returns-2 c = sym (c .before .loop .inv .1 ∙ extreme-end (c .before .before .before .before .before .before .before .before .before .args .most) (c .before .before .before .before .before .before .before .before .before .args .p .now) (c .before .before .before .before .before .before .before .before .before .args .count) (c .before .before .before .before .before .before .before .before .before .args .a) (c .before .before .before .before .before .before .before .before .before .args .regs .now) (c .before .loop .extreme) (c .before .loop .i) (c .loop-test .left))
 

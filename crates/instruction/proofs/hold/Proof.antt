@@ -1,24 +1,16 @@
 use borrow.Author.Needs.{needs}
 use Rattle.instruction.proofs.hold.Statement.{statement}
 use Rattle.instruction.proofs.hold.Tie as tie
-use Rattle.instruction.proofs.hold.Reads as reads
-use Rattle.instruction.proofs.hold.Lts as lts
-use Rattle.floats.proofs.extremum.hold_above.Reads as hold-above-reads
-use Rattle.floats.proofs.extremum.hold_below.Reads as hold-below-reads
 
--- src/lib.rt:53:9
 hold-above-requires : tie.Need-hold-above-requires
 hold-above-requires c κs = search needs
 
--- src/lib.rt:53:9
 returns : tie.Need-returns
 returns c = rw (c .before .if1 .taken) (c .hold-above .ensures)
 
--- src/lib.rt:55:5
 hold-below-requires : tie.Need-hold-below-requires
 hold-below-requires c κs = search needs
 
--- src/lib.rt:49:1
 returns-2 : tie.Need-returns-2
 returns-2 c = rw (c .before .if1 .left) (c .hold-below .ensures)
 

@@ -1,4 +1,3 @@
-use mathlib.Core.Path.{_≡_, refl, sym, ap, _∙_}
 use native.Mathlib.Omega.{arith}
 use lib.Ieee.{ofBits}
 use Rattle.work.specs.View.{kept-values}
@@ -6,109 +5,78 @@ use Rattle.instruction.proofs.Opcodes.{least-effect, most-effect, no-ef
 use borrow.Author.Needs.{needs}
 use Rattle.instruction.proofs.operation.Statement.{statement}
 use Rattle.instruction.proofs.operation.Tie as tie
-use Rattle.instruction.proofs.operation.Reads as reads
-use Rattle.instruction.proofs.operation.Lts as lts
-use Rattle.instruction.proofs.extremum.Reads as extremum-reads
-use Rattle.instruction.proofs.value_at.Reads as value-at-reads
-use Rattle.reader.proofs.half.Reads as half-reads
-use Rattle.reader.proofs.word.Reads as word-reads
-use Rattle.work.proofs.work.Reads as work-reads
 
--- src/lib.rt:82:21
 add-word : tie.Need-add-word
 add-word c = search needs
 
--- src/lib.rt:82:9
 word-requires : tie.Need-word-requires
 word-requires c κs = search needs
 
--- src/lib.rt:84:71
 add-half : tie.Need-add-half
 add-half c = search needs
 
--- src/lib.rt:84:63
 half-requires : tie.Need-half-requires
 half-requires c κs = search needs
 
--- src/lib.rt:84:44
 extremum-requires : tie.Need-extremum-requires
 extremum-requires c κs = search needs
 
--- src/lib.rt:84:9
 returns : tie.Need-returns
 returns c = least-effect (c .before .before .before .before .before .before .args .p .now) (c .before .before .before .before .before .before .args .at) (kept-values (c .before .before .before .before .before .before .args .kept)) (c .before .before .before .before .before .before .args .regs .now) (c .before .before .before .before .before .before .args .op) (c .before .half .result) (c .before .before .before .word .result) (c .extremum .result) (c .before .before .if1 .taken) (c .before .half .ensures .0) (c .before .before .before .word .ensures .0) (c .extremum .ensures)
 
--- src/lib.rt:87:70
 add-half-2 : tie.Need-add-half-2
 add-half-2 c = search needs
 
--- src/lib.rt:87:62
 half-requires-2 : tie.Need-half-requires-2
 half-requires-2 c κs = search needs
 
--- src/lib.rt:87:44
 extremum-requires-2 : tie.Need-extremum-requires-2
 extremum-requires-2 c κs = search needs
 
--- src/lib.rt:87:9
 returns-2 : tie.Need-returns-2
 returns-2 c = most-effect (c .before .before .before .before .before .before .before .args .p .now) (c .before .before .before .before .before .before .before .args .at) (kept-values (c .before .before .before .before .before .before .before .args .kept)) (c .before .before .before .before .before .before .before .args .regs .now) (c .before .before .before .before .before .before .before .args .op) (c .before .half2 .result) (c .before .before .before .before .word .result) (c .extremum2 .result) (c .before .before .if2 .taken) (c .before .half2 .ensures .0) (c .before .before .before .before .word .ensures .0) (c .extremum2 .ensures)
 
--- src/lib.rt:89:9
 value-at-requires : tie.Need-value-at-requires
 value-at-requires c κs = search needs
 
--- src/lib.rt:90:36
 add-word-2 : tie.Need-add-word-2
 add-word-2 c = search needs
 
--- src/lib.rt:90:28
 word-requires-2 : tie.Need-word-requires-2
 word-requires-2 c κs = search needs
 
--- src/lib.rt:90:9
 value-at-requires-2 : tie.Need-value-at-requires-2
 value-at-requires-2 c κs = search needs
 
--- src/lib.rt:92:29
 work-requires : tie.Need-work-requires
 work-requires c κs = search needs
 
--- src/lib.rt:92:9
 returns-3 : tie.Need-returns-3
 unfolding ofBits
 returns-3 c = pair-effect (c .before .before .before .before .before .before .before .before .before .before .args .p .now) (c .before .before .before .before .before .before .before .before .before .before .args .at) (kept-values (c .before .before .before .before .before .before .before .before .before .before .args .kept)) (c .before .before .before .before .before .before .before .before .before .before .args .regs .now) (c .before .before .before .before .before .before .before .before .before .before .args .op) (c .before .before .before .before .before .before .before .word .result) (c .before .before .before .word2 .result) (c .before .before .before .before .value-at .result) (c .before .before .value-at2 .result) (omega arith) (c .before .if3 .taken) (c .before .before .before .before .before .before .before .word .ensures .0) (c .before .before .before .before .value-at .ensures) (c .before .before .before .word2 .ensures .0) (c .before .before .value-at2 .ensures) (c .work .ensures)
 
--- src/lib.rt:95:29
 work-requires-2 : tie.Need-work-requires-2
 work-requires-2 c κs = search needs
 
--- src/lib.rt:95:9
 returns-4 : tie.Need-returns-4
 unfolding ofBits
 returns-4 c = single-effect (c .before .before .before .before .before .before .before .before .before .before .before .args .p .now) (c .before .before .before .before .before .before .before .before .before .before .before .args .at) (kept-values (c .before .before .before .before .before .before .before .before .before .before .before .args .kept)) (c .before .before .before .before .before .before .before .before .before .before .before .args .regs .now) (c .before .before .before .before .before .before .before .before .before .before .before .args .op) (c .before .before .before .before .before .before .before .before .word .result) (c .before .before .before .before .before .value-at .result) (c .before .before .if3 .left) (c .before .if4 .taken) (c .before .before .before .before .before .before .before .before .word .ensures .0) (c .before .before .before .before .before .value-at .ensures) (c .work2 .ensures)
 
--- src/lib.rt:98:40
 add-word-3 : tie.Need-add-word-3
 add-word-3 c = search needs
 
--- src/lib.rt:98:32
 word-requires-3 : tie.Need-word-requires-3
 word-requires-3 c κs = search needs
 
--- src/lib.rt:98:13
 value-at-requires-3 : tie.Need-value-at-requires-3
 value-at-requires-3 c κs = search needs
 
--- src/lib.rt:99:29
 work-requires-3 : tie.Need-work-requires-3
 work-requires-3 c κs = search needs
 
--- src/lib.rt:99:9
 returns-5 : tie.Need-returns-5
 returns-5 c = triple-effect (c .before .before .before .before .before .before .before .before .before .before .before .before .before .before .args .p .now) (c .before .before .before .before .before .before .before .before .before .before .before .before .before .before .args .at) (kept-values (c .before .before .before .before .before .before .before .before .before .before .before .before .before .before .args .kept)) (c .before .before .before .before .before .before .before .before .before .before .before .before .before .before .args .regs .now) (c .before .before .before .before .before .before .before .before .before .before .before .before .before .before .args .op) (c .before .before .before .before .before .before .before .before .before .before .before .word .result) (c .before .before .before .before .before .before .before .word2 .result) (c .before .before .word3 .result) (c .before .before .before .before .before .before .before .before .value-at .result) (c .before .before .before .before .before .before .value-at2 .result) (c .before .value-at3 .result) (omega arith) (c .before .before .before .if5 .taken) (c .before .before .before .before .before .before .before .before .before .before .before .word .ensures .0) (c .before .before .before .before .before .before .before .before .value-at .ensures) (c .before .before .before .before .before .before .before .word2 .ensures .0) (c .before .before .before .before .before .before .value-at2 .ensures) (c .before .before .word3 .ensures .0) (c .before .value-at3 .ensures) (c .work3 .ensures)
 
--- src/lib.rt:78:1
 returns-6 : tie.Need-returns-6
 returns-6 c = no-effect (c .before .before .before .before .before .before .before .before .before .before .before .args .p .now) (c .before .before .before .before .before .before .before .before .before .before .before .args .at) (kept-values (c .before .before .before .before .before .before .before .before .before .before .before .args .kept)) (c .before .before .before .before .before .before .before .before .before .before .before .args .regs .now) (c .before .before .before .before .before .before .before .before .before .before .before .args .op) (c .if5 .left)
 

@@ -1,4 +1,4 @@
-use mathlib.Core.Path.{_≡_, refl, sym, ap, _∙_}
+use mathlib.Core.Path.{sym, ap, _∙_}
 use Rattle.layout.specs.Decode.{destination-at, path-number}
 use Rattle.work.specs.View.{kept-values}
 use Rattle.instruction.specs.declared.Effect.the-variants.{Work}
@@ -6,133 +6,97 @@ use Rattle.instruction.proofs.Done.{elementary-done, infinite-done, jum
 use borrow.Author.Needs.{needs}
 use Rattle.instruction.proofs.step.Statement.{statement}
 use Rattle.instruction.proofs.step.Tie as tie
-use Rattle.instruction.proofs.step.Reads as reads
-use Rattle.instruction.proofs.step.Lts as lts
-use Rattle.floats.proofs.value.is_finite.Reads as is-finite-reads
-use Rattle.instruction.proofs.effect_at.Reads as effect-at-reads
-use Rattle.instruction.proofs.store.Reads as store-reads
-use Rattle.reader.proofs.word.Reads as word-reads
 
--- src/lib.rt:133:19
 mul-at : tie.Need-mul-at
 mul-at c = search needs
 
--- src/lib.rt:133:14
 add-at : tie.Need-add-at
 add-at c = search needs
 
--- src/lib.rt:134:9
 effect-at-requires : tie.Need-effect-at-requires
 effect-at-requires c κs = search needs
 
--- src/lib.rt:136:22
 enum-known-e : tie.Need-enum-known-e
 enum-known-e c = search needs
 
--- src/lib.rt:137:22
 enum-known-e-2 : tie.Need-enum-known-e-2
 enum-known-e-2 c = search needs
 
--- src/lib.rt:138:28
 enum-known-w : tie.Need-enum-known-w
 enum-known-w c = search needs
 
--- src/lib.rt:139:20
 is-finite-requires : tie.Need-is-finite-requires
 is-finite-requires c κs = search needs
 
--- src/lib.rt:140:41
 add-word : tie.Need-add-word
 add-word c = search needs
 
--- src/lib.rt:140:33
 word-requires : tie.Need-word-requires
 word-requires c κs = search needs
 
--- src/lib.rt:140:21
 store-requires : tie.Need-store-requires
 store-requires c κs = search needs
 
--- src/lib.rt:141:43
 add-t24 : tie.Need-add-t24
 add-t24 c = search needs
 
--- src/lib.rt:141:21
 same-length : tie.Need-same-length
 same-length c = search needs
 
--- src/lib.rt:141:21
 returns : tie.Need-returns
 unfolding destination-at
 returns c = value-done (c .before .before .before .before .before .before .before .before .before .before .before .before .before .before .before .before .before .before .args .inputs .now) (c .before .before .before .before .before .before .before .before .before .before .before .before .before .before .before .before .before .before .args .p .now) (c .before .before .before .before .before .before .before .before .before .before .before .before .before .before .before .before .before .before .args .n) (kept-values (c .before .before .before .before .before .before .before .before .before .before .before .before .before .before .before .before .before .before .args .kept)) (c .before .before .before .before .before .before .before .before .before .before .before .before .before .before .before .before .before .before .args .regs .now) (c .before .before .before .before .before .before .before .before .before .before .before .before .before .effect-at .ensures) (c .before .before .before .before .before .before .before .before .w .given .0 .0) (c .before .before .before .word .result) (c .before .before .before .before .before .before .before .before .before .before .before .e2 .given .1 ∙ ap Work (c .before .before .before .before .before .before .before .before .w .given .1)) (sym (c .before .before .before .before .before .before .is-finite .ensures) ∙ c .before .before .before .before .before .if1 .taken) (c .before .before .before .word .ensures .0) (c .before .before .store .ensures)
 
--- src/lib.rt:143:42
 add-word-2 : tie.Need-add-word-2
 add-word-2 c = search needs
 
--- src/lib.rt:143:34
 word-requires-2 : tie.Need-word-requires-2
 word-requires-2 c κs = search needs
 
--- src/lib.rt:145:60
 enum-told : tie.Need-enum-told
 enum-told c = search needs
 
--- src/lib.rt:145:60
 add-word-3 : tie.Need-add-word-3
 add-word-3 c = search needs
 
--- src/lib.rt:145:52
 word-requires-3 : tie.Need-word-requires-3
 word-requires-3 c κs = search needs
 
--- src/lib.rt:146:33
 enum-known-w-2 : tie.Need-enum-known-w-2
 enum-known-w-2 c = search needs
 
--- src/lib.rt:147:28
 enum-known-w-3 : tie.Need-enum-known-w-3
 enum-known-w-3 c = search needs
 
--- src/lib.rt:129:1
 same-length-2 : tie.Need-same-length-2
 same-length-2 c = search needs
 
--- src/lib.rt:129:1
 returns-2 : tie.Need-returns-2
 returns-2 c = jump-done (c .before .before .before .before .before .before .before .before .args .inputs .now) (c .before .before .before .before .before .before .before .before .args .p .now) (c .before .before .before .before .before .before .before .before .args .n) (kept-values (c .before .before .before .before .before .before .before .before .args .kept)) (c .before .before .before .before .before .before .before .before .args .regs .now) (c .before .before .before .effect-at .ensures) (c .before .e .given .0 .0) (c .before .e .given .1)
 
--- src/lib.rt:129:1
 same-length-3 : tie.Need-same-length-3
 same-length-3 c = search needs
 
--- src/lib.rt:129:1
 returns-3 : tie.Need-returns-3
 unfolding path-number
 returns-3 c = infinite-done (c .before .before .before .before .before .before .before .before .before .before .before .before .before .before .args .inputs .now) (c .before .before .before .before .before .before .before .before .before .before .before .before .before .before .args .p .now) (c .before .before .before .before .before .before .before .before .before .before .before .before .before .before .args .n) (kept-values (c .before .before .before .before .before .before .before .before .before .before .before .before .before .before .args .kept)) (c .before .before .before .before .before .before .before .before .before .before .before .before .before .before .args .regs .now) (c .before .before .before .before .before .before .before .before .before .effect-at .ensures) (c .before .before .before .before .w .given .0 .0) (c .word2 .result) (c .before .before .before .before .before .before .before .e2 .given .1 ∙ ap Work (c .before .before .before .before .w .given .1)) (sym (c .before .before .is-finite .ensures) ∙ c .before .if1 .left) (c .word2 .ensures .0)
 
--- src/lib.rt:129:1
 same-length-4 : tie.Need-same-length-4
 same-length-4 c = search needs
 
--- src/lib.rt:129:1
 returns-4 : tie.Need-returns-4
 unfolding path-number
 returns-4 c = undefined-done (c .before .before .before .before .before .before .before .before .before .before .before .args .inputs .now) (c .before .before .before .before .before .before .before .before .before .before .before .args .p .now) (c .before .before .before .before .before .before .before .before .before .before .before .args .n) (kept-values (c .before .before .before .before .before .before .before .before .before .before .before .args .kept)) (c .before .before .before .before .before .before .before .before .before .before .before .args .regs .now) (c .before .before .before .before .before .before .effect-at .ensures) (c .word3 .result) (c .before .before .before .before .e2 .given .1 ∙ ap Work (c .before .enum-told .given .1)) (c .word3 .ensures .0)
 
--- src/lib.rt:129:1
 same-length-5 : tie.Need-same-length-5
 same-length-5 c = search needs
 
--- src/lib.rt:129:1
 returns-5 : tie.Need-returns-5
 returns-5 c = elementary-done (c .before .before .before .before .before .before .before .before .before .before .before .args .inputs .now) (c .before .before .before .before .before .before .before .before .before .before .before .args .p .now) (c .before .before .before .before .before .before .before .before .before .before .before .args .n) (kept-values (c .before .before .before .before .before .before .before .before .before .before .before .args .kept)) (c .before .before .before .before .before .before .before .before .before .before .before .args .regs .now) (c .before .before .before .before .before .before .effect-at .ensures) (c .before .w2 .given .0 .0) (c .before .w2 .given .0 .1 .0) (c .before .before .before .before .e2 .given .1 ∙ ap Work (c .before .w2 .given .1))
 
--- src/lib.rt:129:1
 same-length-6 : tie.Need-same-length-6
 same-length-6 c = search needs
 
--- src/lib.rt:129:1
 returns-6 : tie.Need-returns-6
 returns-6 c = power-done (c .before .before .before .before .before .before .before .before .before .before .before .args .inputs .now) (c .before .before .before .before .before .before .before .before .before .before .before .args .p .now) (c .before .before .before .before .before .before .before .before .before .before .before .args .n) (kept-values (c .before .before .before .before .before .before .before .before .before .before .before .args .kept)) (c .before .before .before .before .before .before .before .before .before .before .before .args .regs .now) (c .before .before .before .before .before .before .effect-at .ensures) (c .before .w3 .given .0 .0) (c .before .w3 .given .0 .1 .0) (c .before .before .before .before .e2 .given .1 ∙ ap Work (c .before .w3 .given .1))
 

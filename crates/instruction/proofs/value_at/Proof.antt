@@ -5,22 +5,16 @@ use Rattle.instruction.proofs.Leaves.{getD-any, getD-past}
 use borrow.Author.Needs.{needs}
 use Rattle.instruction.proofs.value_at.Statement.{statement}
 use Rattle.instruction.proofs.value_at.Tie as tie
-use Rattle.instruction.proofs.value_at.Reads as reads
-use Rattle.instruction.proofs.value_at.Lts as lts
 
--- src/lib.rt:36:16
 mul-result : tie.Need-mul-result
 mul-result c = search needs
 
--- src/lib.rt:36:16
 shared-slice-read-result : tie.Need-shared-slice-read-result
 shared-slice-read-result c = search needs
 
--- src/lib.rt:36:9
 returns : tie.Need-returns
 returns c = getD-any (c .before .before .args .xs .now) (c .before .before .args .i) _ 0f (c .before .if1 .taken)
 
--- src/lib.rt:32:1
 returns-2 : tie.Need-returns-2
 unfolding ofBits
 returns-2 c = sym (getD-past (c .before .args .xs .now) (c .before .args .i) 0f (c .if1 .left))

@@ -1,14 +1,12 @@
-use mathlib.Core.Path.{_≡_, refl, sym, ap, _∙_}
+use mathlib.Core.Path.{_≡_, refl, ap, _∙_}
 use mathlib.Core.List.{List}
-use Prim.Native.Nat.{ℕ, _+_, _-_, _≤_, _<_}
+use Prim.Native.Nat.{ℕ, _+_, _-_, _≤_}
 use native.Mathlib.Omega.{arith}
 use lib.ListN.{length, set, getD, length-set}
 use lib.Seq.{paste, paste-zero}
 use Rattle.paths.proofs.Over.{paste-more, paste-over}
 use Rattle.paths.proofs.copy_before.Statement.{statement}
 use Rattle.paths.proofs.copy_before.Tie as tie
-use Rattle.paths.proofs.copy_before.Reads as reads
-use Rattle.paths.proofs.copy_before.Lts as lts
 
 abbrev Inv-loop : tie.InvT-loop
 Inv-loop out₀ end text begin i₀ out i = (i ≤ length text) × (begin + length text ≡ end) × (length out ≡ length out₀) × (out ≡ paste out₀ begin text i)
@@ -16,43 +14,33 @@ Inv-loop out₀ end text begin i₀ out i = (i ≤ length text) × (begin + leng
 abbrev μ-loop : tie.MeasureT-loop
 μ-loop out₀ end text begin i₀ out i = length text - i
 
--- src/lib.rt:44:17
 sub-begin : tie.Need-sub-begin Inv-loop μ-loop
 sub-begin c = omega arith
 
--- src/lib.rt:46:5
 loop-holds : tie.Need-loop-holds Inv-loop μ-loop
 loop-holds c = (omega arith, omega arith, refl, paste-zero (c .args .out .now) (c .args .end - length (c .args .text .now)) (c .args .text .now))
 
--- src/lib.rt:47:26
 shared-slice-read-out : tie.Need-shared-slice-read-out Inv-loop μ-loop
 shared-slice-read-out c = omega arith
 
--- src/lib.rt:47:13
 add-out : tie.Need-add-out Inv-loop μ-loop
 add-out c = omega arith
 
--- src/lib.rt:47:9
 slice-write-out : tie.Need-slice-write-out Inv-loop μ-loop
 slice-write-out c = omega arith
 
--- src/lib.rt:48:9
 add-i : tie.Need-add-i Inv-loop μ-loop
 add-i c = omega arith
 
--- src/lib.rt:46:5
 loop-less : tie.Need-loop-less Inv-loop μ-loop
 loop-less c = omega arith
 
--- src/lib.rt:46:5
 loop-again : tie.Need-loop-again Inv-loop μ-loop
 loop-again c = let begin : ℕ = c .before .before .before .args .end - length (c .before .before .before .args .text .now) in (omega arith, omega arith, length-set (c .before .before .loop .out) (begin + c .before .before .loop .i) _ ∙ c .before .before .loop .inv .2, ap (λ (x : List ℕ). set x (begin + c .before .before .loop .i) (getD (c .before .before .before .args .text .now) (c .before .before .loop .i) 0)) (c .before .before .loop .inv .3) ∙ paste-more (c .before .before .before .args .out .now) begin (c .before .before .before .args .text .now) (c .before .before .loop .i) (omega arith) (omega arith))
 
--- src/lib.rt:40:1
 same-length : tie.Need-same-length Inv-loop μ-loop
 same-length c = c .before .loop .inv .2
 
--- src/lib.rt:40:1
 returns : tie.Need-returns Inv-loop μ-loop
 returns c = let e : c .before .loop .i ≡ length (c .before .before .args .text .now) = omega arith in (omega arith, c .before .loop .inv .3 ∙ paste-over (c .before .before .args .out .now) (c .before .before .args .end - length (c .before .before .args .text .now)) (c .before .loop .i) (c .before .before .args .text .now) e)
 

@@ -1,17 +1,15 @@
 use Rattle.paths.proofs.Decimal.{decimal-small, last-digit, digit-more, length-large, length-small}
 use mathlib.Core.Path.{_≡_, refl, sym, ap, _∙_}
-use mathlib.Core.List.{List, [], _∷_}
-use Prim.Native.Nat.{ℕ, _+_, _-_, _/_, _%_, _≤_, _<_}
+use mathlib.Core.List.{List}
+use Prim.Native.Nat.{ℕ, _+_, _-_, _≤_}
 use native.Mathlib.Omega.{arith}
-use lib.ListN.{length, set, getD, length-set}
+use lib.ListN.{length, length-set}
 use Rattle.formula.specs.Text.{decimal}
 use Rattle.paths.specs.Over.{over}
 use Rattle.paths.proofs.Over.{over-one}
 use Rattle.paths.proofs.Decimal.{decimal-small, digit-more, length-large, length-small}
 use Rattle.paths.proofs.number_before.Statement.{statement}
 use Rattle.paths.proofs.number_before.Tie as tie
-use Rattle.paths.proofs.number_before.Reads as reads
-use Rattle.paths.proofs.number_before.Lts as lts
 
 abbrev Inv-loop : tie.InvT-loop
 Inv-loop out₀ end n left₀ at₀ out left at = (length out ≡ length out₀) × (at ≡ end - length (decimal n) + length (decimal left)) × (at ≤ end) × (over out (end - length (decimal n)) (decimal left) ≡ over out₀ (end - length (decimal n)) (decimal n))
@@ -19,55 +17,42 @@ Inv-loop out₀ end n left₀ at₀ out left at = (length out ≡ length out₀)
 abbrev μ-loop : tie.MeasureT-loop
 μ-loop out₀ end n left₀ at₀ out left at = left
 
--- src/lib.rt:60:5
 loop-holds : tie.Need-loop-holds Inv-loop μ-loop
 loop-holds c = (refl, omega arith, omega arith, refl)
 
--- src/lib.rt:61:9
 sub-at : tie.Need-sub-at Inv-loop μ-loop
 sub-at c = omega (arith, length-large (c .before .loop .left) (c .loop-test .taken))
 
--- src/lib.rt:62:20
 add-out : tie.Need-add-out Inv-loop μ-loop
 add-out c = omega arith
 
--- src/lib.rt:62:19
 cast-out : tie.Need-cast-out Inv-loop μ-loop
 cast-out c = omega arith
 
--- src/lib.rt:62:9
 slice-write-out : tie.Need-slice-write-out Inv-loop μ-loop
 slice-write-out c = omega (arith, length-large (c .before .loop .left) (c .loop-test .taken))
 
--- src/lib.rt:60:5
 loop-less : tie.Need-loop-less Inv-loop μ-loop
 loop-less c = omega arith
 
--- src/lib.rt:60:5
 loop-again : tie.Need-loop-again Inv-loop μ-loop
 loop-again c = let l = length-large (c .before .loop .left) (c .loop-test .taken) in (length-set (c .before .loop .out) (c .before .loop .at - 1) _ ∙ c .before .loop .inv .0, omega arith, omega arith, digit-more (c .before .loop .out) _ (c .before .loop .left) _ (c .before .loop .at - 1) (c .before .before .args .end - length (decimal (c .before .before .args .n))) (c .loop-test .taken) refl (omega arith) (omega arith) (c .before .loop .inv .3))
 
--- src/lib.rt:65:5
 sub-at-2 : tie.Need-sub-at-2 Inv-loop μ-loop
 sub-at-2 c = omega (arith, length-small (c .before .loop .left) (c .loop-test .left))
 
--- src/lib.rt:66:16
 add-out-2 : tie.Need-add-out-2 Inv-loop μ-loop
 add-out-2 c = omega arith
 
--- src/lib.rt:66:15
 cast-out-2 : tie.Need-cast-out-2 Inv-loop μ-loop
 cast-out-2 c = omega arith
 
--- src/lib.rt:66:5
 slice-write-out-2 : tie.Need-slice-write-out-2 Inv-loop μ-loop
 slice-write-out-2 c = omega (arith, length-small (c .before .loop .left) (c .loop-test .left))
 
--- src/lib.rt:54:1
 same-length : tie.Need-same-length Inv-loop μ-loop
 same-length c = length-set (c .before .loop .out) (c .before .loop .at - 1) _ ∙ c .before .loop .inv .0
 
--- src/lib.rt:54:1
 returns : tie.Need-returns Inv-loop μ-loop
 returns c = let l = length-small (c .before .loop .left) (c .loop-test .left) in let e : c .before .loop .at - 1 ≡ c .before .before .args .end - length (decimal (c .before .before .args .n)) = omega arith in (omega arith, over-one (c .before .loop .out) (c .before .loop .at - 1) _ (omega arith) ∙ ap (λ (xs : List ℕ). over (c .before .loop .out) (c .before .loop .at - 1) xs) (sym (decimal-small (c .before .loop .left) (c .loop-test .left))) ∙ last-digit (c .before .before .args .out .now) (c .before .loop .out) (decimal (c .before .loop .left)) (decimal (c .before .before .args .n)) e (c .before .loop .inv .3))
 

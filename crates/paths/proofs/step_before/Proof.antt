@@ -8,88 +8,64 @@ use Rattle.paths.proofs.Decimal.{argument-length, argument-written}
 use borrow.Author.Needs.{needs}
 use Rattle.paths.proofs.step_before.Statement.{statement}
 use Rattle.paths.proofs.step_before.Tie as tie
-use Rattle.paths.proofs.step_before.Reads as reads
-use Rattle.paths.proofs.step_before.Lts as lts
-use Rattle.paths.proofs.copy_before.Reads as copy-before-reads
-use Rattle.paths.proofs.number_before.Reads as number-before-reads
 
--- src/lib.rt:75:36
 slice-aggregate-copy-before : tie.Need-slice-aggregate-copy-before
 slice-aggregate-copy-before c = search needs
 
--- src/lib.rt:75:14
 copy-before-requires : tie.Need-copy-before-requires
 copy-before-requires c κs = let e : length (step-text (step-of (c .before .before .before .before .args .step))) ≡ 10 = rw (c .before .before .match .keys1) in omega (arith, c .before .before .before .before .pre .0)
 
--- src/lib.rt:76:36
 slice-aggregate-copy-before-2 : tie.Need-slice-aggregate-copy-before-2
 slice-aggregate-copy-before-2 c = search needs
 
--- src/lib.rt:76:14
 copy-before-requires-2 : tie.Need-copy-before-requires-2
 copy-before-requires-2 c κs = let e : length (step-text (step-of (c .before .before .before .before .args .step))) ≡ 5 = rw (c .before .before .match .keys2) in omega (arith, c .before .before .before .before .pre .0)
 
--- src/lib.rt:77:36
 slice-aggregate-copy-before-3 : tie.Need-slice-aggregate-copy-before-3
 slice-aggregate-copy-before-3 c = search needs
 
--- src/lib.rt:77:14
 copy-before-requires-3 : tie.Need-copy-before-requires-3
 copy-before-requires-3 c κs = let e : length (step-text (step-of (c .before .before .before .before .args .step))) ≡ 5 = rw (c .before .before .match .keys3) in omega (arith, c .before .before .before .before .pre .0)
 
--- src/lib.rt:79:47
 slice-aggregate-copy-before-4 : tie.Need-slice-aggregate-copy-before-4
 slice-aggregate-copy-before-4 c = search needs
 
--- src/lib.rt:79:17
 copy-before-requires-4 : tie.Need-copy-before-requires-4
 copy-before-requires-4 c κs = let h : 3 ≤ c .before .before .before .before .args .step = omega arith in omega (arith, argument-length (c .before .before .before .before .args .step) h)
 
--- src/lib.rt:80:52
 sub-number-before : tie.Need-sub-number-before
 sub-number-before c = search needs
 
--- src/lib.rt:80:17
 number-before-requires : tie.Need-number-before-requires
 number-before-requires c κs = let h : 3 ≤ c .before .before .before .before .before .before .before .before .args .step = omega arith in omega (arith, argument-length (c .before .before .before .before .before .before .before .before .args .step) h, c .before .before .before .copy-before4 .kept .0)
 
--- src/lib.rt:81:38
 slice-aggregate-copy-before-5 : tie.Need-slice-aggregate-copy-before-5
 slice-aggregate-copy-before-5 c = search needs
 
--- src/lib.rt:81:13
 copy-before-requires-5 : tie.Need-copy-before-requires-5
 copy-before-requires-5 c κs = let h : 3 ≤ c .before .before .before .before .before .before .before .before .before .before .before .before .before .args .step = omega arith in omega (arith, argument-length (c .before .before .before .before .before .before .before .before .before .before .before .before .before .args .step) h, c .before .before .before .before .before .before .before .before .copy-before4 .kept .0, c .before .before .before .before .number-before .kept .0)
 
--- src/lib.rt:70:1
 same-length : tie.Need-same-length
 same-length c = search needs
 
--- src/lib.rt:70:1
 returns : tie.Need-returns
 returns c = rw (c .before .before .before .before .before .match .keys1) (c .before .before .copy-before .ensures)
 
--- src/lib.rt:70:1
 same-length-2 : tie.Need-same-length-2
 same-length-2 c = search needs
 
--- src/lib.rt:70:1
 returns-2 : tie.Need-returns-2
 returns-2 c = rw (c .before .before .before .before .before .match .keys2) (c .before .before .copy-before2 .ensures)
 
--- src/lib.rt:70:1
 same-length-3 : tie.Need-same-length-3
 same-length-3 c = search needs
 
--- src/lib.rt:70:1
 returns-3 : tie.Need-returns-3
 returns-3 c = rw (c .before .before .before .before .before .match .keys3) (c .before .before .copy-before3 .ensures)
 
--- src/lib.rt:70:1
 same-length-4 : tie.Need-same-length-4
 same-length-4 c = search needs
 
--- src/lib.rt:70:1
 returns-4 : tie.Need-returns-4
 returns-4 c = let h : 3 ≤ c .before .before .before .before .before .before .before .before .before .before .before .before .before .before .before .before .args .step = omega arith in argument-written (c .before .before .before .before .before .before .before .before .before .before .before .before .before .before .before .before .args .step) (c .before .before .before .before .before .before .before .before .before .before .before .before .before .before .before .before .args .out .now) _ _ _ (c .before .before .before .before .before .before .before .before .before .before .before .before .before .before .before .before .args .end) _ _ _ h (omega arith) (c .before .before .before .before .before .before .before .before .before .before .before .copy-before4 .ensures .0) (c .before .before .before .before .before .before .before .before .before .before .before .copy-before4 .ensures .1) (c .before .before .before .before .before .before .before .number-before .ensures .0) (c .before .before .before .before .before .before .before .number-before .ensures .1) (c .before .before .copy-before5 .ensures .0) (c .before .before .copy-before5 .ensures .1)
 

@@ -1,39 +1,28 @@
-use mathlib.Core.Path.{_≡_}
 use Prim.Native.Nat.{_≤_}
 use native.Mathlib.Omega.{arith}
 use Rattle.paths.proofs.Decimal.{argument-length}
 use borrow.Author.Needs.{needs}
 use Rattle.paths.proofs.step_length.Statement.{statement}
 use Rattle.paths.proofs.step_length.Tie as tie
-use Rattle.paths.proofs.step_length.Reads as reads
-use Rattle.paths.proofs.step_length.Lts as lts
-use Rattle.paths.proofs.digits.Reads as digits-reads
 
--- src/lib.rt:35:26
 sub-digits : tie.Need-sub-digits
 sub-digits c = search needs
 
--- src/lib.rt:35:19
 digits-requires : tie.Need-digits-requires
 digits-requires c κs = search needs
 
--- src/lib.rt:35:14
 add-result : tie.Need-add-result
 add-result c = search needs
 
--- src/lib.rt:27:1
 returns : tie.Need-returns
 returns c = (rw (c .match .keys1), omega arith)
 
--- src/lib.rt:27:1
 returns-2 : tie.Need-returns-2
 returns-2 c = (rw (c .match .keys2), omega arith)
 
--- src/lib.rt:27:1
 returns-3 : tie.Need-returns-3
 returns-3 c = (rw (c .match .keys3), omega arith)
 
--- src/lib.rt:27:1
 returns-4 : tie.Need-returns-4
 returns-4 c = let h : 3 ≤ c .before .before .args .step = omega arith in (omega (arith, argument-length (c .before .before .args .step) h), omega arith)
 

@@ -1,7 +1,7 @@
 use Rattle.paths.proofs.Climb.{begin-is, length-is, parent-is, path-written, root-begin, step-fits, step-written}
 use borrow.Author.Needs.{needs}
-use mathlib.Core.Path.{_≡_, refl, sym, ap, _∙_}
-use Prim.Native.Nat.{ℕ, _+_, _-_, _*_, _≤_, _<_}
+use mathlib.Core.Path.{_≡_, refl, _∙_}
+use Prim.Native.Nat.{_-_, _≤_}
 use native.Mathlib.Omega.{arith}
 use lib.ListN.{length}
 use Rattle.formula.specs.Path.{text}
@@ -10,12 +10,6 @@ use Rattle.paths.specs.Table.{length-in, path-in-table}
 use Rattle.paths.proofs.Climb.{begin-is, parent-is, path-written, root-begin, step-fits, step-written}
 use Rattle.paths.proofs.write_path.Statement.{statement}
 use Rattle.paths.proofs.write_path.Tie as tie
-use Rattle.paths.proofs.write_path.Reads as reads
-use Rattle.paths.proofs.write_path.Lts as lts
-use Rattle.paths.proofs.copy_before.Reads as copy-before-reads
-use Rattle.paths.proofs.step_before.Reads as step-before-reads
-use Rattle.paths.proofs.zero_from.Reads as zero-from-reads
-use Rattle.reader.proofs.word.Reads as word-reads
 
 abbrev Inv-loop : tie.InvT-loop
 Inv-loop b base k out₀ end at₀ begin₀ t8 out at begin = (length out ≡ length out₀) × (at ≤ k) × (begin ≡ length-in b base at) × (begin ≤ end) × (over out 0 (text (path-in-table b base at)) ≡ over out₀ 0 (text (path-in-table b base k)))
@@ -23,65 +17,50 @@ Inv-loop b base k out₀ end at₀ begin₀ t8 out at begin = (length out ≡ le
 abbrev μ-loop : tie.MeasureT-loop
 μ-loop b base k out₀ end at₀ begin₀ t8 out at begin = at
 
--- src/lib.rt:103:41
 mul-word : tie.Need-mul-word Inv-loop μ-loop
 mul-word c = omega arith
 
--- src/lib.rt:103:34
 add-word : tie.Need-add-word Inv-loop μ-loop
 add-word c = omega arith
 
--- src/lib.rt:103:34
 add-word-2 : tie.Need-add-word-2 Inv-loop μ-loop
 add-word-2 c = omega arith
 
--- src/lib.rt:103:9
 word-requires : tie.Need-word-requires Inv-loop μ-loop
 word-requires c κs = search needs
 
--- src/lib.rt:106:5
 loop-holds : tie.Need-loop-holds Inv-loop μ-loop
 unfolding length-in
 loop-holds c = (refl, omega arith, c .word .ensures .0, omega arith, refl)
 
--- src/lib.rt:107:64
 mul-word-2 : tie.Need-mul-word-2 Inv-loop μ-loop
 mul-word-2 c = omega arith
 
--- src/lib.rt:107:57
 add-word-3 : tie.Need-add-word-3 Inv-loop μ-loop
 add-word-3 c = omega arith
 
--- src/lib.rt:107:57
 add-word-4 : tie.Need-add-word-4 Inv-loop μ-loop
 add-word-4 c = omega arith
 
--- src/lib.rt:107:41
 word-requires-2 : tie.Need-word-requires-2 Inv-loop μ-loop
 word-requires-2 c κs = search needs
 
--- src/lib.rt:107:9
 step-before-requires : tie.Need-step-before-requires Inv-loop μ-loop
 unfolding length-in
 step-before-requires c κs = (omega (arith, step-fits (c .before .before .before .before .before .before .before .args .b .now) (c .before .before .before .before .before .before .before .args .base) (c .before .before .before .before .before .before .before .args .k) (c .before .before .before .loop .at) (c .word2 .result) (omega arith) (c .before .before .before .loop .inv .1) (c .before .before .before .before .before .before .before .pre .1) (c .word2 .ensures .0)), omega (arith, c .before .before .before .loop .inv .0, c .before .before .before .before .word .ensures .0, c .before .before .before .before .before .before .before .pre .2))
 
--- src/lib.rt:108:37
 mul-word-3 : tie.Need-mul-word-3 Inv-loop μ-loop
 mul-word-3 c = omega arith
 
--- src/lib.rt:108:30
 add-word-5 : tie.Need-add-word-5 Inv-loop μ-loop
 add-word-5 c = omega arith
 
--- src/lib.rt:108:9
 word-requires-3 : tie.Need-word-requires-3 Inv-loop μ-loop
 word-requires-3 c κs = search needs
 
--- src/lib.rt:106:5
 loop-less : tie.Need-loop-less Inv-loop μ-loop
 loop-less c = omega (arith, parent-is (c .before .before .before .before .before .before .before .before .before .before .before .args .b .now) (c .before .before .before .before .before .before .before .before .before .before .before .args .base) (c .before .before .before .before .before .before .before .before .before .before .before .args .k) (c .before .before .before .before .before .before .before .loop .at) (c .word3 .result) (omega arith) (c .before .before .before .before .before .before .before .loop .inv .1) (c .before .before .before .before .before .before .before .before .before .before .before .pre .1) (c .word3 .ensures .0))
 
--- src/lib.rt:106:5
 loop-again : tie.Need-loop-again Inv-loop μ-loop
 loop-again c = let w = c .before .before .before .before .word2 .ensures .0 in let p = parent-is (c .before .before .before .before .before .before .before .before .before .before .before .args .b .now) (c .before .before .before .before .before .before .before .before .before .before .before .args .base) (c .before .before .before .before .before .before .before .before .before .before .before .args .k) (c .before .before .before .before .before .before .before .loop .at) (c .word3 .result) (omega arith) (c .before .before .before .before .before .before .before .loop .inv .1) (c .before .before .before .before .before .before .before .before .before .before .before .pre .1) (c .word3 .ensures .0) in
     let e = c .before .before .before .step-before .ensures .0 ∙ c .before .before .before .before .before .before .before .loop .inv .2 in let l = length-is (c .before .before .before .before .before .before .before .before .before .before .before .args .b .now) (c .before .before .before .before .before .before .before .before .before .before .before .args .base) (c .before .before .before .before .before .before .before .before .before .before .before .args .k) (c .before .before .before .before .before .before .before .before .word .ensures .0) in (
@@ -92,25 +71,20 @@ loop-again c = let w = c .before .before .before .before .word2 .ensures .0 in l
       step-written (c .before .before .before .before .before .before .before .before .before .before .before .args .b .now) (c .before .before .before .before .before .before .before .before .before .before .before .args .base) (c .before .before .before .before .before .before .before .loop .out) _ _ (c .before .before .before .before .before .before .before .before .before .before .before .args .k) (c .before .before .before .before .before .before .before .loop .at) (c .word3 .result) (c .before .before .before .before .word2 .result) (c .before .before .before .step-before .result) (omega arith) (c .before .before .before .before .before .before .before .loop .inv .1) (c .before .before .before .before .before .before .before .before .before .before .before .pre .1) (omega (arith, c .before .before .before .before .before .before .before .loop .inv .0, c .before .before .before .before .before .before .before .before .before .before .before .pre .2)) w (c .word3 .ensures .0) e (c .before .before .before .step-before .ensures .1) (c .before .before .before .before .before .before .before .loop .inv .4),
     )
 
--- src/lib.rt:110:29
 slice-aggregate-copy-before : tie.Need-slice-aggregate-copy-before Inv-loop μ-loop
 slice-aggregate-copy-before c = search needs
 
--- src/lib.rt:110:5
 copy-before-requires : tie.Need-copy-before-requires Inv-loop μ-loop
 unfolding length-in
 copy-before-requires c κs = omega (arith, c .before .before .before .loop .inv .0, c .before .before .before .before .word .ensures .0, c .before .before .before .before .before .before .before .pre .2, root-begin (c .before .before .before .before .before .before .before .args .b .now) (c .before .before .before .before .before .before .before .args .base) (c .before .before .before .before .before .before .before .args .k) (c .before .before .before .loop .at) (c .before .before .before .loop .begin) (omega arith) (c .before .before .before .before .before .before .before .pre .1) (c .before .before .before .loop .inv .2))
 
--- src/lib.rt:111:5
 zero-from-requires : tie.Need-zero-from-requires Inv-loop μ-loop
 unfolding length-in
 zero-from-requires c κs = omega (arith, c .before .before .before .before .before .before .before .loop .inv .0, c .before .before .before .copy-before .kept .0, c .before .before .before .before .before .before .before .before .word .ensures .0, c .before .before .before .before .before .before .before .before .before .before .before .pre .2)
 
--- src/lib.rt:99:1
 same-length : tie.Need-same-length Inv-loop μ-loop
 same-length c = c .before .before .zero-from .kept .0 ∙ c .before .before .before .before .before .before .copy-before .kept .0 ∙ c .before .before .before .before .before .before .before .before .before .before .loop .inv .0
 
--- src/lib.rt:99:1
 returns : tie.Need-returns Inv-loop μ-loop
 returns c = let l = length-is (c .before .before .before .before .before .before .before .before .before .before .before .before .before .before .args .b .now) (c .before .before .before .before .before .before .before .before .before .before .before .before .before .before .args .base) (c .before .before .before .before .before .before .before .before .before .before .before .before .before .before .args .k) (c .before .before .before .before .before .before .before .before .before .before .before .word .ensures .0) in
     path-written (c .before .before .before .before .before .before .before .before .before .before .before .before .before .before .args .b .now) (c .before .before .before .before .before .before .before .before .before .before .before .before .before .before .args .base) (c .before .before .before .before .before .before .before .before .before .before .before .before .before .before .args .out .now) (c .before .before .before .before .before .before .before .before .before .before .loop .out) _ _ (c .before .before .before .before .before .before .before .before .before .before .before .before .before .before .args .k) (c .before .before .before .before .before .before .before .before .before .before .loop .at) (c .before .before .before .before .before .before .before .before .before .before .before .word .result) (c .before .before .before .before .before .before .copy-before .result) (omega arith) (c .before .before .before .before .before .before .before .before .before .before .before .before .before .before .pre .1) (c .before .before .before .before .before .before .before .before .before .before .before .word .ensures .0) (omega (arith, c .before .before .before .before .before .before .before .before .before .before .before .before .before .before .pre .2)) (c .before .before .before .before .before .before .before .before .before .before .loop .inv .4)

@@ -1,5 +1,5 @@
 use mathlib.Core.Path.{_≡_, refl, sym, ap, _∙_}
-use Prim.Native.Nat.{ℕ, _+_, _-_, _≤_, _<_}
+use Prim.Native.Nat.{_-_}
 use native.Mathlib.Omega.{arith}
 use borrow.Author.Needs.{needs}
 use lib.ListN.{length}
@@ -9,12 +9,6 @@ use Rattle.play.proofs.Loops.{left-at, left-end, left-start, left-step,
 use Rattle.play.proofs.Lasts.{demand}
 use Rattle.play.proofs.play.Statement.{statement}
 use Rattle.play.proofs.play.Tie as tie
-use Rattle.play.proofs.play.Reads as reads
-use Rattle.play.proofs.play.Lts as lts
-use Rattle.play.proofs.budget_at.Reads as budget-at-reads
-use Rattle.play.proofs.supplied_at.Reads as supplied-at-reads
-use Rattle.run.proofs.resume.Reads as resume-reads
-use Rattle.run.proofs.run.Reads as run-reads
 
 abbrev Inv-loop : tie.InvT-loop
 Inv-loop p inputs regs₀ path₀ budgets flags values r₀ i₀ regs path r i = (length regs ≡ length regs₀) × (length path ≡ length path₀) × (left-at inputs p (length path₀) budgets flags values (seen p r regs path) i ≡ left-at inputs p (length path₀) budgets flags values (seen p r₀ regs₀ path₀) 1)
@@ -22,51 +16,39 @@ Inv-loop p inputs regs₀ path₀ budgets flags values r₀ i₀ regs path r i =
 abbrev μ-loop : tie.MeasureT-loop
 μ-loop p inputs regs₀ path₀ budgets flags values r₀ i₀ regs path r i = length budgets - i
 
--- src/lib.rt:36:49
 budget-at-requires : tie.Need-budget-at-requires Inv-loop μ-loop
 budget-at-requires c κs = search needs
 
--- src/lib.rt:36:9
 run-requires : tie.Need-run-requires Inv-loop μ-loop
 run-requires c κs = search needs
 
--- src/lib.rt:38:5
 loop-holds : tie.Need-loop-holds Inv-loop μ-loop
 loop-holds c = (refl, refl, refl)
 
--- src/lib.rt:39:13
 supplied-at-requires : tie.Need-supplied-at-requires Inv-loop μ-loop
 supplied-at-requires c κs = search needs
 
--- src/lib.rt:41:48
 budget-at-requires-2 : tie.Need-budget-at-requires-2 Inv-loop μ-loop
 budget-at-requires-2 c κs = search needs
 
--- src/lib.rt:41:9
 resume-requires : tie.Need-resume-requires Inv-loop μ-loop
 resume-requires c κs = search needs
 
--- src/lib.rt:42:9
 add-i : tie.Need-add-i Inv-loop μ-loop
 add-i c = omega (arith, c .before .before .before .before .before .before .before .before .before .before .loop-test .taken, c .before .before .before .before .before .before .before .before .before .before .before .before .before .before .before .before .before .before .before .before .before .before .before .before .before .before .before .good .1 .1 .1 .1 .0 .0)
 
--- src/lib.rt:38:5
 loop-less : tie.Need-loop-less Inv-loop μ-loop
 loop-less c = omega arith
 
--- src/lib.rt:38:5
 loop-again : tie.Need-loop-again Inv-loop μ-loop
 loop-again c = (c .before .before .before .before .resume .kept .1 .1 .0 ∙ c .before .before .before .before .before .before .before .before .before .before .before .loop .inv .0, c .before .before .before .before .resume .kept .1 .1 .1 .0 ∙ c .before .before .before .before .before .before .before .before .before .before .before .loop .inv .1, sym (left-step (c .before .before .before .before .before .before .before .before .before .before .before .before .before .before .before .before .before .before .before .before .before .before .before .before .before .before .before .args .inputs .now) (c .before .before .before .before .before .before .before .before .before .before .before .before .before .before .before .before .before .before .before .before .before .before .before .before .before .before .before .args .p .now) _ (c .before .before .before .before .before .before .before .before .before .before .before .before .before .before .before .before .before .before .before .before .before .before .before .before .before .before .before .args .budgets .now) (c .before .before .before .before .before .before .before .before .before .before .before .before .before .before .before .before .before .before .before .before .before .before .before .before .before .before .before .args .flags .now) (c .before .before .before .before .before .before .before .before .before .before .before .before .before .before .before .before .before .before .before .before .before .before .before .before .before .before .before .args .values .now) (c .before .before .before .before .before .before .before .before .before .before .before .loop .r) (c .before .before .before .before .resume .result) (c .before .before .before .before .before .before .before .before .before .before .before .loop .regs) _ (c .before .before .before .before .before .before .before .before .before .before .before .loop .path) _ (c .before .before .before .before .before .before .before .before .before .before .before .loop .i) (c .before .before .before .before .before .budget-at2 .result) (supplied-of (c .before .before .before .before .before .before .before .before .before .supplied-at .result)) (sym (c .before .before .before .before .before .before .before .before .before .before .before .loop .inv .1)) (c .before .before .before .before .before .before .before .before .before .before .loop-test .taken) (c .before .before .before .before .before .budget-at2 .ensures) (c .before .before .before .before .before .before .before .before .before .supplied-at .ensures) (c .before .before .before .before .resume .ensures .0) (c .before .before .before .before .resume .ensures .1 .0)) ∙ c .before .before .before .before .before .before .before .before .before .before .before .loop .inv .2)
 
--- src/lib.rt:31:1
 same-length : tie.Need-same-length Inv-loop μ-loop
 same-length c = c .before .loop .inv .0 ∙ c .before .before .before .before .before .before .run .kept .1 .1 .0
 
--- src/lib.rt:31:1
 same-length-2 : tie.Need-same-length-2 Inv-loop μ-loop
 same-length-2 c = c .before .loop .inv .1 ∙ c .before .before .before .before .before .before .run .kept .1 .1 .1 .0
 
--- src/lib.rt:31:1
 returns : tie.Need-returns Inv-loop μ-loop
 returns c = let e = sym (left-end (c .before .before .before .before .before .before .before .before .before .before .before .before .before .before .before .before .before .args .inputs .now) (c .before .before .before .before .before .before .before .before .before .before .before .before .before .before .before .before .before .args .p .now) _ (c .before .before .before .before .before .before .before .before .before .before .before .before .before .before .before .before .before .args .budgets .now) (c .before .before .before .before .before .before .before .before .before .before .before .before .before .before .before .before .before .args .flags .now) (c .before .before .before .before .before .before .before .before .before .before .before .before .before .before .before .before .before .args .values .now) (seen (c .before .before .before .before .before .before .before .before .before .before .before .before .before .before .before .before .before .args .p .now) (c .before .loop .r) (c .before .loop .regs) (c .before .loop .path)) (c .before .loop .i) (c .loop-test .left)) ∙ c .before .loop .inv .2 ∙ left-start (c .before .before .before .before .before .before .before .before .before .before .before .before .before .before .before .before .before .args .inputs .now) (c .before .before .before .before .before .before .before .before .before .before .before .before .before .before .before .before .before .args .p .now) _ (c .before .before .before .before .before .before .before .before .before .before .before .before .before .before .before .before .before .args .budgets .now) (c .before .before .before .before .before .before .before .before .before .before .before .before .before .before .before .before .before .args .flags .now) (c .before .before .before .before .before .before .before .before .before .before .before .before .before .before .before .before .before .args .values .now) (c .before .before .before .before .before .before .before .before .before .before .before .before .before .before .before .before .before .args .regs .now) _ (c .before .before .before .before .before .before .before .before .before .before .before .before .before .before .before .before .before .args .path .now) _ (c .before .before .before .before .before .before .run .result) (c .before .before .before .before .before .before .before .budget-at .result) (c .before .before .before .before .before .before .run .kept .1 .1 .1 .0) (c .before .before .before .before .before .before .before .budget-at .ensures) (c .before .before .before .before .before .before .run .ensures .0) (c .before .before .before .before .before .before .run .ensures .1) in
     (ap (λ (x : Played). x .reply) e, (ap (λ (x : Played). x .path) e, demand (c .before .before .before .before .before .before .before .before .before .before .before .before .before .before .before .before .before .args .inputs .now) (c .before .before .before .before .before .before .before .before .before .before .before .before .before .before .before .before .before .args .p .now) (c .before .before .before .before .before .before .before .before .before .before .before .before .before .before .before .before .before .args .path .now) (c .before .before .before .before .before .before .before .before .before .before .before .before .before .before .before .before .before .args .budgets .now) (c .before .before .before .before .before .before .before .before .before .before .before .before .before .before .before .before .before .args .flags .now) (c .before .before .before .before .before .before .before .before .before .before .before .before .before .before .before .before .before .args .values .now) (c .before .before .before .before .before .before .before .before .before .before .before .before .before .before .before .before .before .args .regs .now) _ (ap (λ (x : Played). x .reply) e)))

@@ -2,24 +2,16 @@ use Rattle.play.proofs.Loops.{no-value, one-value}
 use borrow.Author.Needs.{needs}
 use Rattle.play.proofs.supplied_at.Statement.{statement}
 use Rattle.play.proofs.supplied_at.Tie as tie
-use Rattle.play.proofs.supplied_at.Reads as reads
-use Rattle.play.proofs.supplied_at.Lts as lts
-use Rattle.instruction.proofs.value_at.Reads as value-at-reads
-use Rattle.reader.proofs.byte.Reads as byte-reads
 
--- src/lib.rt:23:9
 byte-requires : tie.Need-byte-requires
 byte-requires c κs = search needs
 
--- src/lib.rt:25:9
 returns : tie.Need-returns
 returns c = no-value (c .before .before .before .before .args .flags .now) (c .before .before .before .before .args .values .now) (c .before .before .before .before .args .i) (c .before .byte .result) (c .before .byte .ensures) (c .if1 .taken)
 
--- src/lib.rt:27:21
 value-at-requires : tie.Need-value-at-requires
 value-at-requires c κs = search needs
 
--- src/lib.rt:20:1
 returns-2 : tie.Need-returns-2
 returns-2 c = one-value (c .before .before .before .before .before .args .flags .now) (c .before .before .before .before .before .args .values .now) (c .before .before .before .before .before .args .i) (c .before .before .byte .result) (c .value-at .result) (c .before .before .byte .ensures) (c .before .if1 .left) (c .value-at .ensures)
 

@@ -1,18 +1,13 @@
-use mathlib.Core.Path.{_≡_, refl, sym, ap, _∙_}
-use mathlib.Core.Bool.{Bool, true, false, _&&_}
-use Prim.Native.Nat.{ℕ, _+_, _-_, _*_, _≤_, _<_}
+use mathlib.Core.Path.{_≡_, sym, ap, _∙_}
+use Prim.Native.Nat.{ℕ, _-_, _≤_}
 use native.Mathlib.Omega.{arith}
 use lib.Dec.{eqb}
-use Rattle.layout.specs.Decode.{code-count, entry-total}
+use Rattle.layout.specs.Decode.{code-count}
 use Rattle.program.specs.Check.{instructions-ok}
 use Rattle.program.proofs.Head.{code-is, entries-is}
 use Rattle.program.proofs.Pass.{code-end, code-left, code-start, code-step, count-is, entries-in}
 use Rattle.program.proofs.all_instructions_ok.Statement.{statement}
 use Rattle.program.proofs.all_instructions_ok.Tie as tie
-use Rattle.program.proofs.all_instructions_ok.Reads as reads
-use Rattle.program.proofs.all_instructions_ok.Lts as lts
-use Rattle.program.proofs.instruction_ok.Reads as instruction-ok-reads
-use Rattle.program.proofs.read_row.Reads as read-row-reads
 
 abbrev Inv-loop : tie.InvT-loop
 Inv-loop p h code n₀ next₀ n next = (n ≤ code) × (next ≤ h .entries) × (instructions-ok p (code-count p) 0 0 ≡ code-left p n next)
@@ -20,42 +15,35 @@ Inv-loop p h code n₀ next₀ n next = (n ≤ code) × (next ≤ h .entries) ×
 abbrev μ-loop : tie.MeasureT-loop
 μ-loop p h code n₀ next₀ n next = code - n
 
--- src/lib.rt:278:5
 loop-holds : tie.Need-loop-holds Inv-loop μ-loop
 loop-holds c = (omega arith, omega arith, sym (code-start (c .before .args .p .now)))
 
--- src/lib.rt:279:13
 read-row-requires : tie.Need-read-row-requires Inv-loop μ-loop
 read-row-requires c κs = omega (arith, c .before .before .before .pre .1 .code)
 
--- src/lib.rt:280:13
 instruction-ok-requires : tie.Need-instruction-ok-requires Inv-loop μ-loop
 instruction-ok-requires c κs = (c .before .before .before .before .pre .0, c .before .before .before .before .pre .1, c .read-row .ensures .0, c .read-row .ensures .1, omega (arith, c .before .before .before .before .pre .1 .entries))
 
--- src/lib.rt:282:13
 add-next : tie.Need-add-next Inv-loop μ-loop
 add-next c = omega (arith, c .before .before .before .before .before .before .before .pre .1 .entries, c .before .before .before .read-row .ensures .1 .count)
 
--- src/lib.rt:283:13
 add-n : tie.Need-add-n Inv-loop μ-loop
 add-n c = omega (arith, c .before .before .before .before .before .before .before .pre .1 .code)
 
--- src/lib.rt:278:5
 loop-less : tie.Need-loop-less Inv-loop μ-loop
 loop-less c = omega arith
 
--- src/lib.rt:278:5
 loop-again : tie.Need-loop-again Inv-loop μ-loop
-loop-again c = let k = count-is (c .before .before .before .before .before .before .before .args .p .now) (c .before .before .before .before .before .loop .n) (c .before .before .before .before .before .before .before .args .h) (c .before .before .before .read-row .result) (c .before .before .before .before .before .before .before .pre .0) (c .before .before .before .read-row .ensures .0) in
-    (omega arith, omega (arith, entries-is (c .before .before .before .before .before .before .before .args .p .now) (c .before .before .before .before .before .before .before .args .h) (c .before .before .before .before .before .before .before .pre .0), entries-in (c .before .before .before .before .before .before .before .args .p .now) (c .before .before .before .before .before .loop .n) (c .before .before .before .before .before .loop .next) (c .before .before .before .read-row .result .count) k (sym (c .before .before .instruction-ok .ensures) ∙ c .before .if1 .taken)),
-    c .before .before .before .before .before .loop .inv .2 ∙ code-step (c .before .before .before .before .before .before .before .args .p .now) (c .before .before .before .before .before .loop .n) (c .before .before .before .before .before .loop .next) (c .before .before .before .read-row .result .count) (omega (arith, code-is (c .before .before .before .before .before .before .before .args .p .now) (c .before .before .before .before .before .before .before .args .h) (c .before .before .before .before .before .before .before .pre .0))) k ∙ rw (sym (c .before .before .instruction-ok .ensures) ∙ c .before .if1 .taken))
+loop-again c = let k = count-is (c .before .before .before .before .before .before .before .args .p .now) (c .before .before .before .before .before .loop .n) (c .before .before .before .before .before .before .before .args .h) (c .before .before .before .read-row .result) (c .before .before .before .before .before .before .before .pre .0) (c .before .before .before .read-row .ensures .0) in (
+  omega arith,
+  omega (arith, entries-is (c .before .before .before .before .before .before .before .args .p .now) (c .before .before .before .before .before .before .before .args .h) (c .before .before .before .before .before .before .before .pre .0), entries-in (c .before .before .before .before .before .before .before .args .p .now) (c .before .before .before .before .before .loop .n) (c .before .before .before .before .before .loop .next) (c .before .before .before .read-row .result .count) k (sym (c .before .before .instruction-ok .ensures) ∙ c .before .if1 .taken)),
+  c .before .before .before .before .before .loop .inv .2 ∙ code-step (c .before .before .before .before .before .before .before .args .p .now) (c .before .before .before .before .before .loop .n) (c .before .before .before .before .before .loop .next) (c .before .before .before .read-row .result .count) (omega (arith, code-is (c .before .before .before .before .before .before .before .args .p .now) (c .before .before .before .before .before .before .before .args .h) (c .before .before .before .before .before .before .before .pre .0))) k ∙ rw (sym (c .before .before .instruction-ok .ensures) ∙ c .before .if1 .taken),
+)
 
--- src/lib.rt:285:13
 returns : tie.Need-returns Inv-loop μ-loop
 returns c = let k = count-is (c .before .before .before .before .before .before .args .p .now) (c .before .before .before .before .loop .n) (c .before .before .before .before .before .before .args .h) (c .before .before .read-row .result) (c .before .before .before .before .before .before .pre .0) (c .before .before .read-row .ensures .0) in
     sym (c .before .before .before .before .loop .inv .2 ∙ code-step (c .before .before .before .before .before .before .args .p .now) (c .before .before .before .before .loop .n) (c .before .before .before .before .loop .next) (c .before .before .read-row .result .count) (omega (arith, code-is (c .before .before .before .before .before .before .args .p .now) (c .before .before .before .before .before .before .args .h) (c .before .before .before .before .before .before .pre .0))) k ∙ rw (sym (c .before .instruction-ok .ensures) ∙ c .if1 .left))
 
--- src/lib.rt:271:1
 returns-2 : tie.Need-returns-2 Inv-loop μ-loop
 returns-2 c = sym (c .before .before .loop .inv .2 ∙ code-end (c .before .before .before .before .args .p .now) (c .before .before .loop .n) (c .before .before .loop .next) (omega (arith, code-is (c .before .before .before .before .args .p .now) (c .before .before .before .before .args .h) (c .before .before .before .before .pre .0))) ∙ ap (λ (x : ℕ). eqb (c .before .before .loop .next) x) (sym (entries-is (c .before .before .before .before .args .p .now) (c .before .before .before .before .args .h) (c .before .before .before .before .pre .0))))
 

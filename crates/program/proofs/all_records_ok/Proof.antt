@@ -1,15 +1,11 @@
-use mathlib.Core.Path.{_≡_, refl, sym, ap, _∙_}
-use mathlib.Core.Bool.{Bool, true, false, _&&_}
-use Prim.Native.Nat.{ℕ, _+_, _-_, _*_, _≤_, _<_}
+use mathlib.Core.Path.{_≡_, sym, _∙_}
+use Prim.Native.Nat.{_-_, _≤_}
 use native.Mathlib.Omega.{arith}
 use Rattle.layout.specs.Decode.{path-total, records-ok}
 use Rattle.program.proofs.Head.{paths-is}
 use Rattle.program.proofs.Records.{records-end, records-left, records-start, records-step}
 use Rattle.program.proofs.all_records_ok.Statement.{statement}
 use Rattle.program.proofs.all_records_ok.Tie as tie
-use Rattle.program.proofs.all_records_ok.Reads as reads
-use Rattle.program.proofs.all_records_ok.Lts as lts
-use Rattle.program.proofs.record_ok.Reads as record-ok-reads
 
 abbrev Inv-loop : tie.InvT-loop
 Inv-loop p h paths k₀ k = (k ≤ paths) × (records-ok p (path-total p) 0 ≡ records-left p k)
@@ -17,31 +13,24 @@ Inv-loop p h paths k₀ k = (k ≤ paths) × (records-ok p (path-total p) 0 ≡ 
 abbrev μ-loop : tie.MeasureT-loop
 μ-loop p h paths k₀ k = paths - k
 
--- src/lib.rt:93:5
 loop-holds : tie.Need-loop-holds Inv-loop μ-loop
 loop-holds c = (omega arith, sym (records-start (c .before .args .p .now)))
 
--- src/lib.rt:94:13
 record-ok-requires : tie.Need-record-ok-requires Inv-loop μ-loop
 record-ok-requires c κs = (c .before .before .before .pre .0, c .before .before .before .pre .1, omega (arith, c .before .before .before .pre .1 .paths))
 
--- src/lib.rt:96:13
 add-k : tie.Need-add-k Inv-loop μ-loop
 add-k c = omega (arith, c .before .before .before .before .before .pre .1 .paths)
 
--- src/lib.rt:93:5
 loop-less : tie.Need-loop-less Inv-loop μ-loop
 loop-less c = omega arith
 
--- src/lib.rt:93:5
 loop-again : tie.Need-loop-again Inv-loop μ-loop
 loop-again c = (omega arith, c .before .before .before .loop .inv .1 ∙ records-step (c .before .before .before .before .before .args .p .now) (c .before .before .before .loop .k) (omega (arith, paths-is (c .before .before .before .before .before .args .p .now) (c .before .before .before .before .before .args .h) (c .before .before .before .before .before .pre .0))) ∙ rw (sym (c .before .record-ok .ensures) ∙ c .if1 .taken))
 
--- src/lib.rt:98:13
 returns : tie.Need-returns Inv-loop μ-loop
 returns c = sym (c .before .before .before .loop .inv .1 ∙ records-step (c .before .before .before .before .before .args .p .now) (c .before .before .before .loop .k) (omega (arith, paths-is (c .before .before .before .before .before .args .p .now) (c .before .before .before .before .before .args .h) (c .before .before .before .before .before .pre .0))) ∙ rw (sym (c .before .record-ok .ensures) ∙ c .if1 .left))
 
--- src/lib.rt:87:1
 returns-2 : tie.Need-returns-2 Inv-loop μ-loop
 returns-2 c = sym (c .before .loop .inv .1 ∙ records-end (c .before .before .before .args .p .now) (c .before .loop .k) (omega (arith, paths-is (c .before .before .before .args .p .now) (c .before .before .before .args .h) (c .before .before .before .pre .0))))
 

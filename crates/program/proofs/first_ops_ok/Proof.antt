@@ -1,41 +1,29 @@
-use mathlib.Core.Path.{_≡_, refl, sym, ap, _∙_}
 use borrow.Author.Tests.{lt-ltb, le-ltb, ne-eqb}
 use borrow.Author.Needs.{needs}
 use Rattle.program.proofs.first_ops_ok.Statement.{statement}
 use Rattle.program.proofs.first_ops_ok.Tie as tie
-use Rattle.program.proofs.first_ops_ok.Reads as reads
-use Rattle.program.proofs.first_ops_ok.Lts as lts
-use Rattle.program.proofs.forward.Reads as forward-reads
 
--- src/lib.rt:226:35
 forward-requires : tie.Need-forward-requires
 forward-requires c κs = search needs
 
--- src/lib.rt:227:14
 forward-requires-2 : tie.Need-forward-requires-2
 forward-requires-2 c κs = search needs
 
--- src/lib.rt:218:1
 returns : tie.Need-returns
 returns c = rw (c .match .keys1)
 
--- src/lib.rt:218:1
 returns-2 : tie.Need-returns-2
 returns-2 c = rw (c .before .before .match .keys2)
 
--- src/lib.rt:218:1
 returns-3 : tie.Need-returns-3
 returns-3 c = rw (c .before .before .before .before .match .keys3, lt-ltb _ _ (c .before .if1 .taken)) (c .forward .ensures)
 
--- src/lib.rt:218:1
 returns-4 : tie.Need-returns-4
 returns-4 c = rw (c .before .before .before .match .keys3, le-ltb _ _ (c .if1 .left))
 
--- src/lib.rt:218:1
 returns-5 : tie.Need-returns-5
 returns-5 c = rw (c .before .match .keys4) (c .forward2 .ensures)
 
--- src/lib.rt:218:1
 returns-6 : tie.Need-returns-6
 returns-6 c = rw (ne-eqb _ 0 (c .before .before .match .rest .0 .0 .0 .1), ne-eqb _ 1 (c .before .before .match .rest .0 .0 .1), ne-eqb _ 3 (c .before .before .match .rest .0 .1), ne-eqb _ 4 (c .before .before .match .rest .1))
 

@@ -1,14 +1,10 @@
 use borrow.Author.Tests.{lt-ltb, le-ltb}
 use Rattle.program.proofs.forward.Statement.{statement}
 use Rattle.program.proofs.forward.Tie as tie
-use Rattle.program.proofs.forward.Reads as reads
-use Rattle.program.proofs.forward.Lts as lts
 
--- src/lib.rt:211:1
 returns : tie.Need-returns
 returns c = rw (lt-ltb _ _ (c .if1 .taken))
 
--- src/lib.rt:211:1
 returns-2 : tie.Need-returns-2
 returns-2 c = rw (le-ltb _ _ (c .if1 .left))
 

@@ -1,77 +1,61 @@
-use mathlib.Core.Path.{_≡_, refl, sym, ap, _∙_}
-use mathlib.Core.Bool.{Bool, true, false}
-use Prim.Native.Nat.{ℕ, _+_, _-_, _*_, _≤_, _<_}
+use mathlib.Core.Path.{_≡_, sym, _∙_}
+use mathlib.Core.Bool.{true, false}
+use Prim.Native.Nat.{_-_}
 use native.Mathlib.Omega.{arith}
 use borrow.Author.Tests.{eq-eqb, ne-eqb, lt-ltb, le-ltb, le-leb, lt-leb}
 use lib.ListN.{length}
-use lib.Dec.{eqb, leb, ltb}
+use lib.Dec.{leb, ltb}
 use Rattle.formula.specs.Text.{word-at}
 use Rattle.layout.specs.Image.{magic}
-use Rattle.layout.specs.Decode.{code-count, entry-at, entry-total, register-total, result-at}
+use Rattle.layout.specs.Decode.{code-count, entry-at, entry-total}
 use Rattle.program.specs.Check.{header-ok}
 use Rattle.program.proofs.Head.{code-is, end-is, registers-is, result-is}
 use borrow.Author.Needs.{needs}
 use Rattle.program.proofs.header_ok.Statement.{statement}
 use Rattle.program.proofs.header_ok.Tie as tie
-use Rattle.program.proofs.header_ok.Reads as reads
-use Rattle.program.proofs.header_ok.Lts as lts
-use Rattle.reader.proofs.word.Reads as word-reads
 
--- src/lib.rt:47:9
 returns : tie.Need-returns
 unfolding header-ok
 returns c = rw (lt-leb 32 (length (c .before .before .args .p .now)) (c .if1 .taken))
 
--- src/lib.rt:49:8
 word-requires : tie.Need-word-requires
 word-requires c κs = search needs
 
--- src/lib.rt:50:9
 returns-2 : tie.Need-returns-2
 unfolding header-ok
 returns-2 c = rw (le-leb 32 (length (c .before .before .before .before .args .p .now)) (c .before .before .if1 .left), ne-eqb (word-at (c .before .before .before .before .args .p .now) 0) magic (λ z. c .if2 .taken (c .before .word .ensures .0 ∙ z)))
 
--- src/lib.rt:52:12
 word-requires-2 : tie.Need-word-requires-2
 word-requires-2 c κs = search needs
 
--- src/lib.rt:53:9
 returns-3 : tie.Need-returns-3
 unfolding header-ok
 returns-3 c = let k : ltb (word-at (c .before .before .before .before .before .before .args .p .now) 20) 2 ≡ false = le-ltb (word-at (c .before .before .before .before .before .before .args .p .now) 20) 2 (omega (arith, c .before .word2 .ensures .0)) in rw (le-leb 32 (length (c .before .before .before .before .before .before .args .p .now)) (c .before .before .before .before .if1 .left), eq-eqb (word-at (c .before .before .before .before .before .before .args .p .now) 0) magic (sym (c .before .before .before .word .ensures .0) ∙ c .before .before .if2 .left), k)
 
--- src/lib.rt:55:23
 mul-if4 : tie.Need-mul-if4
 mul-if4 c = omega (arith, c .before .before .before .before .before .before .before .pre .1 .code)
 
--- src/lib.rt:55:18
 add-if4 : tie.Need-add-if4
 add-if4 c = omega (arith, c .before .before .before .before .before .before .before .pre .1 .code)
 
--- src/lib.rt:55:37
 mul-if4-2 : tie.Need-mul-if4-2
 mul-if4-2 c = omega (arith, c .before .before .before .before .before .before .before .before .pre .1 .code, c .before .before .before .before .before .before .before .before .pre .1 .paths)
 
--- src/lib.rt:55:18
 add-if4-2 : tie.Need-add-if4-2
 add-if4-2 c = omega (arith, c .before .before .before .before .before .before .before .before .pre .1 .code, c .before .before .before .before .before .before .before .before .pre .1 .paths)
 
--- src/lib.rt:55:52
 mul-if4-3 : tie.Need-mul-if4-3
 mul-if4-3 c = omega (arith, c .before .before .before .before .before .before .before .before .before .pre .1 .code, c .before .before .before .before .before .before .before .before .before .pre .1 .paths, c .before .before .before .before .before .before .before .before .before .pre .1 .entries)
 
--- src/lib.rt:55:18
 add-if4-3 : tie.Need-add-if4-3
 add-if4-3 c = omega (arith, c .before .before .before .before .before .before .before .before .before .pre .1 .code, c .before .before .before .before .before .before .before .before .before .pre .1 .paths, c .before .before .before .before .before .before .before .before .before .pre .1 .entries)
 
--- src/lib.rt:56:9
 returns-4 : tie.Need-returns-4
 unfolding header-ok
 returns-4 c = let k : ltb (word-at (c .before .before .before .before .before .before .before .before .before .before .args .p .now) 20) 2 ≡ true = lt-ltb (word-at (c .before .before .before .before .before .before .before .before .before .before .args .p .now) 20) 2 (omega (arith, c .before .before .before .before .before .word2 .ensures .0)) in
     let l : leb (entry-at (c .before .before .before .before .before .before .before .before .before .before .args .p .now) (entry-total (c .before .before .before .before .before .before .before .before .before .before .args .p .now))) (length (c .before .before .before .before .before .before .before .before .before .before .args .p .now)) ≡ false = lt-leb (entry-at (c .before .before .before .before .before .before .before .before .before .before .args .p .now) (entry-total (c .before .before .before .before .before .before .before .before .before .before .args .p .now))) (length (c .before .before .before .before .before .before .before .before .before .before .args .p .now)) (omega (arith, end-is (c .before .before .before .before .before .before .before .before .before .before .args .p .now) (c .before .before .before .before .before .before .before .before .before .before .args .h) (c .before .before .before .before .before .before .before .before .before .before .pre .0))) in
     rw (le-leb 32 (length (c .before .before .before .before .before .before .before .before .before .before .args .p .now)) (c .before .before .before .before .before .before .before .before .if1 .left), eq-eqb (word-at (c .before .before .before .before .before .before .before .before .before .before .args .p .now) 0) magic (sym (c .before .before .before .before .before .before .before .word .ensures .0) ∙ c .before .before .before .before .before .before .if2 .left), k, l)
 
--- src/lib.rt:42:1
 returns-5 : tie.Need-returns-5
 unfolding header-ok
 returns-5 c = let k : ltb (word-at (c .before .before .before .before .before .before .before .before .before .before .before .before .before .args .p .now) 20) 2 ≡ true = lt-ltb (word-at (c .before .before .before .before .before .before .before .before .before .before .before .before .before .args .p .now) 20) 2 (omega (arith, c .before .before .before .before .before .before .before .before .word2 .ensures .0)) in
@@ -79,7 +63,6 @@ returns-5 c = let k : ltb (word-at (c .before .before .before .before .before .b
     let m : ltb 0 (code-count (c .before .before .before .before .before .before .before .before .before .before .before .before .before .args .p .now)) ≡ true = lt-ltb 0 (code-count (c .before .before .before .before .before .before .before .before .before .before .before .before .before .args .p .now)) (omega (arith, code-is (c .before .before .before .before .before .before .before .before .before .before .before .before .before .args .p .now) (c .before .before .before .before .before .before .before .before .before .before .before .before .before .args .h) (c .before .before .before .before .before .before .before .before .before .before .before .before .before .pre .0))) in
     rw (le-leb 32 (length (c .before .before .before .before .before .before .before .before .before .before .before .before .before .args .p .now)) (c .before .before .before .before .before .before .before .before .before .before .before .if1 .left), eq-eqb (word-at (c .before .before .before .before .before .before .before .before .before .before .before .before .before .args .p .now) 0) magic (sym (c .before .before .before .before .before .before .before .before .before .before .word .ensures .0) ∙ c .before .before .before .before .before .before .before .before .before .if2 .left), k, l, m, registers-is (c .before .before .before .before .before .before .before .before .before .before .before .before .before .args .p .now) (c .before .before .before .before .before .before .before .before .before .before .before .before .before .args .h) (c .before .before .before .before .before .before .before .before .before .before .before .before .before .pre .0), result-is (c .before .before .before .before .before .before .before .before .before .before .before .before .before .args .p .now) (c .before .before .before .before .before .before .before .before .before .before .before .before .before .args .h) (c .before .before .before .before .before .before .before .before .before .before .before .before .before .pre .0))
 
--- src/lib.rt:42:1
 returns-6 : tie.Need-returns-6
 unfolding header-ok
 returns-6 c = let k : ltb (word-at (c .before .before .before .before .before .before .before .before .before .before .before .before .args .p .now) 20) 2 ≡ true = lt-ltb (word-at (c .before .before .before .before .before .before .before .before .before .before .before .before .args .p .now) 20) 2 (omega (arith, c .before .before .before .before .before .before .before .word2 .ensures .0)) in

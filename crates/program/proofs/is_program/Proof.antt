@@ -1,41 +1,28 @@
-use mathlib.Core.Path.{_≡_, refl, sym, ap, _∙_}
+use mathlib.Core.Path.{_∙_}
 use Rattle.program.proofs.Tests.{both, stop}
 use Rattle.program.proofs.Pass.{valid-is}
 use borrow.Author.Needs.{needs}
 use Rattle.program.proofs.is_program.Statement.{statement}
 use Rattle.program.proofs.is_program.Tie as tie
-use Rattle.program.proofs.is_program.Reads as reads
-use Rattle.program.proofs.is_program.Lts as lts
-use Rattle.program.proofs.all_instructions_ok.Reads as all-instructions-ok-reads
-use Rattle.program.proofs.all_records_ok.Reads as all-records-ok-reads
-use Rattle.program.proofs.header_ok.Reads as header-ok-reads
-use Rattle.program.proofs.read_header.Reads as read-header-reads
 
--- src/lib.rt:295:9
 read-header-requires : tie.Need-read-header-requires
 read-header-requires c κs = search needs
 
--- src/lib.rt:296:5
 header-ok-requires : tie.Need-header-ok-requires
 header-ok-requires c κs = c .read-header .ensures
 
--- src/lib.rt:296:25
 all-records-ok-requires : tie.Need-all-records-ok-requires
 all-records-ok-requires c κs = c .before .before .read-header .ensures
 
--- src/lib.rt:296:49
 all-instructions-ok-requires : tie.Need-all-instructions-ok-requires
 all-instructions-ok-requires c κs = c .before .before .before .before .read-header .ensures
 
--- src/lib.rt:292:1
 returns : tie.Need-returns
 returns c = both (c .before .before .before .before .header-ok .ensures) (c .before .before .before .if1 .taken) (both (c .before .before .all-records-ok .ensures) (c .before .if2 .taken) (c .all-instructions-ok .ensures)) ∙ valid-is (c .before .before .before .before .before .before .before .args .p .now)
 
--- src/lib.rt:292:1
 returns-2 : tie.Need-returns-2
 returns-2 c = both (c .before .before .before .header-ok .ensures) (c .before .before .if1 .taken) (stop _ (c .before .all-records-ok .ensures) (c .if2 .left)) ∙ valid-is (c .before .before .before .before .before .before .args .p .now)
 
--- src/lib.rt:292:1
 returns-3 : tie.Need-returns-3
 returns-3 c = stop _ (c .before .header-ok .ensures) (c .if1 .left) ∙ valid-is (c .before .before .before .before .args .p .now)
 

@@ -1,6 +1,5 @@
-use mathlib.Core.Path.{_≡_, refl, sym, ap, _∙_}
-use mathlib.Core.Bool.{Bool, true, false, _&&_}
-use Prim.Native.Nat.{ℕ, _+_, _-_, _*_, _≤_, _<_}
+use mathlib.Core.Path.{_≡_, sym, ap, _∙_}
+use Prim.Native.Nat.{_-_, _≤_}
 use native.Mathlib.Omega.{arith}
 use borrow.Author.Needs.{needs}
 use borrow.Author.Tests.{lt-ltb, le-ltb}
@@ -10,9 +9,6 @@ use Rattle.layout.specs.Decode.{entries-from}
 use Rattle.program.proofs.Ops.{below-end, below-left, below-start, below-step, entry-place}
 use Rattle.program.proofs.list_below.Statement.{statement}
 use Rattle.program.proofs.list_below.Tie as tie
-use Rattle.program.proofs.list_below.Reads as reads
-use Rattle.program.proofs.list_below.Lts as lts
-use Rattle.reader.proofs.word.Reads as word-reads
 
 abbrev Inv-loop : tie.InvT-loop
 Inv-loop p first registers a count i₀ i = (i ≤ count) × (all-below registers (entries-from p count a) ≡ below-left p registers count a i)
@@ -20,59 +16,45 @@ Inv-loop p first registers a count i₀ i = (i ≤ count) × (all-below register
 abbrev μ-loop : tie.MeasureT-loop
 μ-loop p first registers a count i₀ i = count - i
 
--- src/lib.rt:197:22
 mul-first : tie.Need-mul-first Inv-loop μ-loop
 mul-first c = omega (arith, c .before .before .pre .1 .code)
 
--- src/lib.rt:197:17
 add-first : tie.Need-add-first Inv-loop μ-loop
 add-first c = omega (arith, c .before .before .pre .1 .code)
 
--- src/lib.rt:197:36
 mul-first-2 : tie.Need-mul-first-2 Inv-loop μ-loop
 mul-first-2 c = omega (arith, c .before .before .before .pre .1 .code, c .before .before .before .pre .1 .paths)
 
--- src/lib.rt:197:17
 add-first-2 : tie.Need-add-first-2 Inv-loop μ-loop
 add-first-2 c = omega (arith, c .before .before .before .pre .1 .code, c .before .before .before .pre .1 .paths)
 
--- src/lib.rt:202:5
 loop-holds : tie.Need-loop-holds Inv-loop μ-loop
 loop-holds c = (omega arith, below-start (c .before .before .before .args .p .now) (c .before .before .before .args .h .registers) (c .before .before .before .args .r .count) (c .before .before .before .args .r .a))
 
--- src/lib.rt:203:33
 add-word : tie.Need-add-word Inv-loop μ-loop
 add-word c = omega (arith, c .before .before .before .before .before .pre .2 .a, c .before .before .before .before .before .pre .2 .count)
 
--- src/lib.rt:203:28
 mul-word : tie.Need-mul-word Inv-loop μ-loop
 mul-word c = omega (arith, c .before .before .before .before .before .pre .2 .a, c .before .before .before .before .before .pre .2 .count)
 
--- src/lib.rt:203:20
 add-word-2 : tie.Need-add-word-2 Inv-loop μ-loop
 add-word-2 c = omega (arith, c .before .before .before .before .before .pre .1 .code, c .before .before .before .before .before .pre .1 .paths, c .before .before .before .before .before .pre .2 .a, c .before .before .before .before .before .pre .2 .count)
 
--- src/lib.rt:203:12
 word-requires : tie.Need-word-requires Inv-loop μ-loop
 word-requires c κs = search needs
 
--- src/lib.rt:204:13
 add-i : tie.Need-add-i Inv-loop μ-loop
 add-i c = omega (arith, c .before .before .before .before .before .before .before .pre .2 .count)
 
--- src/lib.rt:202:5
 loop-less : tie.Need-loop-less Inv-loop μ-loop
 loop-less c = omega arith
 
--- src/lib.rt:202:5
 loop-again : tie.Need-loop-again Inv-loop μ-loop
 loop-again c = (omega arith, c .before .before .before .loop .inv .1 ∙ below-step (c .before .before .before .before .before .before .before .args .p .now) (c .before .before .before .before .before .before .before .args .h .registers) (c .before .before .before .before .before .before .before .args .r .count) (c .before .before .before .before .before .before .before .args .r .a) (c .before .before .before .loop .i) (c .before .word .result) (c .before .before .loop-test .taken) (c .before .word .ensures .0 ∙ ap (word-at (c .before .before .before .before .before .before .before .args .p .now)) (entry-place (c .before .before .before .before .before .before .before .args .p .now) (c .before .before .before .before .before .before .before .args .h) (c .before .before .before .before .before .before .before .args .r .a) (c .before .before .before .loop .i) (c .before .before .before .before .before .before .before .pre .0))) ∙ rw (lt-ltb _ _ (c .if1 .taken)))
 
--- src/lib.rt:206:13
 returns : tie.Need-returns Inv-loop μ-loop
 returns c = sym (c .before .before .before .loop .inv .1 ∙ below-step (c .before .before .before .before .before .before .before .args .p .now) (c .before .before .before .before .before .before .before .args .h .registers) (c .before .before .before .before .before .before .before .args .r .count) (c .before .before .before .before .before .before .before .args .r .a) (c .before .before .before .loop .i) (c .before .word .result) (c .before .before .loop-test .taken) (c .before .word .ensures .0 ∙ ap (word-at (c .before .before .before .before .before .before .before .args .p .now)) (entry-place (c .before .before .before .before .before .before .before .args .p .now) (c .before .before .before .before .before .before .before .args .h) (c .before .before .before .before .before .before .before .args .r .a) (c .before .before .before .loop .i) (c .before .before .before .before .before .before .before .pre .0))) ∙ rw (le-ltb _ _ (c .if1 .left)))
 
--- src/lib.rt:193:1
 returns-2 : tie.Need-returns-2 Inv-loop μ-loop
 returns-2 c = sym (c .before .loop .inv .1 ∙ below-end (c .before .before .before .before .before .args .p .now) (c .before .before .before .before .before .args .h .registers) (c .before .before .before .before .before .args .r .count) (c .before .before .before .before .before .args .r .a) (c .before .loop .i) (c .loop-test .left))
 

@@ -1,29 +1,21 @@
-use mathlib.Core.Path.{_≡_, refl, sym, ap, _∙_}
+use mathlib.Core.Path.{sym, _∙_}
 use borrow.Author.Tests.{eq-eqb, ne-eqb}
-use Rattle.layout.specs.Decode.{uses-list}
 use Rattle.program.specs.Check.{list-fields-ok}
 use borrow.Author.Needs.{needs}
 use Rattle.program.proofs.list_ok.Statement.{statement}
 use Rattle.program.proofs.list_ok.Tie as tie
-use Rattle.program.proofs.list_ok.Reads as reads
-use Rattle.program.proofs.list_ok.Lts as lts
-use Rattle.program.proofs.lists.Reads as lists-reads
 
--- src/lib.rt:185:9
 lists-requires : tie.Need-lists-requires
 lists-requires c κs = search needs
 
--- src/lib.rt:187:9
 returns : tie.Need-returns
 unfolding list-fields-ok
 returns c = rw (sym (c .before .before .before .before .lists .ensures) ∙ c .before .before .before .if1 .taken, eq-eqb _ _ (c .before .if2 .taken))
 
--- src/lib.rt:187:9
 returns-2 : tie.Need-returns-2
 unfolding list-fields-ok
 returns-2 c = rw (sym (c .before .before .before .lists .ensures) ∙ c .before .before .if1 .taken, ne-eqb _ _ (c .if2 .left))
 
--- src/lib.rt:182:1
 returns-3 : tie.Need-returns-3
 unfolding list-fields-ok
 returns-3 c = rw (sym (c .before .lists .ensures) ∙ c .if1 .left)

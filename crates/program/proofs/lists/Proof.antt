@@ -1,14 +1,10 @@
-use borrow.Author.Tests.{eq-eqb, ne-eqb}
+use borrow.Author.Tests.{ne-eqb}
 use Rattle.program.proofs.lists.Statement.{statement}
 use Rattle.program.proofs.lists.Tie as tie
-use Rattle.program.proofs.lists.Reads as reads
-use Rattle.program.proofs.lists.Lts as lts
 
--- src/lib.rt:135:1
 returns : tie.Need-returns
 returns c = rw (c .if1 .taken)
 
--- src/lib.rt:135:1
 returns-2 : tie.Need-returns-2
 returns-2 c = rw (ne-eqb _ 31 (c .if1 .left))
 

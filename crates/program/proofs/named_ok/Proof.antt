@@ -1,4 +1,3 @@
-use mathlib.Core.Path.{_≡_, refl, sym, ap, _∙_}
 use native.Mathlib.Omega.{arith}
 use borrow.Author.Tests.{lt-ltb, le-ltb, le-leb, lt-leb}
 use Rattle.program.specs.Check.{named-ok}
@@ -7,59 +6,43 @@ use Rattle.program.proofs.Pass.{destination-fits, list-fits, path-fits}
 use borrow.Author.Needs.{needs}
 use Rattle.program.proofs.named_ok.Statement.{statement}
 use Rattle.program.proofs.named_ok.Tie as tie
-use Rattle.program.proofs.named_ok.Reads as reads
-use Rattle.program.proofs.named_ok.Lts as lts
-use Rattle.program.proofs.op_ok.Reads as op-ok-reads
-use Rattle.reader.proofs.word.Reads as word-reads
 
--- src/lib.rt:259:5
 add-if1 : tie.Need-add-if1
 add-if1 c = omega (arith, c .before .before .pre .3 .count, c .before .before .pre .5)
 
--- src/lib.rt:261:30
 mul-word : tie.Need-mul-word
 mul-word c = omega (arith, c .before .before .before .before .before .before .before .before .pre .1 .code)
 
--- src/lib.rt:261:25
 add-word : tie.Need-add-word
 add-word c = omega (arith, c .before .before .before .before .before .before .before .before .pre .1 .code)
 
--- src/lib.rt:261:44
 mul-word-2 : tie.Need-mul-word-2
 mul-word-2 c = omega (arith, c .before .before .before .before .before .before .before .before .before .pre .1 .code, c .before .before .before .before .before .before .before .before .before .pre .3 .path)
 
--- src/lib.rt:261:25
 add-word-2 : tie.Need-add-word-2
 add-word-2 c = omega (arith, c .before .before .before .before .before .before .before .before .before .pre .1 .code, c .before .before .before .before .before .before .before .before .before .pre .3 .path)
 
--- src/lib.rt:261:25
 add-word-3 : tie.Need-add-word-3
 add-word-3 c = omega (arith, c .before .before .before .before .before .before .before .before .before .pre .1 .code, c .before .before .before .before .before .before .before .before .before .pre .3 .path)
 
--- src/lib.rt:261:17
 word-requires : tie.Need-word-requires
 word-requires c κs = search needs
 
--- src/lib.rt:261:72
 op-ok-requires : tie.Need-op-ok-requires
 op-ok-requires c κs = (c .before .before .before .before .before .before .before .before .before .before .before .pre .0, c .before .before .before .before .before .before .before .before .before .before .before .pre .1, c .before .before .before .before .before .before .before .before .before .before .before .pre .2, c .before .before .before .before .before .before .before .before .before .before .before .pre .3, c .before .before .before .before .before .before .before .before .before .before .before .pre .4)
 
--- src/lib.rt:255:1
 returns : tie.Need-returns
 unfolding named-ok
 returns c = both (list-fits (c .before .before .before .before .before .before .before .before .before .before .before .before .args .p .now) (c .before .before .before .before .before .before .before .before .before .before .before .before .args .n) (c .before .before .before .before .before .before .before .before .before .before .before .before .args .h) (c .before .before .before .before .before .before .before .before .before .before .before .before .args .r) (c .before .before .before .before .before .before .before .before .before .before .before .before .pre .0) (c .before .before .before .before .before .before .before .before .before .before .before .before .pre .2) (c .before .before .before .before .before .before .before .before .before .before .before .before .args .next)) (le-leb _ _ (c .before .before .before .before .before .before .before .before .if1 .taken)) (both (destination-fits (c .before .before .before .before .before .before .before .before .before .before .before .before .args .p .now) (c .before .before .before .before .before .before .before .before .before .before .before .before .args .n) (c .before .before .before .before .before .before .before .before .before .before .before .before .args .h) (c .before .before .before .before .before .before .before .before .before .before .before .before .args .r) (c .before .before .before .before .before .before .before .before .before .before .before .before .pre .0) (c .before .before .before .before .before .before .before .before .before .before .before .before .pre .2)) (lt-ltb _ _ (c .before .before .before .before .before .if2 .taken)) (both (path-fits (c .before .before .before .before .before .before .before .before .before .before .before .before .args .p .now) (c .before .before .before .before .before .before .before .before .before .before .before .before .args .n) (c .before .before .before .before .before .before .before .before .before .before .before .before .args .h) (c .before .before .before .before .before .before .before .before .before .before .before .before .args .r) (c .before .before .before .before .before .before .before .before .before .before .before .before .pre .0) (c .before .before .before .before .before .before .before .before .before .before .before .before .pre .2) (c .before .before .word .result) (c .before .before .word .ensures .0)) (le-leb _ _ (c .before .if3 .taken)) (c .op-ok .ensures)))
 
--- src/lib.rt:255:1
 returns-2 : tie.Need-returns-2
 unfolding named-ok
 returns-2 c = both (list-fits (c .before .before .before .before .before .before .before .before .before .before .before .args .p .now) (c .before .before .before .before .before .before .before .before .before .before .before .args .n) (c .before .before .before .before .before .before .before .before .before .before .before .args .h) (c .before .before .before .before .before .before .before .before .before .before .before .args .r) (c .before .before .before .before .before .before .before .before .before .before .before .pre .0) (c .before .before .before .before .before .before .before .before .before .before .before .pre .2) (c .before .before .before .before .before .before .before .before .before .before .before .args .next)) (le-leb _ _ (c .before .before .before .before .before .before .before .if1 .taken)) (both (destination-fits (c .before .before .before .before .before .before .before .before .before .before .before .args .p .now) (c .before .before .before .before .before .before .before .before .before .before .before .args .n) (c .before .before .before .before .before .before .before .before .before .before .before .args .h) (c .before .before .before .before .before .before .before .before .before .before .before .args .r) (c .before .before .before .before .before .before .before .before .before .before .before .pre .0) (c .before .before .before .before .before .before .before .before .before .before .before .pre .2)) (lt-ltb _ _ (c .before .before .before .before .if2 .taken)) (stop _ (path-fits (c .before .before .before .before .before .before .before .before .before .before .before .args .p .now) (c .before .before .before .before .before .before .before .before .before .before .before .args .n) (c .before .before .before .before .before .before .before .before .before .before .before .args .h) (c .before .before .before .before .before .before .before .before .before .before .before .args .r) (c .before .before .before .before .before .before .before .before .before .before .before .pre .0) (c .before .before .before .before .before .before .before .before .before .before .before .pre .2) (c .before .word .result) (c .before .word .ensures .0)) (lt-leb _ _ (c .if3 .left))))
 
--- src/lib.rt:255:1
 returns-3 : tie.Need-returns-3
 unfolding named-ok
 returns-3 c = both (list-fits (c .before .before .before .before .before .before .before .args .p .now) (c .before .before .before .before .before .before .before .args .n) (c .before .before .before .before .before .before .before .args .h) (c .before .before .before .before .before .before .before .args .r) (c .before .before .before .before .before .before .before .pre .0) (c .before .before .before .before .before .before .before .pre .2) (c .before .before .before .before .before .before .before .args .next)) (le-leb _ _ (c .before .before .before .if1 .taken)) (stop _ (destination-fits (c .before .before .before .before .before .before .before .args .p .now) (c .before .before .before .before .before .before .before .args .n) (c .before .before .before .before .before .before .before .args .h) (c .before .before .before .before .before .before .before .args .r) (c .before .before .before .before .before .before .before .pre .0) (c .before .before .before .before .before .before .before .pre .2)) (le-ltb _ _ (c .if2 .left)))
 
--- src/lib.rt:255:1
 returns-4 : tie.Need-returns-4
 unfolding named-ok
 returns-4 c = stop _ (list-fits (c .before .before .before .before .args .p .now) (c .before .before .before .before .args .n) (c .before .before .before .before .args .h) (c .before .before .before .before .args .r) (c .before .before .before .before .pre .0) (c .before .before .before .before .pre .2) (c .before .before .before .before .args .next)) (lt-leb _ _ (c .if1 .left))

@@ -1,52 +1,36 @@
-use mathlib.Core.Path.{_≡_, refl, sym, ap, _∙_}
-use native.Mathlib.Omega.{arith}
+use mathlib.Core.Path.{_∙_}
 use borrow.Author.Tests.{lt-ltb, le-ltb}
 use Rattle.program.proofs.Ops.{first-is, list-is, pair-is, single-is, triple-is}
-use borrow.Author.Needs.{needs}
 use Rattle.program.proofs.op_ok.Statement.{statement}
 use Rattle.program.proofs.op_ok.Tie as tie
-use Rattle.program.proofs.op_ok.Reads as reads
-use Rattle.program.proofs.op_ok.Lts as lts
-use Rattle.program.proofs.first_ops_ok.Reads as first-ops-ok-reads
-use Rattle.program.proofs.list_below.Reads as list-below-reads
 
--- src/lib.rt:240:9
 first-ops-ok-requires : tie.Need-first-ops-ok-requires
 first-ops-ok-requires c κs = c .if1 .taken
 
--- src/lib.rt:240:9
 returns : tie.Need-returns
 returns c = c .first-ops-ok .ensures ∙ first-is (c .before .before .before .args .p .now) (c .before .before .before .args .n) (c .before .before .before .args .h) (c .before .before .before .args .r) (c .before .before .before .pre .0) (c .before .before .before .pre .2) (c .before .if1 .taken)
 
--- src/lib.rt:243:9
 returns-2 : tie.Need-returns-2
 returns-2 c = let q = pair-is (c .before .before .before .before .before .before .before .before .args .p .now) (c .before .before .before .before .before .before .before .before .args .n) (c .before .before .before .before .before .before .before .before .args .h) (c .before .before .before .before .before .before .before .before .args .r) (c .before .before .before .before .before .before .before .before .pre .0) (c .before .before .before .before .before .before .before .before .pre .2) (c .before .before .before .before .before .before .if1 .left) (c .before .before .before .before .before .if2 .taken) in rw (lt-ltb _ _ (c .before .before .if3 .taken)) at q
 
--- src/lib.rt:243:9
 returns-3 : tie.Need-returns-3
 returns-3 c = let q = pair-is (c .before .before .before .before .before .before .args .p .now) (c .before .before .before .before .before .before .args .n) (c .before .before .before .before .before .before .args .h) (c .before .before .before .before .before .before .args .r) (c .before .before .before .before .before .before .pre .0) (c .before .before .before .before .before .before .pre .2) (c .before .before .before .before .if1 .left) (c .before .before .before .if2 .taken) in le-ltb _ _ (c .if3 .left) ∙ (rw (le-ltb _ _ (c .if3 .left)) at q)
 
--- src/lib.rt:246:9
 returns-4 : tie.Need-returns-4
 returns-4 c = single-is (c .before .before .before .before .before .before .args .p .now) (c .before .before .before .before .before .before .args .n) (c .before .before .before .before .before .before .args .h) (c .before .before .before .before .before .before .args .r) (c .before .before .before .before .before .before .pre .0) (c .before .before .before .before .before .before .pre .2) (c .before .before .before .if2 .left) (c .before .before .if4 .taken)
 
--- src/lib.rt:249:9
 list-below-requires : tie.Need-list-below-requires
 list-below-requires c κs = (c .before .before .before .before .before .pre .0, c .before .before .before .before .before .pre .1, c .before .before .before .before .before .pre .3)
 
--- src/lib.rt:249:9
 returns-5 : tie.Need-returns-5
 returns-5 c = c .list-below .ensures ∙ list-is (c .before .before .before .before .before .before .args .p .now) (c .before .before .before .before .before .before .args .n) (c .before .before .before .before .before .before .args .h) (c .before .before .before .before .before .before .args .r) (c .before .before .before .before .before .before .pre .0) (c .before .before .before .before .before .before .pre .2) (c .before .before .if4 .left) (c .before .if5 .taken)
 
--- src/lib.rt:234:1
 returns-6 : tie.Need-returns-6
 returns-6 c = let q = triple-is (c .before .before .before .before .before .before .before .before .before .before .before .before .before .args .p .now) (c .before .before .before .before .before .before .before .before .before .before .before .before .before .args .n) (c .before .before .before .before .before .before .before .before .before .before .before .before .before .args .h) (c .before .before .before .before .before .before .before .before .before .before .before .before .before .args .r) (c .before .before .before .before .before .before .before .before .before .before .before .before .before .pre .0) (c .before .before .before .before .before .before .before .before .before .before .before .before .before .pre .2) (c .before .before .before .before .before .before .before .before .if5 .left) (c .before .before .before .before .before .before .before .before .before .before .before .before .before .pre .4) in rw (lt-ltb _ _ (c .before .before .before .before .before .if6 .taken), lt-ltb _ _ (c .before .before .if7 .taken)) at q
 
--- src/lib.rt:234:1
 returns-7 : tie.Need-returns-7
 returns-7 c = let q = triple-is (c .before .before .before .before .before .before .before .before .before .before .before .args .p .now) (c .before .before .before .before .before .before .before .before .before .before .before .args .n) (c .before .before .before .before .before .before .before .before .before .before .before .args .h) (c .before .before .before .before .before .before .before .before .before .before .before .args .r) (c .before .before .before .before .before .before .before .before .before .before .before .pre .0) (c .before .before .before .before .before .before .before .before .before .before .before .pre .2) (c .before .before .before .before .before .before .if5 .left) (c .before .before .before .before .before .before .before .before .before .before .before .pre .4) in le-ltb _ _ (c .if7 .left) ∙ (rw (lt-ltb _ _ (c .before .before .before .if6 .taken), le-ltb _ _ (c .if7 .left)) at q)
 
--- src/lib.rt:234:1
 returns-8 : tie.Need-returns-8
 returns-8 c = let q = triple-is (c .before .before .before .before .before .before .before .before .args .p .now) (c .before .before .before .before .before .before .before .before .args .n) (c .before .before .before .before .before .before .before .before .args .h) (c .before .before .before .before .before .before .before .before .args .r) (c .before .before .before .before .before .before .before .before .pre .0) (c .before .before .before .before .before .before .before .before .pre .2) (c .before .before .before .if5 .left) (c .before .before .before .before .before .before .before .before .pre .4) in le-ltb _ _ (c .if6 .left) ∙ (rw (le-ltb _ _ (c .if6 .left)) at q)
 

@@ -1,39 +1,27 @@
-use mathlib.Core.Path.{_≡_, refl, sym, ap, _∙_}
-use native.Mathlib.Omega.{arith}
 use Rattle.layout.specs.Decode.{code-count, entry-total, input-count, path-total, register-total, result-at}
 use Rattle.program.specs.Fields.{header-of}
 use borrow.Author.Needs.{needs}
 use Rattle.program.proofs.read_header.Statement.{statement}
 use Rattle.program.proofs.read_header.Tie as tie
-use Rattle.program.proofs.read_header.Reads as reads
-use Rattle.program.proofs.read_header.Lts as lts
-use Rattle.reader.proofs.word.Reads as word-reads
 
--- src/lib.rt:33:15
 word-requires : tie.Need-word-requires
 word-requires c κs = search needs
 
--- src/lib.rt:34:20
 word-requires-2 : tie.Need-word-requires-2
 word-requires-2 c κs = search needs
 
--- src/lib.rt:35:17
 word-requires-3 : tie.Need-word-requires-3
 word-requires-3 c κs = search needs
 
--- src/lib.rt:36:17
 word-requires-4 : tie.Need-word-requires-4
 word-requires-4 c κs = search needs
 
--- src/lib.rt:37:16
 word-requires-5 : tie.Need-word-requires-5
 word-requires-5 c κs = search needs
 
--- src/lib.rt:38:18
 word-requires-6 : tie.Need-word-requires-6
 word-requires-6 c κs = search needs
 
--- src/lib.rt:29:1
 returns : tie.Need-returns
 unfolding header-of code-count register-total result-at input-count path-total entry-total
 returns c = (cc (c .before .before .before .before .before .word .ensures .0, c .before .before .before .before .word2 .ensures .0, c .before .before .before .word3 .ensures .0, c .before .before .word4 .ensures .0, c .before .word5 .ensures .0, c .word6 .ensures .0), record { code = c .before .before .before .before .before .word .ensures .1; registers = c .before .before .before .before .word2 .ensures .1; paths = c .before .word5 .ensures .1; entries = c .word6 .ensures .1 })

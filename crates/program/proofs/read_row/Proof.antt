@@ -1,85 +1,61 @@
-use mathlib.Core.Path.{_≡_, refl, sym, ap, _∙_}
 use native.Mathlib.Omega.{arith}
 use Rattle.layout.specs.Decode.{destination-at, path-number}
 use Rattle.program.specs.Fields.{row-of}
 use borrow.Author.Needs.{needs}
 use Rattle.program.proofs.read_row.Statement.{statement}
 use Rattle.program.proofs.read_row.Tie as tie
-use Rattle.program.proofs.read_row.Reads as reads
-use Rattle.program.proofs.read_row.Lts as lts
-use Rattle.reader.proofs.byte.Reads as byte-reads
-use Rattle.reader.proofs.half.Reads as half-reads
-use Rattle.reader.proofs.word.Reads as word-reads
 
--- src/lib.rt:122:19
 mul-at : tie.Need-mul-at
 mul-at c = search needs
 
--- src/lib.rt:122:14
 add-at : tie.Need-add-at
 add-at c = search needs
 
--- src/lib.rt:124:13
 byte-requires : tie.Need-byte-requires
 byte-requires c κs = search needs
 
--- src/lib.rt:125:23
 add-byte : tie.Need-add-byte
 add-byte c = search needs
 
--- src/lib.rt:125:15
 byte-requires-2 : tie.Need-byte-requires-2
 byte-requires-2 c κs = search needs
 
--- src/lib.rt:126:24
 add-half : tie.Need-add-half
 add-half c = search needs
 
--- src/lib.rt:126:16
 half-requires : tie.Need-half-requires
 half-requires c κs = search needs
 
--- src/lib.rt:127:30
 add-word : tie.Need-add-word
 add-word c = search needs
 
--- src/lib.rt:127:22
 word-requires : tie.Need-word-requires
 word-requires c κs = search needs
 
--- src/lib.rt:128:20
 add-word-2 : tie.Need-add-word-2
 add-word-2 c = search needs
 
--- src/lib.rt:128:12
 word-requires-2 : tie.Need-word-requires-2
 word-requires-2 c κs = search needs
 
--- src/lib.rt:129:20
 add-word-3 : tie.Need-add-word-3
 add-word-3 c = search needs
 
--- src/lib.rt:129:12
 word-requires-3 : tie.Need-word-requires-3
 word-requires-3 c κs = search needs
 
--- src/lib.rt:130:20
 add-word-4 : tie.Need-add-word-4
 add-word-4 c = search needs
 
--- src/lib.rt:130:12
 word-requires-4 : tie.Need-word-requires-4
 word-requires-4 c κs = search needs
 
--- src/lib.rt:131:23
 add-word-5 : tie.Need-add-word-5
 add-word-5 c = search needs
 
--- src/lib.rt:131:15
 word-requires-5 : tie.Need-word-requires-5
 word-requires-5 c κs = search needs
 
--- src/lib.rt:118:1
 returns : tie.Need-returns
 unfolding row-of destination-at path-number
 returns c = (cc (c .before .before .before .before .before .before .before .byte .ensures, c .before .before .before .before .before .before .byte2 .ensures, c .before .before .before .before .before .half .ensures .0, c .before .before .before .before .word .ensures .0, c .before .before .before .word2 .ensures .0, c .before .before .word3 .ensures .0, c .before .word4 .ensures .0, c .word5 .ensures .0), record { op = omega arith; count = c .before .before .before .before .before .half .ensures .1; a = c .before .before .before .word2 .ensures .1; path = c .word5 .ensures .1 })

@@ -1,23 +1,17 @@
 use native.Mathlib.Omega.{arith}
-use borrow.Author.Tests.{eq-eqb, ne-eqb, le-leb, lt-leb}
+use borrow.Author.Tests.{ne-eqb, le-leb, lt-leb}
 use Rattle.program.proofs.reads_b.Statement.{statement}
 use Rattle.program.proofs.reads_b.Tie as tie
-use Rattle.program.proofs.reads_b.Reads as reads
-use Rattle.program.proofs.reads_b.Lts as lts
 
--- src/lib.rt:145:9
 returns : tie.Need-returns
 returns c = rw (c .if1 .taken)
 
--- src/lib.rt:148:9
 returns-2 : tie.Need-returns-2
 returns-2 c = rw (ne-eqb _ 0 (c .before .if1 .left), lt-leb 8 _ (c .if2 .taken), lt-leb 33 (c .before .before .args .op) (omega arith))
 
--- src/lib.rt:141:1
 returns-3 : tie.Need-returns-3
 returns-3 c = rw (ne-eqb _ 0 (c .before .before .if1 .left), le-leb 8 _ (c .before .if2 .left), le-leb _ 19 (c .if3 .taken))
 
--- src/lib.rt:141:1
 returns-4 : tie.Need-returns-4
 returns-4 c = rw (ne-eqb _ 0 (c .before .before .if1 .left), le-leb 8 _ (c .before .if2 .left), lt-leb (c .before .before .before .args .op) 19 (omega arith))
 

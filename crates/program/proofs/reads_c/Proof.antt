@@ -1,18 +1,13 @@
-use borrow.Author.Tests.{eq-eqb, ne-eqb}
+use borrow.Author.Tests.{ne-eqb}
 use Rattle.program.proofs.reads_c.Statement.{statement}
 use Rattle.program.proofs.reads_c.Tie as tie
-use Rattle.program.proofs.reads_c.Reads as reads
-use Rattle.program.proofs.reads_c.Lts as lts
 
--- src/lib.rt:153:1
 returns : tie.Need-returns
 returns c = rw (c .if1 .taken)
 
--- src/lib.rt:153:1
 returns-2 : tie.Need-returns-2
 returns-2 c = rw (c .if2 .taken)
 
--- src/lib.rt:153:1
 returns-3 : tie.Need-returns-3
 returns-3 c = rw (ne-eqb _ 3 (c .before .if1 .left), ne-eqb _ 4 (c .if2 .left))
 

@@ -1,106 +1,77 @@
-use mathlib.Core.Path.{_≡_, refl, sym, ap, _∙_}
-use Prim.Native.Nat.{ℕ, _+_, _-_, _*_, _≤_, _<_}
+use mathlib.Core.Path.{ap, _∙_}
+use Prim.Native.Nat.{ℕ, _+_, _-_, _*_}
 use native.Mathlib.Omega.{arith}
-use Rattle.layout.specs.Decode.{record-at}
 use Rattle.program.proofs.Records.{late-is, length-read, parent-read, record-is, record-place, root-is, step-read}
 use borrow.Author.Needs.{needs}
 use Rattle.program.proofs.record_ok.Statement.{statement}
 use Rattle.program.proofs.record_ok.Tie as tie
-use Rattle.program.proofs.record_ok.Reads as reads
-use Rattle.program.proofs.record_ok.Lts as lts
-use Rattle.paths.proofs.step_length.Reads as step-length-reads
-use Rattle.program.proofs.root_ok.Reads as root-ok-reads
-use Rattle.reader.proofs.word.Reads as word-reads
 
--- src/lib.rt:74:22
 mul-first : tie.Need-mul-first
 mul-first c = omega (arith, c .before .before .pre .1 .code)
 
--- src/lib.rt:74:17
 add-first : tie.Need-add-first
 add-first c = omega (arith, c .before .before .pre .1 .code)
 
--- src/lib.rt:76:9
 root-ok-requires : tie.Need-root-ok-requires
 root-ok-requires c κs = omega (arith, c .before .before .before .pre .1 .code)
 
--- src/lib.rt:76:9
 returns : tie.Need-returns
 returns c = c .root-ok .ensures ∙ root-is (c .before .before .before .before .args .p .now) (32 + 24 * (c .before .before .before .before .args .h .code)) (c .before .before .before .before .args .k) (c .before .if1 .taken) (let e = record-place (c .before .before .before .before .args .p .now) (c .before .before .before .before .args .h) 0 (c .before .before .before .before .pre .0) in omega arith)
 
--- src/lib.rt:78:34
 mul-word : tie.Need-mul-word
 mul-word c = omega (arith, c .before .before .before .pre .2)
 
--- src/lib.rt:78:26
 add-word : tie.Need-add-word
 add-word c = omega (arith, c .before .before .before .pre .1 .code, c .before .before .before .pre .2)
 
--- src/lib.rt:78:9
 word-requires : tie.Need-word-requires
 word-requires c κs = search needs
 
--- src/lib.rt:80:9
 returns-2 : tie.Need-returns-2
 returns-2 c = late-is (c .before .before .before .before .before .args .p .now) (c .before .before .before .before .before .args .k) (c .before .word .result) (c .before .before .if1 .left) (parent-read (c .before .before .before .before .before .args .p .now) (c .before .before .before .before .before .args .k) _ (record-place (c .before .before .before .before .before .args .p .now) (c .before .before .before .before .before .args .h) (c .before .before .before .before .before .args .k) (c .before .before .before .before .before .pre .0)) (c .before .word .ensures .0)) (c .if2 .taken)
 
--- src/lib.rt:82:34
 mul-word-2 : tie.Need-mul-word-2
 mul-word-2 c = omega (arith, c .before .before .before .before .before .pre .2)
 
--- src/lib.rt:82:26
 add-word-2 : tie.Need-add-word-2
 add-word-2 c = omega (arith, c .before .before .before .before .before .pre .1 .code, c .before .before .before .before .before .pre .2)
 
--- src/lib.rt:82:26
 add-word-3 : tie.Need-add-word-3
 add-word-3 c = omega (arith, c .before .before .before .before .before .pre .1 .code, c .before .before .before .before .before .pre .2)
 
--- src/lib.rt:82:9
 word-requires-2 : tie.Need-word-requires-2
 word-requires-2 c κs = search needs
 
--- src/lib.rt:83:51
 mul-word-3 : tie.Need-mul-word-3
 mul-word-3 c = omega (arith, c .before .before .before .before .before .before .pre .2)
 
--- src/lib.rt:83:43
 add-word-4 : tie.Need-add-word-4
 add-word-4 c = omega (arith, c .before .before .before .before .before .before .pre .1 .code, c .before .before .before .before .before .before .pre .2)
 
--- src/lib.rt:83:43
 add-word-5 : tie.Need-add-word-5
 add-word-5 c = omega (arith, c .before .before .before .before .before .before .pre .1 .code, c .before .before .before .before .before .before .pre .2)
 
--- src/lib.rt:83:35
 word-requires-3 : tie.Need-word-requires-3
 word-requires-3 c κs = search needs
 
--- src/lib.rt:83:9
 step-length-requires : tie.Need-step-length-requires
 step-length-requires c κs = c .word3 .ensures .1
 
--- src/lib.rt:84:21
 mul-word-4 : tie.Need-mul-word-4
 mul-word-4 c = omega (arith, c .before .before .before .before .before .before .before .before .pre .2)
 
--- src/lib.rt:84:13
 add-word-6 : tie.Need-add-word-6
 add-word-6 c = omega (arith, c .before .before .before .before .before .before .before .before .pre .1 .code, c .before .before .before .before .before .before .before .before .pre .2)
 
--- src/lib.rt:84:13
 add-word-7 : tie.Need-add-word-7
 add-word-7 c = omega (arith, c .before .before .before .before .before .before .before .before .pre .1 .code, c .before .before .before .before .before .before .before .before .pre .2)
 
--- src/lib.rt:84:5
 word-requires-4 : tie.Need-word-requires-4
 word-requires-4 c κs = search needs
 
--- src/lib.rt:84:36
 add-result : tie.Need-add-result
 add-result c = omega (arith, c .before .before .before .word2 .ensures .1, c .before .step-length .ensures .1)
 
--- src/lib.rt:70:1
 returns-3 : tie.Need-returns-3
 returns-3 c = record-is (c .before .before .before .before .before .before .before .before .before .args .p .now) (c .before .before .before .before .before .before .before .before .before .args .k) (c .before .before .before .before .before .word .result) (c .word4 .result) (c .before .before .before .word2 .result) (c .before .step-length .result) (c .before .before .before .before .before .before .if1 .left)
     (parent-read (c .before .before .before .before .before .before .before .before .before .args .p .now) (c .before .before .before .before .before .before .before .before .before .args .k) _ (record-place (c .before .before .before .before .before .before .before .before .before .args .p .now) (c .before .before .before .before .before .before .before .before .before .args .h) (c .before .before .before .before .before .before .before .before .before .args .k) (c .before .before .before .before .before .before .before .before .before .pre .0)) (c .before .before .before .before .before .word .ensures .0)) (omega arith)

@@ -1,46 +1,35 @@
 use Prim.Native.Nat.{_+_}
 use Rattle.formula.specs.Text.{word-at}
-use mathlib.Core.Path.{_≡_, refl, sym, ap, _∙_}
+use mathlib.Core.Path.{sym, _∙_}
 use borrow.Author.Tests.{eq-eqb, ne-eqb}
 use Rattle.program.specs.Check.{root-record-ok}
 use borrow.Author.Needs.{needs}
 use Rattle.program.proofs.root_ok.Statement.{statement}
 use Rattle.program.proofs.root_ok.Tie as tie
-use Rattle.program.proofs.root_ok.Reads as reads
-use Rattle.program.proofs.root_ok.Lts as lts
-use Rattle.reader.proofs.word.Reads as word-reads
 
--- src/lib.rt:67:5
 word-requires : tie.Need-word-requires
 word-requires c κs = search needs
 
--- src/lib.rt:67:34
 add-word : tie.Need-add-word
 add-word c = search needs
 
--- src/lib.rt:67:26
 word-requires-2 : tie.Need-word-requires-2
 word-requires-2 c κs = search needs
 
--- src/lib.rt:67:58
 add-word-2 : tie.Need-add-word-2
 add-word-2 c = search needs
 
--- src/lib.rt:67:50
 word-requires-3 : tie.Need-word-requires-3
 word-requires-3 c κs = search needs
 
--- src/lib.rt:63:1
 returns : tie.Need-returns
 unfolding root-record-ok
 returns c = rw (eq-eqb _ _ (sym (c .before .before .before .before .word .ensures .0) ∙ c .before .before .before .if1 .taken), eq-eqb _ _ (sym (c .before .before .word2 .ensures .0) ∙ c .before .if2 .taken), c .word3 .ensures .0)
 
--- src/lib.rt:63:1
 returns-2 : tie.Need-returns-2
 unfolding root-record-ok
 returns-2 c = rw (eq-eqb _ _ (sym (c .before .before .before .word .ensures .0) ∙ c .before .before .if1 .taken), c .before .word2 .ensures .0, ne-eqb (word-at (c .before .before .before .before .before .args .p .now) (c .before .before .before .before .before .args .at + 4)) 0 (λ z. c .if2 .left (c .before .word2 .ensures .0 ∙ z)))
 
--- src/lib.rt:63:1
 returns-3 : tie.Need-returns-3
 unfolding root-record-ok
 returns-3 c = rw (c .before .word .ensures .0, ne-eqb (word-at (c .before .before .before .args .p .now) (c .before .before .before .args .at)) 0 (λ z. c .if1 .left (c .before .word .ensures .0 ∙ z)))

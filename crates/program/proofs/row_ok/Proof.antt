@@ -1,33 +1,25 @@
-use mathlib.Core.Path.{_≡_, refl, sym, ap, _∙_}
+use mathlib.Core.Path.{sym, _∙_}
 use borrow.Author.Tests.{eq-eqb, ne-eqb, lt-ltb, le-ltb}
 use Rattle.program.specs.Check.{row-fields-ok}
 use borrow.Author.Needs.{needs}
 use Rattle.program.proofs.row_ok.Statement.{statement}
 use Rattle.program.proofs.row_ok.Tie as tie
-use Rattle.program.proofs.row_ok.Reads as reads
-use Rattle.program.proofs.row_ok.Lts as lts
-use Rattle.program.proofs.unused_zero.Reads as unused-zero-reads
 
--- src/lib.rt:178:35
 unused-zero-requires : tie.Need-unused-zero-requires
 unused-zero-requires c κs = search needs
 
--- src/lib.rt:175:1
 returns : tie.Need-returns
 unfolding row-fields-ok
 returns c = rw (lt-ltb _ _ (c .before .before .before .before .before .if1 .taken), eq-eqb _ _ (c .before .before .before .if2 .taken), sym (c .before .before .unused-zero .ensures) ∙ c .before .if3 .taken)
 
--- src/lib.rt:175:1
 returns-2 : tie.Need-returns-2
 unfolding row-fields-ok
 returns-2 c = rw (lt-ltb _ _ (c .before .before .before .before .if1 .taken), eq-eqb _ _ (c .before .before .if2 .taken), sym (c .before .unused-zero .ensures) ∙ c .if3 .left, c .if3 .left)
 
--- src/lib.rt:175:1
 returns-3 : tie.Need-returns-3
 unfolding row-fields-ok
 returns-3 c = rw (lt-ltb _ _ (c .before .before .if1 .taken), ne-eqb _ _ (c .if2 .left))
 
--- src/lib.rt:175:1
 returns-4 : tie.Need-returns-4
 unfolding row-fields-ok
 returns-4 c = rw (le-ltb _ _ (c .if1 .left))

@@ -1,62 +1,45 @@
 use Rattle.program.proofs.Tests.{both, stop}
-use mathlib.Core.Path.{_≡_, refl, sym, ap, _∙_}
+use mathlib.Core.Path.{ap, _∙_}
 use mathlib.Core.Bool.{Bool}
-use Rattle.layout.specs.Decode.{uses-a, uses-b, uses-c, uses-list, zero-unless}
+use Rattle.layout.specs.Decode.{zero-unless}
 use Rattle.program.specs.Check.{unused-zero}
 use borrow.Author.Needs.{needs}
 use Rattle.program.proofs.unused_zero.Statement.{statement}
 use Rattle.program.proofs.unused_zero.Tie as tie
-use Rattle.program.proofs.unused_zero.Reads as reads
-use Rattle.program.proofs.unused_zero.Lts as lts
-use Rattle.program.proofs.lists.Reads as lists-reads
-use Rattle.program.proofs.reads_b.Reads as reads-b-reads
-use Rattle.program.proofs.reads_c.Reads as reads-c-reads
-use Rattle.program.proofs.zero_unless.Reads as zero-unless-reads
 
--- src/lib.rt:170:17
 lists-requires : tie.Need-lists-requires
 lists-requires c κs = search needs
 
--- src/lib.rt:170:5
 zero-unless-requires : tie.Need-zero-unless-requires
 zero-unless-requires c κs = search needs
 
--- src/lib.rt:171:13
 zero-unless-requires-2 : tie.Need-zero-unless-requires-2
 zero-unless-requires-2 c κs = search needs
 
--- src/lib.rt:171:55
 reads-b-requires : tie.Need-reads-b-requires
 reads-b-requires c κs = search needs
 
--- src/lib.rt:171:43
 zero-unless-requires-3 : tie.Need-zero-unless-requires-3
 zero-unless-requires-3 c κs = search needs
 
--- src/lib.rt:171:88
 reads-c-requires : tie.Need-reads-c-requires
 reads-c-requires c κs = search needs
 
--- src/lib.rt:171:76
 zero-unless-requires-4 : tie.Need-zero-unless-requires-4
 zero-unless-requires-4 c κs = search needs
 
--- src/lib.rt:166:1
 returns : tie.Need-returns
 unfolding unused-zero
 returns c = both (c .before .before .before .before .before .before .before .before .zero-unless .ensures ∙ ap (λ (x : Bool). zero-unless x (c .before .before .before .before .before .before .before .before .before .before .args .r .count)) (c .before .before .before .before .before .before .before .before .before .lists .ensures)) (c .before .before .before .before .before .before .before .if1 .taken) (both (c .before .before .before .before .before .before .zero-unless2 .ensures) (c .before .before .before .before .before .if2 .taken) (both (c .before .before .before .zero-unless3 .ensures ∙ ap (λ (x : Bool). zero-unless x (c .before .before .before .before .before .before .before .before .before .before .args .r .b)) (c .before .before .before .before .reads-b .ensures)) (c .before .before .if3 .taken) (c .zero-unless4 .ensures ∙ ap (λ (x : Bool). zero-unless x (c .before .before .before .before .before .before .before .before .before .before .args .r .c)) (c .before .reads-c .ensures))))
 
--- src/lib.rt:166:1
 returns-2 : tie.Need-returns-2
 unfolding unused-zero
 returns-2 c = both (c .before .before .before .before .before .before .zero-unless .ensures ∙ ap (λ (x : Bool). zero-unless x (c .before .before .before .before .before .before .before .before .args .r .count)) (c .before .before .before .before .before .before .before .lists .ensures)) (c .before .before .before .before .before .if1 .taken) (both (c .before .before .before .before .zero-unless2 .ensures) (c .before .before .before .if2 .taken) (stop _ (c .before .zero-unless3 .ensures ∙ ap (λ (x : Bool). zero-unless x (c .before .before .before .before .before .before .before .before .args .r .b)) (c .before .before .reads-b .ensures)) (c .if3 .left)))
 
--- src/lib.rt:166:1
 returns-3 : tie.Need-returns-3
 unfolding unused-zero
 returns-3 c = both (c .before .before .before .zero-unless .ensures ∙ ap (λ (x : Bool). zero-unless x (c .before .before .before .before .before .args .r .count)) (c .before .before .before .before .lists .ensures)) (c .before .before .if1 .taken) (stop _ (c .before .zero-unless2 .ensures) (c .if2 .left))
 
--- src/lib.rt:166:1
 returns-4 : tie.Need-returns-4
 unfolding unused-zero
 returns-4 c = stop _ (c .before .zero-unless .ensures ∙ ap (λ (x : Bool). zero-unless x (c .before .before .before .args .r .count)) (c .before .before .lists .ensures)) (c .if1 .left)

@@ -1,14 +1,10 @@
 use borrow.Author.Needs.{needs}
 use Rattle.program.proofs.zero_unless.Statement.{statement}
 use Rattle.program.proofs.zero_unless.Tie as tie
-use Rattle.program.proofs.zero_unless.Reads as reads
-use Rattle.program.proofs.zero_unless.Lts as lts
 
--- src/lib.rt:159:1
 returns : tie.Need-returns
 returns c = search needs
 
--- src/lib.rt:159:1
 returns-2 : tie.Need-returns-2
 returns-2 c = rw (c .if1 .left)
 

@@ -1,4 +1,5 @@
 use borrow.Author.Needs.{needs}
+use native.Mathlib.Omega.{arith}
 use Rattle.reader.proofs.node.Statement.{statement}
 use Rattle.reader.proofs.node.Tie as tie
 use mathlib.Core.Path.{sym}
@@ -34,10 +35,10 @@ long-requires c κs = search needs
 
 returns : tie.Need-returns
 unfolding fields-at
-returns c = cc
+returns c = (cc, omega arith)
 
 returns-2 : tie.Need-returns-2
-returns-2 c = sym (fields-past (c .before .before .args .b .now) (c .before .before .args .at) (c .if1 .left))
+returns-2 c = (sym (fields-past (c .before .before .args .b .now) (c .before .before .args .at) (c .if1 .left)), omega arith)
 
 pub node-spec : {M : Type 1} → statement M
 node-spec =

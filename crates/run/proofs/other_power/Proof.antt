@@ -1,52 +1,38 @@
-use mathlib.Core.Path.{_≡_, refl, sym, ap, _∙_, subst}
+use mathlib.Core.Path.{sym, _∙_}
 use borrow.Author.Needs.{needs}
 use Rattle.run.proofs.other_power.Statement.{statement}
 use Rattle.run.proofs.other_power.Tie as tie
-use Rattle.run.proofs.other_power.Reads as reads
-use Rattle.run.proofs.other_power.Lts as lts
-use Rattle.run.proofs.same_bits.Reads as same-bits-reads
 
--- src/lib.rt:199:24
 enum-known-w : tie.Need-enum-known-w
 enum-known-w c = search needs
 
--- src/lib.rt:200:17
 same-bits-requires : tie.Need-same-bits-requires
 same-bits-requires c κs = search needs
 
--- src/lib.rt:202:21
 same-bits-requires-2 : tie.Need-same-bits-requires-2
 same-bits-requires-2 c κs = search needs
 
--- src/lib.rt:203:17
 returns : tie.Need-returns
 returns c = rw (c .before .before .before .before .w .given .1, sym (c .before .before .same-bits .ensures) ∙ c .before .if1 .taken, c .same-bits2 .ensures)
 
--- src/lib.rt:207:24
 enum-known-w-2 : tie.Need-enum-known-w-2
 enum-known-w-2 c = search needs
 
--- src/lib.rt:208:31
 enum-told : tie.Need-enum-told
 enum-told c = search needs
 
--- src/lib.rt:209:29
 enum-known-w-3 : tie.Need-enum-known-w-3
 enum-known-w-3 c = search needs
 
--- src/lib.rt:195:1
 returns-2 : tie.Need-returns-2
 returns-2 c = rw (c .before .before .before .w .given .1, sym (c .before .same-bits .ensures) ∙ c .if1 .left)
 
--- src/lib.rt:195:1
 returns-3 : tie.Need-returns-3
 returns-3 c = search needs
 
--- src/lib.rt:195:1
 returns-4 : tie.Need-returns-4
 returns-4 c = search needs
 
--- src/lib.rt:195:1
 returns-5 : tie.Need-returns-5
 returns-5 c = search needs
 

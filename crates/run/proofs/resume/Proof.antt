@@ -1,4 +1,4 @@
-use mathlib.Core.Path.{_≡_, refl, sym, ap, _∙_, subst}
+use mathlib.Core.Path.{refl, sym, _∙_}
 use native.Mathlib.Omega.{arith}
 use lib.ListN.{length}
 use Rattle.run.specs.Views.{state-of, supplied-of}
@@ -6,45 +6,31 @@ use Rattle.run.proofs.Whole.{refused-back, refused-is, refused-unplaced
 use borrow.Author.Needs.{needs}
 use Rattle.run.proofs.resume.Statement.{statement}
 use Rattle.run.proofs.resume.Tie as tie
-use Rattle.run.proofs.resume.Reads as reads
-use Rattle.run.proofs.resume.Lts as lts
-use Rattle.program.proofs.is_program.Reads as is-program-reads
-use Rattle.run.proofs.refusal.Reads as refusal-reads
-use Rattle.run.proofs.resume_checked.Reads as resume-checked-reads
 
--- src/lib.rt:391:9
 refusal-requires : tie.Need-refusal-requires
 refusal-requires c κs = search needs
 
--- src/lib.rt:391:9
 returns : tie.Need-returns
 returns c = (refused-is (c .before .before .before .before .before .before .args .p .now) 1 (c .before .before .before .before .before .before .args .state) (state-of (c .before .before .before .before .before .before .args .state)) (c .before .before .before .before .before .before .args .regs .now) (c .refusal .ensures) refl ∙ resume-1 (c .before .before .before .before .before .before .args .inputs .now) (c .before .before .before .before .before .before .args .p .now) (length (c .before .before .before .before .before .before .args .path .now)) (c .before .before .before .before .before .before .args .budget) (c .before .before .before .before .before .before .args .regs .now) (supplied-of (c .before .before .before .before .before .before .args .supplied)) (state-of (c .before .before .before .before .before .before .args .state)) (c .before .if1 .taken), (refused-unplaced (c .before .before .before .before .before .before .args .p .now) 1 (c .before .before .before .before .before .before .args .state) (c .before .before .before .before .before .before .args .path .now) (c .refusal .ensures) (λ z. omega arith), refused-back 1 (c .before .before .before .before .before .before .args .state) (c .refusal .ensures)))
 
--- src/lib.rt:393:9
 is-program-requires : tie.Need-is-program-requires
 is-program-requires c κs = search needs
 
--- src/lib.rt:395:9
 resume-checked-requires : tie.Need-resume-checked-requires
 resume-checked-requires c κs = sym (c .before .before .before .is-program .ensures) ∙ c .before .before .if2 .taken
 
--- src/lib.rt:395:9
 same-length : tie.Need-same-length
 same-length c = search needs
 
--- src/lib.rt:395:9
 same-length-2 : tie.Need-same-length-2
 same-length-2 c = search needs
 
--- src/lib.rt:395:9
 returns-2 : tie.Need-returns-2
 returns-2 c = search needs
 
--- src/lib.rt:397:5
 refusal-requires-2 : tie.Need-refusal-requires-2
 refusal-requires-2 c κs = search needs
 
--- src/lib.rt:385:1
 returns-3 : tie.Need-returns-3
 returns-3 c = (refused-is (c .before .before .before .before .before .before .before .before .args .p .now) 10 (c .before .before .before .before .before .before .before .before .args .state) (state-of (c .before .before .before .before .before .before .before .before .args .state)) (c .before .before .before .before .before .before .before .before .args .regs .now) (c .refusal2 .ensures) refl ∙ resume-10 (c .before .before .before .before .before .before .before .before .args .inputs .now) (c .before .before .before .before .before .before .before .before .args .p .now) (length (c .before .before .before .before .before .before .before .before .args .path .now)) (c .before .before .before .before .before .before .before .before .args .budget) (c .before .before .before .before .before .before .before .before .args .regs .now) (supplied-of (c .before .before .before .before .before .before .before .before .args .supplied)) (state-of (c .before .before .before .before .before .before .before .before .args .state)) (c .before .before .before .if1 .left) (sym (c .before .before .is-program .ensures) ∙ c .before .if2 .left), (refused-unplaced (c .before .before .before .before .before .before .before .before .args .p .now) 10 (c .before .before .before .before .before .before .before .before .args .state) (c .before .before .before .before .before .before .before .before .args .path .now) (c .refusal2 .ensures) (λ z. omega arith), refused-back 10 (c .before .before .before .before .before .before .before .before .args .state) (c .refusal2 .ensures)))
 

@@ -1,4 +1,4 @@
-use mathlib.Core.Path.{_≡_, refl, sym, ap, _∙_, subst}
+use mathlib.Core.Path.{refl, sym, _∙_}
 use native.Mathlib.Omega.{arith}
 use Rattle.work.specs.View.{kept-values}
 use Rattle.run.specs.Views.{state-of, supplied-of}
@@ -6,67 +6,46 @@ use Rattle.run.proofs.Whole.{refused-back, refused-is, refused-plain, r
 use borrow.Author.Needs.{needs}
 use Rattle.run.proofs.resume_reply.Statement.{statement}
 use Rattle.run.proofs.resume_reply.Tie as tie
-use Rattle.run.proofs.resume_reply.Reads as reads
-use Rattle.run.proofs.resume_reply.Lts as lts
-use Rattle.run.proofs.refusal.Reads as refusal-reads
-use Rattle.run.proofs.stale.Reads as stale-reads
-use Rattle.run.proofs.steps.Reads as steps-reads
-use Rattle.run.proofs.supply.Reads as supply-reads
-use Rattle.run.proofs.unfit.Reads as unfit-reads
 
--- src/lib.rt:326:9
 refusal-requires : tie.Need-refusal-requires
 refusal-requires c κs = search needs
 
--- src/lib.rt:326:9
 returns : tie.Need-returns
 returns c = (refused-is (c .before .before .before .before .before .args .p .now) 1 (c .before .before .before .before .before .args .state) (state-of (c .before .before .before .before .before .args .state)) (c .before .before .before .before .before .args .regs .now) (c .refusal .ensures) refl ∙ resume-1 (c .before .before .before .before .before .args .inputs .now) (c .before .before .before .before .before .args .p .now) (c .before .before .before .before .before .args .room) (c .before .before .before .before .before .args .budget) (c .before .before .before .before .before .args .regs .now) (supplied-of (c .before .before .before .before .before .args .supplied)) (state-of (c .before .before .before .before .before .args .state)) (c .before .if1 .taken), (refused-plain (c .before .before .before .before .before .args .p .now) (c .before .before .before .before .before .args .room) 1 (c .before .before .before .before .before .args .state) (c .refusal .ensures) (λ z. omega arith), refused-back 1 (c .before .before .before .before .before .args .state) (c .refusal .ensures)))
 
--- src/lib.rt:328:9
 unfit-requires : tie.Need-unfit-requires
 unfit-requires c κs = search needs
 
--- src/lib.rt:330:9
 refusal-requires-2 : tie.Need-refusal-requires-2
 refusal-requires-2 c κs = search needs
 
--- src/lib.rt:330:9
 same-length : tie.Need-same-length
 same-length c = search needs
 
--- src/lib.rt:330:9
 returns-2 : tie.Need-returns-2
 returns-2 c = (refused-is (c .before .before .before .before .before .before .before .before .args .p .now) 5 (c .before .before .before .before .before .before .before .before .args .state) (state-of (c .before .before .before .before .before .before .before .before .args .state)) (c .before .before .before .before .before .before .before .before .args .regs .now) (c .refusal2 .ensures) refl ∙ resume-5 (c .before .before .before .before .before .before .before .before .args .inputs .now) (c .before .before .before .before .before .before .before .before .args .p .now) (c .before .before .before .before .before .before .before .before .args .room) (c .before .before .before .before .before .before .before .before .args .budget) (c .before .before .before .before .before .before .before .before .args .regs .now) (supplied-of (c .before .before .before .before .before .before .before .before .args .supplied)) (state-of (c .before .before .before .before .before .before .before .before .args .state)) (c .before .before .before .before .if1 .left) (c .before .before .before .before .before .before .before .before .pre) (sym (c .before .before .unfit .ensures) ∙ c .before .if2 .taken), (refused-plain (c .before .before .before .before .before .before .before .before .args .p .now) (c .before .before .before .before .before .before .before .before .args .room) 5 (c .before .before .before .before .before .before .before .before .args .state) (c .refusal2 .ensures) (λ z. omega arith), refused-back 5 (c .before .before .before .before .before .before .before .before .args .state) (c .refusal2 .ensures)))
 
--- src/lib.rt:332:9
 stale-requires : tie.Need-stale-requires
 stale-requires c κs = search needs
 
--- src/lib.rt:334:9
 refusal-requires-3 : tie.Need-refusal-requires-3
 refusal-requires-3 c κs = search needs
 
--- src/lib.rt:334:9
 same-length-2 : tie.Need-same-length-2
 same-length-2 c = search needs
 
--- src/lib.rt:334:9
 returns-3 : tie.Need-returns-3
 returns-3 c = (refused-is (c .before .before .before .before .before .before .before .before .before .before .before .args .p .now) 11 (c .before .before .before .before .before .before .before .before .before .before .before .args .state) (state-of (c .before .before .before .before .before .before .before .before .before .before .before .args .state)) (c .before .before .before .before .before .before .before .before .before .before .before .args .regs .now) (c .refusal3 .ensures) refl ∙ resume-11 (c .before .before .before .before .before .before .before .before .before .before .before .args .inputs .now) (c .before .before .before .before .before .before .before .before .before .before .before .args .p .now) (c .before .before .before .before .before .before .before .before .before .before .before .args .room) (c .before .before .before .before .before .before .before .before .before .before .before .args .budget) (c .before .before .before .before .before .before .before .before .before .before .before .args .regs .now) (supplied-of (c .before .before .before .before .before .before .before .before .before .before .before .args .supplied)) (state-of (c .before .before .before .before .before .before .before .before .before .before .before .args .state)) (c .before .before .before .before .before .before .before .if1 .left) (c .before .before .before .before .before .before .before .before .before .before .before .pre) (sym (c .before .before .before .before .before .unfit .ensures) ∙ c .before .before .before .before .if2 .left) (sym (c .before .before .stale .ensures) ∙ c .before .if3 .taken), (refused-plain (c .before .before .before .before .before .before .before .before .before .before .before .args .p .now) (c .before .before .before .before .before .before .before .before .before .before .before .args .room) 11 (c .before .before .before .before .before .before .before .before .before .before .before .args .state) (c .refusal3 .ensures) (λ z. omega arith), refused-back 11 (c .before .before .before .before .before .before .before .before .before .before .before .args .state) (c .refusal3 .ensures)))
 
--- src/lib.rt:338:9
 supply-requires : tie.Need-supply-requires
 supply-requires c κs = search needs
 
--- src/lib.rt:339:5
 steps-requires : tie.Need-steps-requires
 steps-requires c κs = search needs
 
--- src/lib.rt:319:1
 same-length-3 : tie.Need-same-length-3
 same-length-3 c = search needs
 
--- src/lib.rt:319:1
 returns-4 : tie.Need-returns-4
 returns-4 c = (c .before .before .steps .ensures .0 ∙ resume-goes (c .before .before .before .before .before .before .before .before .before .before .before .before .before .before .before .before .args .inputs .now) (c .before .before .before .before .before .before .before .before .before .before .before .before .before .before .before .before .args .p .now) (c .before .before .before .before .before .before .before .before .before .before .before .before .before .before .before .before .args .room) (c .before .before .before .before .before .before .before .before .before .before .before .before .before .before .before .before .args .budget) (c .before .before .before .before .before .before .before .before .before .before .before .before .before .before .before .before .args .regs .now) (supplied-of (c .before .before .before .before .before .before .before .before .before .before .before .before .before .before .before .before .args .supplied)) (state-of (c .before .before .before .before .before .before .before .before .before .before .before .before .before .before .before .before .args .state)) (kept-values (c .before .before .before .before .supply .result)) (c .before .before .before .before .supply .ensures) (c .before .before .before .before .before .before .before .before .before .before .before .before .if1 .left) (c .before .before .before .before .before .before .before .before .before .before .before .before .before .before .before .before .pre) (sym (c .before .before .before .before .before .before .before .before .before .before .unfit .ensures) ∙ c .before .before .before .before .before .before .before .before .before .if2 .left) (sym (c .before .before .before .before .before .before .before .stale .ensures) ∙ c .before .before .before .before .before .before .if3 .left), (steps-writable (c .before .before .before .before .before .before .before .before .before .before .before .before .before .before .before .before .args .inputs .now) (c .before .before .before .before .before .before .before .before .before .before .before .before .before .before .before .before .args .p .now) (c .before .before .before .before .before .before .before .before .before .before .before .before .before .before .before .before .args .room) (c .before .before .before .before .before .before .before .before .before .before .before .before .before .before .before .before .args .budget) (c .before .before .before .before .before .before .before .before .before .before .before .before .before .before .before .before .args .state .position) (kept-values (c .before .before .before .before .supply .result)) (c .before .before .before .before .before .before .before .before .before .before .before .before .before .before .before .before .args .regs .now) _ (c .before .before .steps .result) (c .before .before .before .before .before .before .before .before .before .before .before .before .before .before .before .before .pre) (c .before .before .before .before .before .before .before .before .before .before .before .before .if1 .left) (c .before .before .steps .ensures .0) (c .before .before .steps .ensures .1), steps-back (c .before .before .before .before .before .before .before .before .before .before .before .before .before .before .before .before .args .inputs .now) (c .before .before .before .before .before .before .before .before .before .before .before .before .before .before .before .before .args .p .now) (c .before .before .before .before .before .before .before .before .before .before .before .before .before .before .before .before .args .budget) (c .before .before .before .before .before .before .before .before .before .before .before .before .before .before .before .before .args .state .position) (kept-values (c .before .before .before .before .supply .result)) (c .before .before .before .before .before .before .before .before .before .before .before .before .before .before .before .before .args .regs .now) _ (c .before .before .steps .result) (c .before .before .before .before .before .before .before .before .before .before .before .before .before .before .before .before .args .state) (c .before .before .steps .ensures .0)))
 

@@ -1,4 +1,4 @@
-use mathlib.Core.Path.{_≡_, refl, sym, ap, _∙_, subst}
+use mathlib.Core.Path.{sym, _∙_}
 use native.Mathlib.Omega.{arith}
 use lib.ListN.{length}
 use Rattle.machine.specs.Machine.{fresh}
@@ -6,54 +6,37 @@ use Rattle.run.proofs.Whole.{refused-is, refused-unplaced, run-1, run-1
 use borrow.Author.Needs.{needs}
 use Rattle.run.proofs.run.Statement.{statement}
 use Rattle.run.proofs.run.Tie as tie
-use Rattle.run.proofs.run.Reads as reads
-use Rattle.run.proofs.run.Lts as lts
-use Rattle.program.proofs.is_program.Reads as is-program-reads
-use Rattle.run.proofs.fresh_state.Reads as fresh-state-reads
-use Rattle.run.proofs.refusal.Reads as refusal-reads
-use Rattle.run.proofs.run_checked.Reads as run-checked-reads
 
--- src/lib.rt:376:27
 fresh-state-requires : tie.Need-fresh-state-requires
 fresh-state-requires c κs = search needs
 
--- src/lib.rt:376:9
 refusal-requires : tie.Need-refusal-requires
 refusal-requires c κs = search needs
 
--- src/lib.rt:376:9
 returns : tie.Need-returns
 returns c = (refused-is (c .before .before .before .before .before .before .before .args .p .now) 1 (c .before .fresh-state .result) fresh (c .before .before .before .before .before .before .before .args .regs .now) (c .refusal .ensures) (c .before .fresh-state .ensures) ∙ run-1 (c .before .before .before .before .before .before .before .args .inputs .now) (c .before .before .before .before .before .before .before .args .p .now) (length (c .before .before .before .before .before .before .before .args .path .now)) (c .before .before .before .before .before .before .before .args .budget) (c .before .before .before .before .before .before .before .args .regs .now) (c .before .before .if1 .taken), refused-unplaced (c .before .before .before .before .before .before .before .args .p .now) 1 (c .before .fresh-state .result) (c .before .before .before .before .before .before .before .args .path .now) (c .refusal .ensures) (λ z. omega arith))
 
--- src/lib.rt:378:9
 is-program-requires : tie.Need-is-program-requires
 is-program-requires c κs = search needs
 
--- src/lib.rt:380:9
 run-checked-requires : tie.Need-run-checked-requires
 run-checked-requires c κs = sym (c .before .before .before .is-program .ensures) ∙ c .before .before .if2 .taken
 
--- src/lib.rt:380:9
 same-length : tie.Need-same-length
 same-length c = search needs
 
--- src/lib.rt:380:9
 same-length-2 : tie.Need-same-length-2
 same-length-2 c = search needs
 
--- src/lib.rt:380:9
 returns-2 : tie.Need-returns-2
 returns-2 c = search needs
 
--- src/lib.rt:382:17
 fresh-state-requires-2 : tie.Need-fresh-state-requires-2
 fresh-state-requires-2 c κs = search needs
 
--- src/lib.rt:382:5
 refusal-requires-2 : tie.Need-refusal-requires-2
 refusal-requires-2 c κs = search needs
 
--- src/lib.rt:371:1
 returns-3 : tie.Need-returns-3
 returns-3 c = (refused-is (c .before .before .before .before .before .before .before .before .before .args .p .now) 10 (c .before .fresh-state2 .result) fresh (c .before .before .before .before .before .before .before .before .before .args .regs .now) (c .refusal2 .ensures) (c .before .fresh-state2 .ensures) ∙ run-10 (c .before .before .before .before .before .before .before .before .before .args .inputs .now) (c .before .before .before .before .before .before .before .before .before .args .p .now) (length (c .before .before .before .before .before .before .before .before .before .args .path .now)) (c .before .before .before .before .before .before .before .before .before .args .budget) (c .before .before .before .before .before .before .before .before .before .args .regs .now) (c .before .before .before .before .if1 .left) (sym (c .before .before .before .is-program .ensures) ∙ c .before .before .if2 .left), refused-unplaced (c .before .before .before .before .before .before .before .before .before .args .p .now) 10 (c .before .fresh-state2 .result) (c .before .before .before .before .before .before .before .before .before .args .path .now) (c .refusal2 .ensures) (λ z. omega arith))
 

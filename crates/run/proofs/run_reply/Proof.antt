@@ -1,4 +1,4 @@
-use mathlib.Core.Path.{_≡_, refl, sym, ap, _∙_, subst}
+use mathlib.Core.Path.{sym, ap, _∙_}
 use native.Mathlib.Omega.{arith}
 use Rattle.machine.specs.Machine.{fresh}
 use Rattle.machine.specs.Machine as Machine
@@ -7,45 +7,31 @@ use Rattle.run.proofs.Whole.{refused-back, refused-is, refused-plain, r
 use borrow.Author.Needs.{needs}
 use Rattle.run.proofs.run_reply.Statement.{statement}
 use Rattle.run.proofs.run_reply.Tie as tie
-use Rattle.run.proofs.run_reply.Reads as reads
-use Rattle.run.proofs.run_reply.Lts as lts
-use Rattle.run.proofs.refusal.Reads as refusal-reads
-use Rattle.run.proofs.steps.Reads as steps-reads
-use Rattle.run.proofs.unfit.Reads as unfit-reads
 
--- src/lib.rt:309:9
 refusal-requires : tie.Need-refusal-requires
 refusal-requires c κs = search needs
 
--- src/lib.rt:309:9
 returns : tie.Need-returns
 returns c = (refused-is (c .before .before .before .before .before .args .p .now) 1 (c .before .before .before .before .before .args .state) fresh (c .before .before .before .before .before .args .regs .now) (c .refusal .ensures) (c .before .before .before .before .before .pre .1) ∙ run-1 (c .before .before .before .before .before .args .inputs .now) (c .before .before .before .before .before .args .p .now) (c .before .before .before .before .before .args .room) (c .before .before .before .before .before .args .budget) (c .before .before .before .before .before .args .regs .now) (c .before .if1 .taken), (refused-plain (c .before .before .before .before .before .args .p .now) (c .before .before .before .before .before .args .room) 1 (c .before .before .before .before .before .args .state) (c .refusal .ensures) (λ z. omega arith), refused-back 1 (c .before .before .before .before .before .args .state) (c .refusal .ensures)))
 
--- src/lib.rt:311:9
 unfit-requires : tie.Need-unfit-requires
 unfit-requires c κs = search needs
 
--- src/lib.rt:313:9
 refusal-requires-2 : tie.Need-refusal-requires-2
 refusal-requires-2 c κs = search needs
 
--- src/lib.rt:313:9
 same-length : tie.Need-same-length
 same-length c = search needs
 
--- src/lib.rt:313:9
 returns-2 : tie.Need-returns-2
 returns-2 c = (refused-is (c .before .before .before .before .before .before .before .before .args .p .now) 5 (c .before .before .before .before .before .before .before .before .args .state) fresh (c .before .before .before .before .before .before .before .before .args .regs .now) (c .refusal2 .ensures) (c .before .before .before .before .before .before .before .before .pre .1) ∙ run-5 (c .before .before .before .before .before .before .before .before .args .inputs .now) (c .before .before .before .before .before .before .before .before .args .p .now) (c .before .before .before .before .before .before .before .before .args .room) (c .before .before .before .before .before .before .before .before .args .budget) (c .before .before .before .before .before .before .before .before .args .regs .now) (c .before .before .before .before .if1 .left) (c .before .before .before .before .before .before .before .before .pre .0) (sym (c .before .before .unfit .ensures) ∙ c .before .if2 .taken), (refused-plain (c .before .before .before .before .before .before .before .before .args .p .now) (c .before .before .before .before .before .before .before .before .args .room) 5 (c .before .before .before .before .before .before .before .before .args .state) (c .refusal2 .ensures) (λ z. omega arith), refused-back 5 (c .before .before .before .before .before .before .before .before .args .state) (c .refusal2 .ensures)))
 
--- src/lib.rt:316:5
 steps-requires : tie.Need-steps-requires
 steps-requires c κs = search needs
 
--- src/lib.rt:302:1
 same-length-2 : tie.Need-same-length-2
 same-length-2 c = search needs
 
--- src/lib.rt:302:1
 returns-3 : tie.Need-returns-3
 returns-3 c = (c .before .before .steps .ensures .0 ∙ run-goes (c .before .before .before .before .before .before .before .before .before .before .before .before .args .inputs .now) (c .before .before .before .before .before .before .before .before .before .before .before .before .args .p .now) (c .before .before .before .before .before .before .before .before .before .before .before .before .args .room) (c .before .before .before .before .before .before .before .before .before .before .before .before .args .budget) (c .before .before .before .before .before .before .before .before .before .before .before .before .args .regs .now) (kept-values (c .before .before .before .before .before .before .before .before .before .before .before .before .args .state .kept)) (ap (λ (x : Machine.State). x .kept) (c .before .before .before .before .before .before .before .before .before .before .before .before .pre .1)) (c .before .before .before .before .before .before .before .before .if1 .left) (c .before .before .before .before .before .before .before .before .before .before .before .before .pre .0) (sym (c .before .before .before .before .before .before .unfit .ensures) ∙ c .before .before .before .before .before .if2 .left), (steps-writable (c .before .before .before .before .before .before .before .before .before .before .before .before .args .inputs .now) (c .before .before .before .before .before .before .before .before .before .before .before .before .args .p .now) (c .before .before .before .before .before .before .before .before .before .before .before .before .args .room) (c .before .before .before .before .before .before .before .before .before .before .before .before .args .budget) 0 (kept-values (c .before .before .before .before .before .before .before .before .before .before .before .before .args .state .kept)) (c .before .before .before .before .before .before .before .before .before .before .before .before .args .regs .now) _ (c .before .before .steps .result) (c .before .before .before .before .before .before .before .before .before .before .before .before .pre .0) (c .before .before .before .before .before .before .before .before .if1 .left) (c .before .before .steps .ensures .0) (c .before .before .steps .ensures .1), steps-back (c .before .before .before .before .before .before .before .before .before .before .before .before .args .inputs .now) (c .before .before .before .before .before .before .before .before .before .before .before .before .args .p .now) (c .before .before .before .before .before .before .before .before .before .before .before .before .args .budget) 0 (kept-values (c .before .before .before .before .before .before .before .before .before .before .before .before .args .state .kept)) (c .before .before .before .before .before .before .before .before .before .before .before .before .args .regs .now) _ (c .before .before .steps .result) (c .before .before .before .before .before .before .before .before .before .before .before .before .args .state) (c .before .before .steps .ensures .0)))
 

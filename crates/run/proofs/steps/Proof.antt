@@ -1,5 +1,5 @@
-use mathlib.Core.Path.{_≡_, refl, sym, ap, _∙_, subst}
-use Prim.Native.Nat.{ℕ, _+_, _-_, _≤_, _<_}
+use mathlib.Core.Path.{_≡_, refl, _∙_}
+use Prim.Native.Nat.{_+_, _-_}
 use native.Mathlib.Omega.{arith}
 use borrow.Author.Needs.{needs}
 use lib.ListN.{length}
@@ -10,14 +10,6 @@ use Rattle.run.proofs.Tags.{not-next}
 use Rattle.run.proofs.Looping.{after, after-none, end-reply, finished-place, next-reply, spent-place, spent-reply, stop-place, stop-reply}
 use Rattle.run.proofs.steps.Statement.{statement}
 use Rattle.run.proofs.steps.Tie as tie
-use Rattle.run.proofs.steps.Reads as reads
-use Rattle.run.proofs.steps.Lts as lts
-use Rattle.instruction.proofs.step.Reads as step-reads
-use Rattle.reader.proofs.word.Reads as word-reads
-use Rattle.run.proofs.finished.Reads as finished-reads
-use Rattle.run.proofs.replied.Reads as replied-reads
-use Rattle.run.proofs.stopped.Reads as stopped-reads
-use Rattle.work.proofs.fresh.Reads as fresh-reads
 
 abbrev Inv-loop : tie.InvT-loop
 Inv-loop p inputs regs₀ budget position code none left₀ done₀ at₀ k₀ regs left done at k = (done + left ≡ budget) × (length regs ≡ length regs₀) × (after done (steps-at inputs p left at (kept-values k) regs) ≡ steps-at inputs p budget position (kept-values k₀) regs₀)
@@ -25,93 +17,72 @@ Inv-loop p inputs regs₀ budget position code none left₀ done₀ at₀ k₀ r
 abbrev μ-loop : tie.MeasureT-loop
 μ-loop p inputs regs₀ budget position code none left₀ done₀ at₀ k₀ regs left done at k = left
 
--- src/lib.rt:108:9
 word-requires : tie.Need-word-requires Inv-loop μ-loop
 word-requires c κs = search needs
 
--- src/lib.rt:109:9
 fresh-requires : tie.Need-fresh-requires Inv-loop μ-loop
 fresh-requires c κs = search needs
 
--- src/lib.rt:114:5
 loop-holds : tie.Need-loop-holds Inv-loop μ-loop
 loop-holds c = (omega arith, refl, after-none _)
 
--- src/lib.rt:116:13
 finished-requires : tie.Need-finished-requires Inv-loop μ-loop
 unfolding code-count
 finished-requires c κs = c .before .before .before .before .before .word .ensures .0
 
--- src/lib.rt:116:13
 same-length : tie.Need-same-length Inv-loop μ-loop
 same-length c = c .before .before .before .before .loop .inv .1
 
--- src/lib.rt:116:13
 returns : tie.Need-returns Inv-loop μ-loop
 unfolding code-count
 returns c = (end-reply (c .before .before .before .before .before .before .before .before .before .before .args .inputs .now) (c .before .before .before .before .before .before .before .before .before .before .args .p .now) (c .before .before .before .before .loop .left) (c .before .before .before .before .loop .done) (c .before .before .before .before .loop .at) (c .before .before .before .before .before .before .word .result) (kept-values (c .before .before .before .before .loop .k)) (c .before .before .before .before .loop .regs) (c .finished .ensures) (c .before .before .before .before .before .before .word .ensures .0) (c .before .before .if1 .taken) ∙ c .before .before .before .before .loop .inv .2, finished-place (c .before .before .before .before .before .before .before .before .before .before .args .inputs .now) (c .before .before .before .before .before .before .before .before .before .before .args .p .now) (c .before .before .before .before .loop .done) (c .before .before .before .before .loop .regs) (c .finished .ensures))
 
--- src/lib.rt:118:13
 step-requires : tie.Need-step-requires Inv-loop μ-loop
 step-requires c κs = omega (arith, c .before .before .before .before .before .word .ensures .1)
 
--- src/lib.rt:119:28
 enum-known-t : tie.Need-enum-known-t Inv-loop μ-loop
 enum-known-t c = search needs
 
--- src/lib.rt:120:13
 stopped-requires : tie.Need-stopped-requires Inv-loop μ-loop
 stopped-requires c κs = search needs
 
--- src/lib.rt:120:13
 same-length-2 : tie.Need-same-length-2 Inv-loop μ-loop
 same-length-2 c = c .before .before .before .before .step .kept .1 .1 .1 .0 ∙ c .before .before .before .before .before .before .before .before .loop .inv .1
 
--- src/lib.rt:120:13
 returns-2 : tie.Need-returns-2 Inv-loop μ-loop
 unfolding code-count
 returns-2 c = (stop-reply (c .before .before .before .before .before .before .before .before .before .before .before .before .before .before .args .inputs .now) (c .before .before .before .before .before .before .before .before .before .before .before .before .before .before .args .p .now) (c .before .before .before .before .before .before .before .before .loop .left) (c .before .before .before .before .before .before .before .before .loop .done) (c .before .before .before .before .before .before .before .before .loop .at) (c .before .before .before .before .before .before .before .before .before .before .word .result) (c .before .before .before .before .before .before .before .before .loop .k) (c .before .before .before .before .before .before .before .before .loop .regs) (c .before .before .before .before .before .before .before .before .before .fresh .result) (c .stopped .ensures) (c .before .before .before .before .before .before .before .before .before .before .word .ensures .0) (c .before .before .before .before .before .before .before .loop-test .taken) (omega arith) (c .before .before .before .before .before .before .before .before .before .fresh .ensures) (c .before .before .before .before .step .ensures) (not-next _ (c .before .match .keys2)) ∙ c .before .before .before .before .before .before .before .before .loop .inv .2, stop-place (c .before .before .before .before .before .before .before .before .before .before .before .before .before .before .args .inputs .now) (c .before .before .before .before .before .before .before .before .before .before .before .before .before .before .args .p .now) (c .before .before .before .before .before .before .before .before .loop .done) (c .before .before .before .before .before .before .before .before .loop .at) (c .before .before .before .before .before .before .before .before .before .before .word .result) (c .before .before .before .before .before .before .before .before .loop .k) (c .before .before .before .before .before .before .before .before .before .fresh .result) (c .stopped .ensures) (c .before .before .before .before .before .before .before .before .before .before .word .ensures .0) (omega arith) (c .before .before .before .before .step .ensures))
 
--- src/lib.rt:124:9
 sub-left : tie.Need-sub-left Inv-loop μ-loop
 sub-left c = omega arith
 
--- src/lib.rt:125:9
 add-done : tie.Need-add-done Inv-loop μ-loop
 add-done c = omega arith
 
--- src/lib.rt:114:5
 loop-less : tie.Need-loop-less Inv-loop μ-loop
 loop-less c = omega arith
 
--- src/lib.rt:114:5
 loop-again : tie.Need-loop-again Inv-loop μ-loop
 unfolding code-count
 loop-again c = (omega arith, c .before .before .before .before .before .step .kept .1 .1 .1 .0 ∙ c .before .before .before .before .before .before .before .before .before .loop .inv .1, next-reply (c .before .before .before .before .before .before .before .before .before .before .before .before .before .before .before .args .inputs .now) (c .before .before .before .before .before .before .before .before .before .before .before .before .before .before .before .args .p .now) (c .before .before .before .before .before .before .before .before .before .loop .left) (c .before .before .before .before .before .before .before .before .before .loop .done) (c .before .before .before .before .before .before .before .before .before .loop .at) (c .before .t .given .0 .0) (c .before .before .before .before .before .before .before .before .before .before .before .word .result) (kept-values (c .before .before .before .before .before .before .before .before .before .loop .k)) (c .before .before .before .before .before .before .before .before .before .loop .regs) (c .before .before .before .before .before .before .before .before .before .before .fresh .result) _ (c .before .before .before .before .before .before .before .before .loop-test .taken) (omega arith) (c .before .before .before .before .before .before .before .before .before .before .before .word .ensures .0) (c .before .before .before .before .before .before .before .before .before .before .fresh .ensures) (c .before .t .given .1) (c .before .before .before .before .before .step .ensures) ∙ c .before .before .before .before .before .before .before .before .before .loop .inv .2)
 
--- src/lib.rt:128:9
 finished-requires-2 : tie.Need-finished-requires-2 Inv-loop μ-loop
 unfolding code-count
 finished-requires-2 c κs = c .before .before .before .before .before .word .ensures .0
 
--- src/lib.rt:128:9
 same-length-3 : tie.Need-same-length-3 Inv-loop μ-loop
 same-length-3 c = c .before .before .before .before .loop .inv .1
 
--- src/lib.rt:128:9
 returns-3 : tie.Need-returns-3 Inv-loop μ-loop
 unfolding code-count
 returns-3 c = (end-reply (c .before .before .before .before .before .before .before .before .before .before .args .inputs .now) (c .before .before .before .before .before .before .before .before .before .before .args .p .now) (c .before .before .before .before .loop .left) (c .before .before .before .before .loop .done) (c .before .before .before .before .loop .at) (c .before .before .before .before .before .before .word .result) (kept-values (c .before .before .before .before .loop .k)) (c .before .before .before .before .loop .regs) (c .finished2 .ensures) (c .before .before .before .before .before .before .word .ensures .0) (c .before .before .if2 .taken) ∙ c .before .before .before .before .loop .inv .2, finished-place (c .before .before .before .before .before .before .before .before .before .before .args .inputs .now) (c .before .before .before .before .before .before .before .before .before .before .args .p .now) (c .before .before .before .before .loop .done) (c .before .before .before .before .loop .regs) (c .finished2 .ensures))
 
--- src/lib.rt:130:5
 replied-requires : tie.Need-replied-requires Inv-loop μ-loop
 replied-requires c κs = search needs
 
--- src/lib.rt:104:1
 same-length-4 : tie.Need-same-length-4 Inv-loop μ-loop
 same-length-4 c = c .before .before .before .loop .inv .1
 
--- src/lib.rt:104:1
 returns-4 : tie.Need-returns-4 Inv-loop μ-loop
 unfolding code-count
 returns-4 c = (spent-reply (c .before .before .before .before .before .before .before .before .before .args .inputs .now) (c .before .before .before .before .before .before .before .before .before .args .p .now) (c .before .before .before .loop .left) (c .before .before .before .loop .done) (c .before .before .before .loop .at) (c .before .before .before .before .before .word .result) (c .before .before .before .loop .k) (c .before .before .before .loop .regs) (c .replied .ensures) (c .before .before .before .before .before .word .ensures .0) (omega arith) (omega arith) ∙ c .before .before .before .loop .inv .2, spent-place (c .before .before .before .before .before .before .before .before .before .args .inputs .now) (c .before .before .before .before .before .before .before .before .before .args .p .now) (c .before .before .before .loop .done) (c .before .before .before .loop .at) (c .before .before .before .loop .k) (c .replied .ensures))

@@ -1,43 +1,32 @@
-use mathlib.Core.Path.{_≡_, refl, sym, ap, _∙_}
+use mathlib.Core.Path.{sym, _∙_}
 use native.Mathlib.Omega.{arith}
 use Rattle.layout.specs.Decode.{input-count, register-total}
 use Rattle.run.proofs.Late.{unfit-budget, unfit-count, unfit-inputs, unfit-registers}
 use borrow.Author.Needs.{needs}
 use Rattle.run.proofs.unfit.Statement.{statement}
 use Rattle.run.proofs.unfit.Tie as tie
-use Rattle.run.proofs.unfit.Reads as reads
-use Rattle.run.proofs.unfit.Lts as lts
-use Rattle.reader.proofs.word.Reads as word-reads
-use Rattle.run.proofs.all_finite.Reads as all-finite-reads
 
--- src/lib.rt:154:9
 word-requires : tie.Need-word-requires
 word-requires c κs = search needs
 
--- src/lib.rt:156:9
 returns : tie.Need-returns
 unfolding input-count
 returns c = unfit-count (c .before .before .before .before .before .args .inputs .now) (c .before .before .before .before .before .args .p .now) (c .before .before .before .before .before .args .regs .now) (c .before .before .before .before .before .args .budget) (λ e. c .if1 .taken (e ∙ sym (c .before .word .ensures .0)))
 
--- src/lib.rt:158:9
 word-requires-2 : tie.Need-word-requires-2
 word-requires-2 c κs = search needs
 
--- src/lib.rt:160:9
 returns-2 : tie.Need-returns-2
 unfolding input-count register-total
 returns-2 c = unfit-registers (c .before .before .before .before .before .before .before .args .inputs .now) (c .before .before .before .before .before .before .before .args .p .now) (c .before .before .before .before .before .before .before .args .regs .now) (c .before .before .before .before .before .before .before .args .budget) (c .before .before .if1 .left ∙ c .before .before .before .word .ensures .0) (omega (arith, c .before .word2 .ensures .0))
 
--- src/lib.rt:162:9
 all-finite-requires : tie.Need-all-finite-requires
 all-finite-requires c κs = search needs
 
--- src/lib.rt:164:9
 returns-3 : tie.Need-returns-3
 unfolding input-count register-total
 returns-3 c = unfit-budget (c .before .before .before .before .before .before .before .before .before .args .inputs .now) (c .before .before .before .before .before .before .before .before .before .args .p .now) (c .before .before .before .before .before .before .before .before .before .args .regs .now) (c .before .before .before .before .before .before .before .before .before .args .budget) (c .before .before .before .before .if1 .left ∙ c .before .before .before .before .before .word .ensures .0) (omega (arith, c .before .before .before .word2 .ensures .0)) (sym (c .before .all-finite .ensures) ∙ c .if3 .taken)
 
--- src/lib.rt:151:1
 returns-4 : tie.Need-returns-4
 unfolding input-count register-total
 returns-4 c = unfit-inputs (c .before .before .before .before .before .before .before .before .before .args .inputs .now) (c .before .before .before .before .before .before .before .before .before .args .p .now) (c .before .before .before .before .before .before .before .before .before .args .regs .now) (c .before .before .before .before .before .before .before .before .before .args .budget) (c .before .before .before .before .if1 .left ∙ c .before .before .before .before .before .word .ensures .0) (omega (arith, c .before .before .before .word2 .ensures .0)) (sym (c .before .all-finite .ensures) ∙ c .if3 .left)

@@ -1,5 +1,4 @@
-use mathlib.Core.Path.{_≡_, refl, sym, ap, _∙_, subst}
-use native.Mathlib.Omega.{arith}
+use mathlib.Core.Path.{sym, ap, _∙_, subst}
 use borrow.Author.Tests.{eq-eqb, ne-eqb}
 use lib.ListN.{length}
 use Rattle.formula.specs.Path.{placed}
@@ -8,75 +7,55 @@ use Rattle.run.specs.Views.{Writable, answer-of}
 use borrow.Author.Needs.{needs}
 use Rattle.run.proofs.write_place.Statement.{statement}
 use Rattle.run.proofs.write_place.Tie as tie
-use Rattle.run.proofs.write_place.Reads as reads
-use Rattle.run.proofs.write_place.Lts as lts
-use Rattle.paths.proofs.write_root.Reads as write-root-reads
-use Rattle.program.proofs.write_place.Reads as write-place-reads
 
--- src/lib.rt:289:24
 enum-known-answer : tie.Need-enum-known-answer
 enum-known-answer c = search needs
 
--- src/lib.rt:289:30
 write-place-requires : tie.Need-write-place-requires
 write-place-requires c κs = let w = subst (λ a. Writable (c .before .before .before .before .before .before .args .p .now) (length (c .before .before .before .before .before .before .args .path .now)) a) (c .before .before .answer .given .1) (c .before .before .before .before .before .before .pre .1) in (c .before .before .before .before .before .before .pre .0, w .0, w .1)
 
--- src/lib.rt:290:25
 enum-known-answer-2 : tie.Need-enum-known-answer-2
 enum-known-answer-2 c = search needs
 
--- src/lib.rt:292:17
 write-root-requires : tie.Need-write-root-requires
 write-root-requires c κs = subst (λ a. Writable (c .before .before .before .before .before .before .before .args .p .now) (length (c .before .before .before .before .before .before .before .args .path .now)) a) (c .before .before .before .answer2 .given .1) (c .before .before .before .before .before .before .before .pre .1) (c .before .if1 .taken)
 
--- src/lib.rt:295:23
 enum-known-answer-3 : tie.Need-enum-known-answer-3
 enum-known-answer-3 c = search needs
 
--- src/lib.rt:296:28
 enum-known-answer-4 : tie.Need-enum-known-answer-4
 enum-known-answer-4 c = search needs
 
--- src/lib.rt:297:23
 enum-known-answer-5 : tie.Need-enum-known-answer-5
 enum-known-answer-5 c = search needs
 
 enum-told : tie.Need-enum-told
 enum-told c = search needs
 
--- src/lib.rt:284:1
 same-length : tie.Need-same-length
 same-length c = search needs
 
--- src/lib.rt:284:1
 returns : tie.Need-returns
 returns c = c .before .before .write-place .ensures ∙ ap (λ a. placed (place-of (answer-of (c .before .before .before .before .before .before .before .before .before .args .p .now) a)) (c .before .before .before .before .before .before .before .before .before .args .path .now)) (sym (c .before .before .before .before .before .answer .given .1))
 
--- src/lib.rt:284:1
 same-length-2 : tie.Need-same-length-2
 same-length-2 c = search needs
 
--- src/lib.rt:284:1
 returns-2 : tie.Need-returns-2
 returns-2 c = rw (c .before .before .before .before .before .before .answer2 .given .1, eq-eqb _ 5 (c .before .before .before .before .if1 .taken)) (c .before .before .write-root .ensures)
 
--- src/lib.rt:284:1
 returns-3 : tie.Need-returns-3
 returns-3 c = rw (c .before .before .answer2 .given .1, ne-eqb _ 5 (c .if1 .left))
 
--- src/lib.rt:284:1
 returns-4 : tie.Need-returns-4
 returns-4 c = search needs
 
--- src/lib.rt:284:1
 returns-5 : tie.Need-returns-5
 returns-5 c = search needs
 
--- src/lib.rt:284:1
 returns-6 : tie.Need-returns-6
 returns-6 c = search needs
 
--- src/lib.rt:284:1
 returns-7 : tie.Need-returns-7
 returns-7 c = search needs
 

@@ -1,0 +1,5 @@
+-- Laws of compile.
+pub mod Headers
+pub mod Faults
+pub mod Whole
+pub mod Entries

@@ -1,0 +1,3 @@
+-- What compile answers, and what a program's slice holds then.
+pub mod Outcome
+pub mod Entry

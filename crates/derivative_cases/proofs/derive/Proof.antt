@@ -1,0 +1,83 @@
+use native.Mathlib.Omega.{arith}
+use Prim.Native.Nat.{_*_}
+use mathlib.Core.Path.{_≡_, refl, sym, _∙_, ap}
+use Rattle.formula.specs.Formula.{Formula}
+use Rattle.derivative.specs.Attributes.{Attributes}
+use Rattle.survey.specs.Table.{tree}
+use Rattle.differentiate.proofs.Whole.{job-of}
+use Rattle.derivative_cases.proofs.Capped.{own-capped, diff-capped, room-from}
+use borrow.Author.Needs.{needs}
+use Rattle.derivative_cases.proofs.derive.Statement.{statement}
+use Rattle.derivative_cases.proofs.derive.Tie as tie
+use Rattle.derivative_cases.proofs.derive.Reads as reads
+use Rattle.derivative_cases.proofs.derive.Lts as lts
+use Rattle.differentiate.proofs.write_derivative.Reads as write-derivative-reads
+use Rattle.reader.proofs.is_formula.Reads as is-formula-reads
+use Rattle.reader.proofs.within_limits.Reads as within-limits-reads
+use Rattle.survey.proofs.survey_formula.Reads as survey-formula-reads
+use Rattle.survey.proofs.with_primal.Reads as with-primal-reads
+
+is-formula-requires : tie.Need-is-formula-requires
+is-formula-requires c κs = search needs
+
+within-limits-requires : tie.Need-within-limits-requires
+within-limits-requires c κs = search needs
+
+slice-aggregate-survey-formula : tie.Need-slice-aggregate-survey-formula
+slice-aggregate-survey-formula c = search needs
+
+survey-formula-requires : tie.Need-survey-formula-requires
+survey-formula-requires c κs = room-from (c .before .before .before .before .before .before .before .args .f .now) _ (sym (c .before .before .before .before .is-formula .ensures) ∙ c .before .before .before .if1 .taken) (sym (c .before .before .within-limits .ensures) ∙ c .before .if2 .taken) (omega arith)
+
+with-primal-requires : tie.Need-with-primal-requires
+with-primal-requires c κs = (own-capped (c .before .before .before .before .before .before .before .before .before .before .before .before .args .by .symbol) (c .before .before .before .before .before .before .before .before .before .before .before .before .args .by .state) (tree (c .before .before .before .before .before .before .before .before .before .before .before .before .args .f .now) 0) (c .before .before .before .before .survey-formula .result) (c .before .before .before .before .survey-formula .ensures .0), diff-capped (c .before .before .before .before .before .before .before .before .before .before .before .before .args .by .symbol) (c .before .before .before .before .before .before .before .before .before .before .before .before .args .by .state) (tree (c .before .before .before .before .before .before .before .before .before .before .before .before .args .f .now) 0) (c .before .before .before .before .survey-formula .result) (c .before .before .before .before .survey-formula .ensures .0) (c .before .before .if3 .taken))
+
+returns : tie.Need-returns
+returns c = search needs
+
+returns-2 : tie.Need-returns-2
+returns-2 c = search needs
+
+returns-3 : tie.Need-returns-3
+returns-3 c = search needs
+
+slice-aggregate-write-derivative : tie.Need-slice-aggregate-write-derivative
+slice-aggregate-write-derivative c = search needs
+
+write-derivative-requires : tie.Need-write-derivative-requires
+write-derivative-requires c κs = job-of (c .before .before .before .before .before .before .before .before .before .before .before .before .before .before .before .before .before .before .before .before .before .args .by .symbol) (c .before .before .before .before .before .before .before .before .before .before .before .before .before .before .before .before .before .before .before .before .before .args .by .state) (c .before .before .before .before .before .before .before .before .before .before .before .before .before .before .before .before .before .before .before .before .before .args .f .now) _ _ 32 (room-from (c .before .before .before .before .before .before .before .before .before .before .before .before .before .before .before .before .before .before .before .before .before .args .f .now) _ (sym (c .before .before .before .before .before .before .before .before .before .before .before .before .before .before .before .before .before .before .is-formula .ensures) ∙ c .before .before .before .before .before .before .before .before .before .before .before .before .before .before .before .before .before .if1 .taken) (sym (c .before .before .before .before .before .before .before .before .before .before .before .before .before .before .before .before .within-limits .ensures) ∙ c .before .before .before .before .before .before .before .before .before .before .before .before .before .before .before .if2 .taken) (omega arith)) (c .before .before .before .before .before .before .before .before .before .before .before .before .before .survey-formula .kept .1 .1 .1 .0) (c .before .before .before .before .before .before .before .before .before .before .before .before .before .survey-formula .ensures .1) (c .before .before .before .before .before .before .before .before .before .before .before .before .before .survey-formula .result) (c .before .before .before .before .before .before .before .before .before .before .before .before .before .survey-formula .ensures .0) (c .before .before .before .before .before .before .before .before .before .before .before .if3 .taken) (c .before .before .before .before .before .before .before .before .with-primal .result .nodes) (c .before .before .before .before .before .before .before .before .before .before .before .before .before .before .before .before .before .before .before .before .before .args .out .now) (ap (λ (x : Attributes). x .nodes) (c .before .before .before .before .before .before .before .before .with-primal .ensures)) (omega (arith, c .before .before .before .before .before .before .if4 .left)) (omega (arith, c .before .before .if6 .left))
+
+same-length : tie.Need-same-length
+same-length c = search needs
+
+returns-4 : tie.Need-returns-4
+returns-4 c = search needs
+
+returns-5 : tie.Need-returns-5
+returns-5 c = search needs
+
+returns-6 : tie.Need-returns-6
+returns-6 c = search needs
+
+returns-7 : tie.Need-returns-7
+returns-7 c = search needs
+
+pub derive-spec : {M : Type 1} → statement M
+derive-spec =
+    tie.close
+    (tie.spec
+    is-formula-requires
+    within-limits-requires
+    slice-aggregate-survey-formula
+    survey-formula-requires
+    with-primal-requires
+    returns
+    returns-2
+    returns-3
+    slice-aggregate-write-derivative
+    write-derivative-requires
+    same-length
+    returns-4
+    returns-5
+    returns-6
+    returns-7)

@@ -1,0 +1,65 @@
+use native.Mathlib.Omega.{arith}
+use Prim.Native.Nat.{_+_, _-_, _*_}
+use lib.ListN.{getD, length-take, length-drop}
+use Rattle.survey.proofs.Rows.{row-inside}
+use Rattle.differentiate.proofs.Lists.{as-text}
+use Rattle.differentiate.proofs.Leaves.{tree-room, tree-bytes, tree-fits}
+use borrow.Author.Needs.{needs}
+use Rattle.differentiate.proofs.put_tree.Statement.{statement}
+use Rattle.differentiate.proofs.put_tree.Tie as tie
+use Rattle.differentiate.proofs.put_tree.Reads as reads
+use Rattle.differentiate.proofs.put_tree.Lts as lts
+use Rattle.differentiate.proofs.copy.Reads as copy-reads
+
+mul-start : tie.Need-mul-start
+mul-start c = search needs
+
+mul-end : tie.Need-mul-end
+mul-end c = search needs
+
+mul-end-2 : tie.Need-mul-end-2
+mul-end-2 c = search needs
+
+shared-slice-read-end : tie.Need-shared-slice-read-end
+shared-slice-read-end c = omega (arith, row-inside (c .before .before .before .before .args .f .now) (c .before .before .before .before .args .table .now) (c .before .before .before .before .args .k) (c .before .before .before .before .pre .0))
+
+mul-end-3 : tie.Need-mul-end-3
+mul-end-3 c = omega (arith, tree-room (c .before .before .before .before .args .f .now) (c .before .before .before .before .args .table .now) (c .before .before .before .before .args .k) (c .before .before .before .before .pre .0))
+
+add-end : tie.Need-add-end
+add-end c = omega (arith, tree-room (c .before .before .before .before .args .f .now) (c .before .before .before .before .args .table .now) (c .before .before .before .before .args .k) (c .before .before .before .before .pre .0))
+
+sub-copy : tie.Need-sub-copy
+sub-copy c = search needs
+
+part-copy-start : tie.Need-part-copy-start
+part-copy-start c = search needs
+
+part-copy-end : tie.Need-part-copy-end
+part-copy-end c = omega (arith, tree-room (c .before .before .before .before .args .f .now) (c .before .before .before .before .args .table .now) (c .before .before .before .before .args .k) (c .before .before .before .before .pre .0))
+
+copy-requires : tie.Need-copy-requires
+copy-requires c κs = simp (length-take, length-drop) (omega (arith, tree-room (c .before .before .before .before .before .before .args .f .now) (c .before .before .before .before .before .before .args .table .now) (c .before .before .before .before .before .before .args .k) (c .before .before .before .before .before .before .pre .0), tree-fits (c .before .before .before .before .before .before .args .f .now) (c .before .before .before .before .before .before .args .table .now) (c .before .before .before .before .before .before .args .k) (c .before .before .before .before .before .before .pre .0) (c .before .before .before .before .before .before .args .out .now) (c .before .before .before .before .before .before .pre .1)))
+
+same-length : tie.Need-same-length
+same-length c = search needs
+
+returns : tie.Need-returns
+returns c = as-text _ _ _ _ _ (tree-bytes (c .before .before .before .before .before .before .before .before .before .args .f .now) (c .before .before .before .before .before .before .before .before .before .args .table .now) (c .before .before .before .before .before .before .before .before .before .args .k) (c .before .before .before .before .before .before .before .before .before .pre .0) (λ i. omega (arith, c .before .before .before .before .before .before .before .before .shared-slice-known .given i)) (16 * c .before .before .before .before .before .before .before .before .before .args .k + 16 * getD (c .before .before .before .before .before .before .before .before .before .args .table .now) (8 * c .before .before .before .before .before .before .before .before .before .args .k) 0 - 16 * c .before .before .before .before .before .before .before .before .before .args .k) (omega arith)) (c .before .before .copy .ensures)
+
+pub put-tree-spec : {M : Type 1} → statement M
+put-tree-spec =
+    tie.close
+    (tie.spec
+    mul-start
+    mul-end
+    mul-end-2
+    shared-slice-read-end
+    mul-end-3
+    add-end
+    sub-copy
+    part-copy-start
+    part-copy-end
+    copy-requires
+    same-length
+    returns)

@@ -1,0 +1,438 @@
+// Writes the derivative tree: "Each part is written straight into the free end of the tree slice." A writer puts its nodes at
+// the start of the slice that it is lent, and lends what is free behind them to the writer of the next part. What is
+// simplified away is known from the survey, so nothing is written that the tree does not keep.
+ghost use mathlib.Core.Path.{_≡_};
+ghost use mathlib.Core.Bool.{true};
+ghost use mathlib.Core.List.{_++_};
+ghost use mathlib.Core.Option.{some};
+ghost use Prim.Native.Nat.{_+_, _*_, _-_, _%_, _<_, _≤_};
+ghost use lib.ListN.{length};
+ghost use Rattle.formula.specs.Formula.{Formula};
+ghost use Rattle.formula.specs.Node.{encode, node-bytes, inner-fields};
+ghost use Rattle.derivative.specs.Rules.{add-of, mul-of};
+ghost use Rattle.derivative.specs.Differentiate.{derivative};
+ghost use Rattle.rules.specs.Notation.{end-at};
+ghost use Rattle.survey.specs.Derived.{children-of, child-of, derived, derived-of};
+ghost use Rattle.survey.specs.Table.{tree, Owned};
+ghost use Rattle.differentiate.specs.Written.{Writes, Task, literal-bytes, part, parts-bytes, node-of, extremum-bytes, tie-bytes, sum-bytes, product-bytes, extremum-tree, Small, primal-bytes, Job};
+use reader::half;
+use rules::code;
+use rules::end_of;
+use rules::parts_of;
+use survey::By;
+use survey::child;
+use survey::diff_attributes;
+use survey::is_one;
+use survey::is_zero;
+use survey::literal_bits;
+use survey::rule_attributes;
+use survey::rule_of;
+use survey::wide;
+
+// Copies b to the start of out.
+fn copy(b: &[u8], out: &mut [u8]) -> usize
+    requires { ⌜ length (now b) ≤ length (now out) ⌝ }
+    ensures { λ r. ⌜ Writes (now (b .entry)) (now (out .entry)) (now (out .exit)) r ⌝ }
+{
+    let mut i = 0;
+    while i < b.len() {
+        out[i] = b[i];
+        i += 1;
+    }
+    i
+}
+
+// A node that is no literal and no symbol.
+fn put_node(kind: usize, operator: usize, children: usize, out: &mut [u8]) -> usize
+    requires { ⌜ (kind < 256) × (operator < 256) × (children < 256) × (16 ≤ length (now out)) ⌝ }
+    ensures { λ r. ⌜ Writes (node-bytes (inner-fields kind operator children)) (now (out .entry)) (now (out .exit)) r ⌝ }
+{
+    let b = [
+        kind as u8,
+        operator as u8,
+        children as u8,
+        0,
+        0,
+        0,
+        0,
+        0,
+        0,
+        0,
+        0,
+        0,
+        0,
+        0,
+        0,
+        0,
+    ];
+    copy(&b, out)
+}
+
+fn low(n: u64) -> u8
+    ensures { λ r. ⌜ r ≡ n % 256 ⌝ }
+{
+    (n % 256) as u8
+}
+
+fn put_literal(bits: u64, out: &mut [u8]) -> usize
+    requires { ⌜ 16 ≤ length (now out) ⌝ }
+    ensures { λ r. ⌜ Writes (literal-bytes bits) (now (out .entry)) (now (out .exit)) r ⌝ }
+{
+    let b1 = bits / 256;
+    let b2 = b1 / 256;
+    let b3 = b2 / 256;
+    let b4 = b3 / 256;
+    let b5 = b4 / 256;
+    let b6 = b5 / 256;
+    let b7 = b6 / 256;
+    let b = [
+        0,
+        0,
+        0,
+        0,
+        0,
+        0,
+        0,
+        0,
+        low(bits),
+        low(b1),
+        low(b2),
+        low(b3),
+        low(b4),
+        low(b5),
+        low(b6),
+        low(b7),
+    ];
+    copy(&b, out)
+}
+
+// A copy of the tree of node k.
+fn put_tree(f: &[u8], k: usize, table: &[usize], out: &mut [u8]) -> usize
+    requires { ⌜ Owned (now f) (now table) k × (length (encode (tree (now f) k)) ≤ length (now out)) ⌝ }
+    ensures { λ r. ⌜ Writes (encode (tree (now (f .entry)) k)) (now (out .entry)) (now (out .exit)) r ⌝ }
+{
+    let start = 16 * k;
+    let end = start + 16 * table[8 * k];
+    copy(&f[start..end], out)
+}
+
+// A copy of child i.
+fn put_child(f: &[u8], k: usize, i: usize, table: &[usize], out: &mut [u8]) -> usize
+    requires { ⌜ Owned (now f) (now table) k × (length (encode (child-of (tree (now f) k) i)) ≤ length (now out)) ⌝ }
+    ensures { λ r. ⌜ Writes (encode (child-of (tree (now (f .entry)) k) i)) (now (out .entry)) (now (out .exit)) r ⌝ }
+{
+    if i < half(f, 16 * k + 2) {
+        return put_tree(f, child(f, k, i, table), table, out);
+    }
+    put_literal(0, out)
+}
+
+// A conditional whose condition is that child i equals the extremum.
+fn put_tie(f: &[u8], k: usize, i: usize, table: &[usize], out: &mut [u8]) -> usize
+    requires { ⌜ Owned (now f) (now table) k × (length (tie-bytes (tree (now f) k) i) ≤ length (now out)) ⌝ }
+    ensures { λ r. ⌜ Writes (tie-bytes (tree (now (f .entry)) k) i) (now (out .entry)) (now (out .exit)) r ⌝ }
+{
+    let a = put_node(8, 0, 3, out);
+    let b = a + put_node(5, 4, 2, &mut out[a..]);
+    let c = b + put_child(f, k, i, table, &mut out[b..]);
+    c + put_tree(f, k, table, &mut out[c..])
+}
+
+// "A part without the symbol gives 0 before any rule is tried." The survey has found a rule wherever one is needed.
+pub fn differentiate(
+    f: &[u8],
+    k: usize,
+    depth: usize,
+    by: By,
+    table: &[usize],
+    out: &mut [u8],
+) -> usize
+    requires { ⌜ Task (by .symbol) (by .state) (now f) (now table) k depth (encode (derived (by .symbol) (by .state) (tree (now f) k))) (now out) ⌝ }
+    ensures { λ r. ⌜ Writes (encode (derived (by .symbol) (by .state) (tree (now (f .entry)) k))) (now (out .entry)) (now (out .exit)) r ⌝ }
+{
+    if table[8 * k + 2] == 1 {
+        let q = rule_of(f, k, by, table);
+        if code(q, 0) == 0 {
+            return put_literal(0, out);
+        }
+        return write_rule(q, 0, 16, f, k, depth, by, table, out);
+    }
+    put_literal(0, out)
+}
+
+// The derivative of child i.
+fn write_diff(
+    f: &[u8],
+    k: usize,
+    i: usize,
+    depth: usize,
+    by: By,
+    table: &[usize],
+    out: &mut [u8],
+) -> usize
+    requires { ⌜ Task (by .symbol) (by .state) (now f) (now table) k depth (encode (derived-of (by .symbol) (by .state) (tree (now f) k) i)) (now out) ⌝ }
+    ensures { λ r. ⌜ Writes (encode (derived-of (by .symbol) (by .state) (tree (now (f .entry)) k) i)) (now (out .entry)) (now (out .exit)) r ⌝ }
+{
+    if i < half(f, 16 * k + 2) {
+        return differentiate(f, child(f, k, i, table), depth - 1, by, table, out);
+    }
+    put_literal(0, out)
+}
+
+// What the part of a rule that starts at a code gives, for node k.
+fn write_rule(
+    q: usize,
+    i: usize,
+    levels: usize,
+    f: &[u8],
+    k: usize,
+    depth: usize,
+    by: By,
+    table: &[usize],
+    out: &mut [u8],
+) -> usize
+    requires { ⌜ Task (by .symbol) (by .state) (now f) (now table) k depth (encode (part (by .symbol) (by .state) (tree (now f) k) levels q i)) (now out) ⌝ }
+    ensures { λ r. ⌜ Writes (encode (part (by .symbol) (by .state) (tree (now (f .entry)) k) levels q i)) (now (out .entry)) (now (out .exit)) r ⌝ }
+{
+    if levels == 0 {
+        return put_literal(0, out);
+    }
+    if i >= 128 {
+        return put_literal(0, out);
+    }
+    let c = wide(code(q, i));
+    let kind = c / 16;
+    if kind == 0 {
+        return put_literal(0, out);
+    }
+    if kind == 1 {
+        return put_child(f, k, c % 16, table, out);
+    }
+    if kind == 2 {
+        return write_diff(f, k, c % 16, depth, by, table, out);
+    }
+    if kind == 3 {
+        return put_tree(f, k, table, out);
+    }
+    if kind == 11 {
+        return write_extremum(f, k, depth, by, table, out);
+    }
+    if kind >= 12 {
+        return put_literal(literal_bits(c % 16, f, k, table), out);
+    }
+    if kind == 6 {
+        if is_zero(diff_attributes(f, k, c % 16, by, table)) {
+            return put_literal(0, out);
+        }
+        return write_rule(q, i + 1, levels - 1, f, k, depth, by, table, out);
+    }
+    if kind == 9 {
+        return write_sum(q, i + 1, levels - 1, f, k, depth, by, table, out);
+    }
+    if kind == 10 {
+        return write_product(q, i + 1, levels - 1, f, k, depth, by, table, out);
+    }
+    write_node(
+        kind,
+        c % 16,
+        parts_of(kind, c % 16),
+        q,
+        i + 1,
+        levels - 1,
+        f,
+        k,
+        depth,
+        by,
+        table,
+        out,
+    )
+}
+
+// Two parts, added: "Only a literal zero (of either sign) beside Add .. are simplified."
+fn write_sum(
+    q: usize,
+    i: usize,
+    levels: usize,
+    f: &[u8],
+    k: usize,
+    depth: usize,
+    by: By,
+    table: &[usize],
+    out: &mut [u8],
+) -> usize
+    requires { ⌜ Task (by .symbol) (by .state) (now f) (now table) k depth (sum-bytes (by .symbol) (by .state) (tree (now f) k) levels q i) (now out) ⌝ }
+    ensures { λ r. ⌜ Writes (sum-bytes (by .symbol) (by .state) (tree (now (f .entry)) k) levels q i) (now (out .entry)) (now (out .exit)) r ⌝ }
+{
+    let j = end_of(q, i, levels);
+    if is_zero(rule_attributes(q, i, levels, f, k, by, table)) {
+        return write_rule(q, j, levels, f, k, depth, by, table, out);
+    }
+    if is_zero(rule_attributes(q, j, levels, f, k, by, table)) {
+        return write_rule(q, i, levels, f, k, depth, by, table, out);
+    }
+    write_node(4, 0, 2, q, i, levels, f, k, depth, by, table, out)
+}
+
+// Two parts, multiplied: "a literal zero or one beside Multiply".
+fn write_product(
+    q: usize,
+    i: usize,
+    levels: usize,
+    f: &[u8],
+    k: usize,
+    depth: usize,
+    by: By,
+    table: &[usize],
+    out: &mut [u8],
+) -> usize
+    requires { ⌜ Task (by .symbol) (by .state) (now f) (now table) k depth (product-bytes (by .symbol) (by .state) (tree (now f) k) levels q i) (now out) ⌝ }
+    ensures { λ r. ⌜ Writes (product-bytes (by .symbol) (by .state) (tree (now (f .entry)) k) levels q i) (now (out .entry)) (now (out .exit)) r ⌝ }
+{
+    let j = end_of(q, i, levels);
+    let a = rule_attributes(q, i, levels, f, k, by, table);
+    let b = rule_attributes(q, j, levels, f, k, by, table);
+    if is_zero(a) {
+        return put_literal(0, out);
+    }
+    if is_zero(b) {
+        return put_literal(0, out);
+    }
+    if is_one(a) {
+        return write_rule(q, j, levels, f, k, depth, by, table, out);
+    }
+    if is_one(b) {
+        return write_rule(q, i, levels, f, k, depth, by, table, out);
+    }
+    write_node(4, 2, 2, q, i, levels, f, k, depth, by, table, out)
+}
+
+// A node, and its parts behind it.
+fn write_node(
+    kind: usize,
+    operator: usize,
+    children: usize,
+    q: usize,
+    i: usize,
+    levels: usize,
+    f: &[u8],
+    k: usize,
+    depth: usize,
+    by: By,
+    table: &[usize],
+    out: &mut [u8],
+) -> usize
+    requires { ⌜ Small kind operator children × Task (by .symbol) (by .state) (now f) (now table) k depth (node-of kind operator children (parts-bytes (by .symbol) (by .state) (tree (now f) k) levels q children i)) (now out) ⌝ }
+    ensures { λ r. ⌜ Writes (node-of kind operator children (parts-bytes (by .symbol) (by .state) (tree (now (f .entry)) k) levels q children i)) (now (out .entry)) (now (out .exit)) r ⌝ }
+{
+    let n = put_node(kind, operator, children, out);
+    n
+        + write_rules(
+            q,
+            i,
+            children,
+            levels,
+            f,
+            k,
+            depth,
+            by,
+            table,
+            &mut out[n..],
+        )
+}
+
+// So many parts one after another.
+fn write_rules(
+    q: usize,
+    i: usize,
+    left: usize,
+    levels: usize,
+    f: &[u8],
+    k: usize,
+    depth: usize,
+    by: By,
+    table: &[usize],
+    out: &mut [u8],
+) -> usize
+    requires { ⌜ (left ≤ 3) × Task (by .symbol) (by .state) (now f) (now table) k depth (parts-bytes (by .symbol) (by .state) (tree (now f) k) levels q left i) (now out) ⌝ }
+    ensures { λ r. ⌜ Writes (parts-bytes (by .symbol) (by .state) (tree (now (f .entry)) k) levels q left i) (now (out .entry)) (now (out .exit)) r ⌝ }
+{
+    if left == 0 {
+        return 0;
+    }
+    let n = write_rule(q, i, levels, f, k, depth, by, table, out);
+    let j = end_of(q, i, levels);
+    n
+        + write_rules(
+            q,
+            j,
+            left - 1,
+            levels,
+            f,
+            k,
+            depth,
+            by,
+            table,
+            &mut out[n..],
+        )
+}
+
+// Min and Max: "Compare against the primal extremum in source order."
+fn write_extremum(
+    f: &[u8],
+    k: usize,
+    depth: usize,
+    by: By,
+    table: &[usize],
+    out: &mut [u8],
+) -> usize
+    requires { ⌜ Task (by .symbol) (by .state) (now f) (now table) k depth (encode (extremum-tree (by .symbol) (by .state) (tree (now f) k))) (now out) ⌝ }
+    ensures { λ r. ⌜ Writes (encode (extremum-tree (by .symbol) (by .state) (tree (now (f .entry)) k))) (now (out .entry)) (now (out .exit)) r ⌝ }
+{
+    let n = half(f, 16 * k + 2);
+    if n == 0 {
+        return put_literal(0, out);
+    }
+    write_ties(f, k, 0, n - 1, depth, by, table, out)
+}
+
+// From child i on, with so many left after it: the derivative of the first that equals the extremum.
+fn write_ties(
+    f: &[u8],
+    k: usize,
+    i: usize,
+    left: usize,
+    depth: usize,
+    by: By,
+    table: &[usize],
+    out: &mut [u8],
+) -> usize
+    requires { ⌜ (i + left < 65536) × Task (by .symbol) (by .state) (now f) (now table) k depth (extremum-bytes (by .symbol) (by .state) (tree (now f) k) i left) (now out) ⌝ }
+    ensures { λ r. ⌜ Writes (extremum-bytes (by .symbol) (by .state) (tree (now (f .entry)) k) i left) (now (out .entry)) (now (out .exit)) r ⌝ }
+{
+    if left == 0 {
+        return write_diff(f, k, i, depth, by, table, out);
+    }
+    let n = put_tie(f, k, i, table, out);
+    let m = n + write_diff(f, k, i, depth, by, table, &mut out[n..]);
+    m + write_ties(f, k, i + 1, left - 1, depth, by, table, &mut out[m..])
+}
+
+// 0 × formula, up to the derivative.
+fn put_primal(f: &[u8], table: &[usize], out: &mut [u8]) -> usize
+    requires { ⌜ Owned (now f) (now table) 0 × (length (primal-bytes (tree (now f) 0)) ≤ length (now out)) ⌝ }
+    ensures { λ r. ⌜ Writes (primal-bytes (tree (now (f .entry)) 0)) (now (out .entry)) (now (out .exit)) r ⌝ }
+{
+    let a = put_node(4, 0, 2, out);
+    let b = a + put_node(4, 2, 2, &mut out[a..]);
+    let c = b + put_literal(0, &mut out[b..]);
+    c + put_tree(f, 0, table, &mut out[c..])
+}
+
+// "0 × formula + derivative, by the rules of `derivative.rs`": the tree that the definition gives, behind it the slice as it was.
+pub fn write_derivative(f: &[u8], depth: usize, by: By, table: &[usize], out: &mut [u8]) -> usize
+    requires { ⌜ Job (by .symbol) (by .state) (now f) (now table) depth (now out) ⌝ }
+    ensures { λ r. ⌜ ((d : Formula) → derivative (by .symbol) (by .state) (tree (now (f .entry)) 0) ≡ some d → Writes (encode d) (now (out .entry)) (now (out .exit)) r) ⌝ }
+{
+    let n = put_primal(f, table, out);
+    n + differentiate(f, 0, depth, by, table, &mut out[n..])
+}

@@ -1,0 +1,15 @@
+pub mod Laid
+pub mod Rows
+pub mod Leaves
+pub mod Frames
+pub mod Says
+pub mod Ends
+pub mod Kids
+pub mod Compose
+pub mod Branches
+pub mod Arms
+pub mod Choices
+pub mod Collects
+pub mod Wholes
+pub mod Lowers
+pub mod Answers

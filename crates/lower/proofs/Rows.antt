@@ -1,0 +1,91 @@
+-- Numbers, instructions and records as they are stored.
+use mathlib.Core.Path.{_≡_, refl, ap, ap₂, _∙_}
+use mathlib.Core.List.{List, _∷_, _++_}
+use Prim.Native.Nat.{ℕ, suc, _+_, _/_, _%_, _≤_, _<_}
+use native.Mathlib.Omega.{arith}
+use lib.ListN.{length, set}
+use Rattle.formula.specs.Text.{little-endian}
+use Rattle.layout.specs.Image.{constant-row, row}
+use Rattle.paths.specs.Over.{over}
+use Rattle.paths.proofs.Over.{over-over}
+use Rattle.lower.proofs.Laid.{over-sets}
+
+pub half-stored : (p : List ℕ) (i x : ℕ) → i + 2 ≤ length p → set (set p i (x % 256)) (i + 1) (x / 256 % 256) ≡ over p i (little-endian 2 x)
+half-stored p i x h =
+    let e : i + 1 ≡ suc i = omega arith in
+    rw e (over-sets p i (little-endian 2 x) h)
+
+pub word-stored : (p : List ℕ) (i x : ℕ) → i + 4 ≤ length p
+    → set (set (set (set p i (x % 256)) (i + 1) (x / 256 % 256)) (i + 2) (x / 256 / 256 % 256)) (i + 3) (x / 256 / 256 / 256 % 256) ≡ over p i (little-endian 4 x)
+word-stored p i x h =
+    let e1 : i + 1 ≡ suc i = omega arith in
+    let e2 : i + 2 ≡ suc (suc i) = omega arith in
+    let e3 : i + 3 ≡ suc (suc (suc i)) = omega arith in
+    rw (e1, e2, e3) (over-sets p i (little-endian 4 x) h)
+
+-- one part right after another
+pub next-over : (p p₁ p₂ : List ℕ) (i j : ℕ) (xs ys : List ℕ) → p₁ ≡ over p i xs → p₂ ≡ over p₁ j ys → j ≡ i + length xs → i + length xs ≤ length p
+    → p₂ ≡ over p i (xs ++ ys)
+next-over p p₁ p₂ i j xs ys e f g h =
+    f ∙ ap (λ (q : List ℕ). over q j ys) e ∙ ap (λ (k : ℕ). over (over p i xs) k ys) g ∙ over-over p i xs ys h
+
+pub long-stored : (p : List ℕ) (i x : ℕ) → i + 8 ≤ length p
+    → set (set (set (set (set (set (set (set p i (x % 256)) (i + 1) (x / 256 % 256)) (i + 2) (x / 256 / 256 % 256)) (i + 3) (x / 256 / 256 / 256 % 256)) (i + 4) (x / 256 / 256 / 256 / 256 % 256)) (i + 5) (x / 256 / 256 / 256 / 256 / 256 % 256)) (i + 6) (x / 256 / 256 / 256 / 256 / 256 / 256 % 256)) (i + 7) (x / 256 / 256 / 256 / 256 / 256 / 256 / 256 % 256)
+    ≡ over p i (little-endian 8 x)
+long-stored p i x h =
+    let e1 : i + 1 ≡ suc i = omega arith in
+    let e2 : i + 2 ≡ suc (suc i) = omega arith in
+    let e3 : i + 3 ≡ suc (suc (suc i)) = omega arith in
+    let e4 : i + 4 ≡ suc (suc (suc (suc i))) = omega arith in
+    let e5 : i + 5 ≡ suc (suc (suc (suc (suc i)))) = omega arith in
+    let e6 : i + 6 ≡ suc (suc (suc (suc (suc (suc i))))) = omega arith in
+    let e7 : i + 7 ≡ suc (suc (suc (suc (suc (suc (suc i)))))) = omega arith in
+    rw (e1, e2, e3, e4, e5, e6, e7) (over-sets p i (little-endian 8 x) h)
+
+pub record-stored : (p p₁ p₂ p₃ : List ℕ) (i a b c : ℕ) → i + 12 ≤ length p → p₁ ≡ over p i (little-endian 4 a) → p₂ ≡ over p₁ (i + 4) (little-endian 4 b)
+    → p₃ ≡ over p₂ (i + 8) (little-endian 4 c) → p₃ ≡ over p i (little-endian 4 a ++ little-endian 4 b ++ little-endian 4 c)
+record-stored p p₁ p₂ p₃ i a b c h e f g =
+    let f₂ = next-over p p₁ p₂ i (i + 4) (little-endian 4 a) (little-endian 4 b) e f refl (omega arith) in
+    next-over p p₂ p₃ i (i + 8) (little-endian 4 a ++ little-endian 4 b) (little-endian 4 c) f₂ g refl (omega arith)
+
+low-byte : (x : ℕ) → x < 256 → x % 256 ≡ x
+low-byte x h = omega arith
+
+high-byte : (x : ℕ) → x < 256 → x / 256 % 256 ≡ 0
+high-byte x h = omega arith
+
+pub row-stored : (p p₁ p₂ p₃ p₄ p₅ p₆ p₇ : List ℕ) (i o n d a b c k : ℕ) → i + 24 ≤ length p → o < 256 → p₁ ≡ over p i (little-endian 2 o)
+    → p₂ ≡ over p₁ (i + 2) (little-endian 2 n) → p₃ ≡ over p₂ (i + 4) (little-endian 4 d) → p₄ ≡ over p₃ (i + 8) (little-endian 4 a)
+    → p₅ ≡ over p₄ (i + 12) (little-endian 4 b) → p₆ ≡ over p₅ (i + 16) (little-endian 4 c) → p₇ ≡ over p₆ (i + 20) (little-endian 4 k)
+    → p₇ ≡ over p i (row o n d a b c k)
+row-stored p p₁ p₂ p₃ p₄ p₅ p₆ p₇ i o n d a b c k h s e₁ e₂ e₃ e₄ e₅ e₆ e₇ =
+    let x₁ = little-endian 2 o in
+    let x₂ : List ℕ = x₁ ++ little-endian 2 n in
+    let x₃ : List ℕ = x₂ ++ little-endian 4 d in
+    let x₄ : List ℕ = x₃ ++ little-endian 4 a in
+    let x₅ : List ℕ = x₄ ++ little-endian 4 b in
+    let x₆ : List ℕ = x₅ ++ little-endian 4 c in
+    let f₂ = next-over p p₁ p₂ i (i + 2) x₁ (little-endian 2 n) e₁ e₂ refl (omega arith) in
+    let f₃ = next-over p p₂ p₃ i (i + 4) x₂ (little-endian 4 d) f₂ e₃ refl (omega arith) in
+    let f₄ = next-over p p₃ p₄ i (i + 8) x₃ (little-endian 4 a) f₃ e₄ refl (omega arith) in
+    let f₅ = next-over p p₄ p₅ i (i + 12) x₄ (little-endian 4 b) f₄ e₅ refl (omega arith) in
+    let f₆ = next-over p p₅ p₆ i (i + 16) x₅ (little-endian 4 c) f₅ e₆ refl (omega arith) in
+    let f₇ = next-over p p₆ p₇ i (i + 20) x₆ (little-endian 4 k) f₆ e₇ refl (omega arith) in
+    f₇
+    ∙ ap₂ (λ (u v : ℕ). over p i (u ∷ v ∷ (little-endian 2 n ++ little-endian 4 d ++ little-endian 4 a ++ little-endian 4 b ++ little-endian 4 c ++ little-endian 4 k)))
+    (low-byte o s) (high-byte o s)
+
+pub constant-stored : (p p₁ p₂ p₃ p₄ p₅ p₆ : List ℕ) (i x d k : ℕ) → i + 24 ≤ length p → p₁ ≡ over p i (little-endian 2 0)
+    → p₂ ≡ over p₁ (i + 2) (little-endian 2 0) → p₃ ≡ over p₂ (i + 4) (little-endian 4 d) → p₄ ≡ over p₃ (i + 8) (little-endian 8 x)
+    → p₅ ≡ over p₄ (i + 16) (little-endian 4 0) → p₆ ≡ over p₅ (i + 20) (little-endian 4 k) → p₆ ≡ over p i (constant-row x d k)
+constant-stored p p₁ p₂ p₃ p₄ p₅ p₆ i x d k h e₁ e₂ e₃ e₄ e₅ e₆ =
+    let x₁ = little-endian 2 0 in
+    let x₂ : List ℕ = x₁ ++ little-endian 2 0 in
+    let x₃ : List ℕ = x₂ ++ little-endian 4 d in
+    let x₄ : List ℕ = x₃ ++ little-endian 8 x in
+    let x₅ : List ℕ = x₄ ++ little-endian 4 0 in
+    let f₂ = next-over p p₁ p₂ i (i + 2) x₁ (little-endian 2 0) e₁ e₂ refl (omega arith) in
+    let f₃ = next-over p p₂ p₃ i (i + 4) x₂ (little-endian 4 d) f₂ e₃ refl (omega arith) in
+    let f₄ = next-over p p₃ p₄ i (i + 8) x₃ (little-endian 8 x) f₃ e₄ refl (omega arith) in
+    let f₅ = next-over p p₄ p₅ i (i + 16) x₄ (little-endian 4 0) f₄ e₅ refl (omega arith) in
+    next-over p p₅ p₆ i (i + 20) x₅ (little-endian 4 k) f₅ e₆ refl (omega arith)

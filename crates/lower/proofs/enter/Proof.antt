@@ -1,0 +1,38 @@
+use Rattle.lower.proofs.Leaves.{entered}
+use Prim.Native.Nat.{_+_, _*_}
+use borrow.Author.Needs.{needs}
+use Rattle.lower.proofs.enter.Statement.{statement}
+use Rattle.lower.proofs.enter.Tie as tie
+
+step-length-requires : tie.Need-step-length-requires
+step-length-requires c κs = search needs
+
+add-long : tie.Need-add-long
+add-long c = search needs
+
+mul-put-record : tie.Need-mul-put-record
+mul-put-record c = search needs
+
+add-put-record : tie.Need-add-put-record
+add-put-record c = search needs
+
+put-record-requires : tie.Need-put-record-requires
+put-record-requires c κs = search needs
+
+same-length : tie.Need-same-length
+same-length c = search needs
+
+returns : tie.Need-returns
+returns c = entered (c .before .before .before .before .before .before .before .before .args .p .now) (c .before .before .put-record .last .0) (c .before .before .before .before .before .before .before .before .args .l .paths + 12 * c .before .before .before .before .before .before .before .before .args .own) (c .before .before .before .before .before .before .before .before .args .s .path) (c .before .before .before .before .before .before .before .before .args .own) (c .before .before .before .before .before .before .before .before .args .step) (c .before .before .before .before .before .before .before .before .args .s .length) (c .before .before .before .before .before .before .step-length .result) _ (c .before .before .before .before .before .before .step-length .ensures .0) (c .before .before .put-record .ensures)
+
+pub enter-spec : {M : Type 1} → statement M
+enter-spec =
+    tie.close
+    (tie.spec
+    step-length-requires
+    add-long
+    mul-put-record
+    add-put-record
+    put-record-requires
+    same-length
+    returns)

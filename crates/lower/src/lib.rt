@@ -1,0 +1,700 @@
+// Lowering of a formula's nodes to the bytes of a program (docs/PROGRAM.md); reference `Compiler`.
+ghost use mathlib.Core.Path.{_≡_};
+ghost use mathlib.Core.Bool.{true, false, cond, not, _&&_, _||_};
+ghost use mathlib.Core.List.{List, [], _∷_, _++_};
+ghost use Prim.Native.Nat.{ℕ, _+_, _*_, _^_, _≤_, _<_};
+ghost use lib.ListN.{length};
+ghost use Rattle.formula.specs.Text.{little-endian};
+ghost use Rattle.formula.specs.Formula.{sizes, size, all-well-formed, well-formed, count};
+ghost use Rattle.formula.specs.Node.{tree-in, children-at, fields-at};
+ghost use Rattle.formula.specs.Term.{term, terms, chain};
+ghost use Rattle.machine.specs.Lower.{instruction-count, instruction-counts};
+ghost use Rattle.layout.specs.Opcode.{step-of};
+ghost use Rattle.layout.specs.Image.{row, constant-row, path-count, path-counts, entry-count, entry-counts};
+ghost use Rattle.paths.specs.Over.{over};
+ghost use Rattle.reader.specs.Read.{written};
+ghost use Rattle.formula.specs.Operator.{same-kind};
+ghost use Rattle.formula.specs.Path.{_▸_};
+ghost use Rattle.lower.specs.Piece.{Says, kind-if, Lists, arm, branch-piece, context-of, finish-piece, kids, leaf, own-piece, operands-piece, past, place, term-piece, inner-count};
+ghost use Rattle.lower.specs.Ready.{Ready};
+ghost use Rattle.lower.specs.Leaf.{Loads};
+ghost use lib.Dec.{ltb};
+ghost use Rattle.formula.specs.Path.{step-text};
+ghost use Rattle.lower.specs.Operators.{arity-at, gives-boolean, listing-at, opcode-at, stepped-at, takes-boolean, chooses-at};
+
+// Where path records and list entries begin, and whether the formula is a derivative.
+pub struct Layout {
+    pub paths: usize,
+    pub lists: usize,
+    pub generated: bool,
+}
+
+// A place in the formula, and what is next free: register, instruction, path record, list entry.
+pub struct Cursor {
+    pub node: usize,
+    pub reg: usize,
+    pub code: usize,
+    pub path: usize,
+    pub entry: usize,
+}
+
+// A node's path: the number of its record, and the length of its text.
+pub struct Site {
+    pub path: usize,
+    pub length: usize,
+}
+
+// A node's register, or the first three of its children's; whether it is Boolean; whether it varies.
+pub struct Value {
+    pub a: usize,
+    pub b: usize,
+    pub c: usize,
+    pub boolean: bool,
+    pub dynamic: bool,
+}
+
+// A lowered node, or a refusal: its number and the number of its path's record.
+pub enum Low {
+    Done(Value, Cursor),
+    Fault(u8, usize),
+}
+
+// ---- bytes
+
+fn put_half(p: &mut [u8], at: usize, x: usize)
+    requires { ⌜ at + 2 ≤ length (now p) ⌝ }
+    ensures { λ _. ⌜ now (p .exit) ≡ over (now (p .entry)) at (little-endian 2 x) ⌝ }
+{
+    p[at] = (x % 256) as u8;
+    p[at + 1] = (x / 256 % 256) as u8;
+}
+
+pub fn put_word(p: &mut [u8], at: usize, x: usize)
+    requires { ⌜ at + 4 ≤ length (now p) ⌝ }
+    ensures { λ _. ⌜ now (p .exit) ≡ over (now (p .entry)) at (little-endian 4 x) ⌝ }
+{
+    p[at] = (x % 256) as u8;
+    p[at + 1] = (x / 256 % 256) as u8;
+    p[at + 2] = (x / 256 / 256 % 256) as u8;
+    p[at + 3] = (x / 256 / 256 / 256 % 256) as u8;
+}
+
+fn put_long(p: &mut [u8], at: usize, x: u64)
+    requires { ⌜ at + 8 ≤ length (now p) ⌝ }
+    ensures { λ _. ⌜ now (p .exit) ≡ over (now (p .entry)) at (little-endian 8 x) ⌝ }
+{
+    p[at] = (x % 256) as u8;
+    p[at + 1] = (x / 256 % 256) as u8;
+    p[at + 2] = (x / 256 / 256 % 256) as u8;
+    p[at + 3] = (x / 256 / 256 / 256 % 256) as u8;
+    p[at + 4] = (x / 256 / 256 / 256 / 256 % 256) as u8;
+    p[at + 5] = (x / 256 / 256 / 256 / 256 / 256 % 256) as u8;
+    p[at + 6] = (x / 256 / 256 / 256 / 256 / 256 / 256 % 256) as u8;
+    p[at + 7] = (x / 256 / 256 / 256 / 256 / 256 / 256 / 256 % 256) as u8;
+}
+
+// The instruction n: opcode, a zero, the list's length, destination, a, b, c, path number.
+fn put_row(
+    p: &mut [u8],
+    n: usize,
+    opcode: usize,
+    count: usize,
+    destination: usize,
+    a: usize,
+    b: usize,
+    c: usize,
+    path: usize,
+)
+    requires { ⌜ (56 + 24 * n ≤ length (now p)) × (opcode < 256) ⌝ }
+    ensures { λ _. ⌜ now (p .exit) ≡ over (now (p .entry)) (32 + 24 * n) (row opcode count destination a b c path) ⌝ }
+{
+    let at = 32 + 24 * n;
+    put_half(p, at, opcode);
+    put_half(p, at + 2, count);
+    put_word(p, at + 4, destination);
+    put_word(p, at + 8, a);
+    put_word(p, at + 12, b);
+    put_word(p, at + 16, c);
+    put_word(p, at + 20, path);
+}
+
+// The instruction n is a constant with these bits.
+fn put_constant(p: &mut [u8], n: usize, bits: u64, destination: usize, path: usize)
+    requires { ⌜ 56 + 24 * n ≤ length (now p) ⌝ }
+    ensures { λ _. ⌜ now (p .exit) ≡ over (now (p .entry)) (32 + 24 * n) (constant-row bits destination path) ⌝ }
+{
+    let at = 32 + 24 * n;
+    put_half(p, at, 0);
+    put_half(p, at + 2, 0);
+    put_word(p, at + 4, destination);
+    put_long(p, at + 8, bits);
+    put_word(p, at + 16, 0);
+    put_word(p, at + 20, path);
+}
+
+// A path record: the parent's number, the step, how long the text is.
+pub fn put_record(p: &mut [u8], at: usize, parent: usize, step: usize, long: usize)
+    requires { ⌜ at + 12 ≤ length (now p) ⌝ }
+    ensures { λ _. ⌜ now (p .exit) ≡ over (now (p .entry)) at (little-endian 4 parent ++ little-endian 4 step ++ little-endian 4 long) ⌝ }
+{
+    put_word(p, at, parent);
+    put_word(p, at + 4, step);
+    put_word(p, at + 8, long);
+}
+
+// ---- operators, by kind and number
+
+fn arity(kind: u8, operator: u8, n: usize) -> bool
+    ensures { λ r. ⌜ r ≡ arity-at kind operator n ⌝ }
+{
+    if kind == 7 {
+        if operator == 11 {
+            return 2 <= n;
+        }
+        if operator == 12 {
+            return 2 <= n;
+        }
+        if operator == 13 {
+            return n == 3;
+        }
+        if operator == 15 {
+            return n == 3;
+        }
+        return n == 1;
+    }
+    true
+}
+
+fn takes(kind: u8, operator: u8) -> bool
+    ensures { λ r. ⌜ r ≡ takes-boolean kind operator ⌝ }
+{
+    if kind == 3 {
+        return operator == 2;
+    }
+    false
+}
+
+fn gives(kind: u8, operator: u8) -> bool
+    ensures { λ r. ⌜ r ≡ gives-boolean kind operator ⌝ }
+{
+    if kind == 3 {
+        return operator == 2;
+    }
+    kind == 5
+}
+
+fn stepped(kind: u8, operator: u8) -> bool
+    ensures { λ r. ⌜ r ≡ stepped-at kind operator ⌝ }
+{
+    if kind == 4 {
+        return operator == 5;
+    }
+    if kind == 7 {
+        if operator == 9 {
+            return true;
+        }
+        return operator == 10;
+    }
+    false
+}
+
+pub fn listing(kind: u8, operator: u8) -> bool
+    ensures { λ r. ⌜ r ≡ listing-at kind operator ⌝ }
+{
+    if kind == 7 {
+        if operator == 11 {
+            return true;
+        }
+        return operator == 12;
+    }
+    false
+}
+
+// What jumps must not vary, but in a derivative.
+fn unsupported(jumps: bool, varies: bool, generated: bool) -> bool
+    ensures { λ r. ⌜ r ≡ not (generated || not (jumps && varies)) ⌝ }
+{
+    if generated {
+        return false;
+    }
+    if jumps {
+        return varies;
+    }
+    false
+}
+
+fn wide(x: u8) -> usize
+    ensures { λ r. ⌜ (r ≡ x) × (r < 256) ⌝ }
+{
+    x as usize
+}
+
+fn opcode(kind: u8, operator: u8) -> usize
+    ensures { λ r. ⌜ (r ≡ opcode-at kind operator) × (r ≤ 34 + operator) ⌝ }
+{
+    if kind == 3 {
+        return 5 + wide(operator);
+    }
+    if kind == 4 {
+        return 8 + wide(operator);
+    }
+    if kind == 5 {
+        return 14 + wide(operator);
+    }
+    if operator == 15 {
+        return 34;
+    }
+    20 + wide(operator)
+}
+
+// A conditional, or Ifelse.
+pub fn chooses(f: reader::Fields) -> bool
+    ensures { λ r. ⌜ r ≡ chooses-at (f .kind) (f .operator) ⌝ }
+{
+    let kind = f.kind;
+    if kind == 8 {
+        return true;
+    }
+    if kind == 7 {
+        return f.operator == 14;
+    }
+    false
+}
+
+fn same(a: bool, b: bool) -> bool
+    ensures { λ r. ⌜ r ≡ same-kind (kind-if a) (kind-if b) ⌝ }
+{
+    if a {
+        if b { true } else { false }
+    } else {
+        if b { false } else { true }
+    }
+}
+
+fn any(a: bool, b: bool, c: bool) -> bool
+    ensures { λ r. ⌜ r ≡ (a || b || c) ⌝ }
+{
+    if a {
+        return true;
+    }
+    if b {
+        return true;
+    }
+    c
+}
+
+fn all(a: bool, b: bool) -> bool
+    ensures { λ r. ⌜ r ≡ (a && b) ⌝ }
+{
+    if a {
+        return b;
+    }
+    false
+}
+
+// A register in an operation's list, where it has one.
+fn list_entry(p: &mut [u8], lists: bool, base: usize, entry: usize, reg: usize)
+    requires { ⌜ cond lists (base + 4 * entry + 4) 0 ≤ length (now p) ⌝ }
+    ensures { λ _. ⌜ now (p .exit) ≡ cond lists (over (now (p .entry)) (base + 4 * entry) (little-endian 4 reg)) (now (p .entry)) ⌝ }
+{
+    if lists {
+        put_word(p, base + 4 * entry, reg);
+        return;
+    }
+}
+
+// ---- leaves
+
+// A path's record, one step below a site.
+fn enter(p: &mut [u8], l: Layout, s: Site, step: usize, own: usize) -> Site
+    requires { ⌜ (l .paths + 12 * own + 12 ≤ length (now p)) × (s .length ≤ 2 ^ 32) × (step < 2 ^ 32) ⌝ }
+    ensures { λ r. ⌜ (r ≡ record { path = own; length = s .length + length (step-text (step-of step)) }) × (now (p .exit) ≡ over (now (p .entry)) (l .paths + 12 * own) (little-endian 4 (s .path) ++ little-endian 4 step ++ little-endian 4 (s .length + length (step-text (step-of step))))) ⌝ }
+{
+    let long = s.length + paths::step_length(step);
+    let parent = s.path;
+    put_record(p, l.paths + 12 * own, parent, step, long);
+    Site {
+        path: own,
+        length: long,
+    }
+}
+
+// A constant in the next register.
+fn constant(p: &mut [u8], s: Site, bits: u64, boolean: bool, c: Cursor) -> Low
+    requires { ⌜ (56 + 24 * c .code ≤ length (now p)) × (c .reg ≤ c .code) ⌝ }
+    ensures { λ r. ⌜ (r ≡ Low.Done (record { a = c .reg; b = 0; c = 0; boolean = boolean; dynamic = false }) (record { node = c .node; reg = c .reg + 1; code = c .code + 1; path = c .path; entry = c .entry })) × (now (p .exit) ≡ over (now (p .entry)) (32 + 24 * c .code) (constant-row bits (c .reg) (s .path))) ⌝ }
+{
+    let n = c.code;
+    let r = c.reg;
+    let k = s.path;
+    put_constant(p, n, bits, r, k);
+    Low::Done(
+        Value {
+            a: r,
+            b: 0,
+            c: 0,
+            boolean: boolean,
+            dynamic: false,
+        },
+        Cursor {
+            node: c.node,
+            reg: r + 1,
+            code: n + 1,
+            path: c.path,
+            entry: c.entry,
+        },
+    )
+}
+
+// A symbol in the next register; only parameters are not dynamic.
+fn load(p: &mut [u8], kinds: &[u8], s: Site, i: usize, c: Cursor) -> Low
+    requires { ⌜ (56 + 24 * c .code ≤ length (now p)) × (c .reg ≤ c .code) ⌝ }
+    ensures { λ r. ⌜ Loads (ltb i (length (now (kinds .entry)))) (now (kinds .entry)) s i c (now (p .entry)) (now (p .exit)) r ⌝ }
+{
+    let n = c.code;
+    let r = c.reg;
+    let k = s.path;
+    if i < kinds.len() {
+        let varies = kinds[i] != 0;
+        put_row(p, n, 1, 0, r, i, 0, 0, k);
+        return Low::Done(
+            Value {
+                a: r,
+                b: 0,
+                c: 0,
+                boolean: false,
+                dynamic: varies,
+            },
+            Cursor {
+                node: c.node,
+                reg: r + 1,
+                code: n + 1,
+                path: c.path,
+                entry: c.entry,
+            },
+        );
+    }
+    Low::Fault(6, k)
+}
+
+// A number, a truth value or a symbol.
+fn lower_leaf(p: &mut [u8], kinds: &[u8], l: Layout, s: Site, f: reader::Fields, c: Cursor) -> Low
+    requires { ⌜ Ready l (now p) s c 1 0 0 ⌝ }
+    ensures { λ r. ⌜ Says (own-piece (context-of (now (kinds .entry)) (l .generated)) (leaf f) (place l (now (p .entry)) s) (s .path) c (c .node)) l c (now (p .entry)) (now (p .exit)) r ⌝ }
+{
+    let k = s.path;
+    if f.kind == 0 {
+        let x = floats::value::of_bits(f.value);
+        let finite = floats::value::is_finite(x);
+        if finite {
+            return constant(p, s, f.value, false, c);
+        }
+        return Low::Fault(9, k);
+    }
+    if f.kind == 1 {
+        if f.value == 1 {
+            return constant(p, s, 0x3ff0_0000_0000_0000, true, c);
+        }
+        return constant(p, s, 0, true, c);
+    }
+    load(p, kinds, s, f.symbol, c)
+}
+
+// The next instruction stores to the next register.
+fn done(boolean: bool, dynamic: bool, c: Cursor, entry: usize) -> Low
+    requires { ⌜ (c .reg ≤ c .code) × (c .code + 1 < 2 ^ 64) ⌝ }
+    ensures { λ r. ⌜ r ≡ Low.Done (record { a = c .reg; b = 0; c = 0; boolean = boolean; dynamic = dynamic }) (record { node = c .node; reg = c .reg + 1; code = c .code + 1; path = c .path; entry = entry }) ⌝ }
+{
+    Low::Done(
+        Value {
+            a: c.reg,
+            b: 0,
+            c: 0,
+            boolean: boolean,
+            dynamic: dynamic,
+        },
+        Cursor {
+            node: c.node,
+            reg: c.reg + 1,
+            code: c.code + 1,
+            path: c.path,
+            entry: entry,
+        },
+    )
+}
+
+// The instruction of an operation whose children are lowered: arity, then types, then 8.
+fn finish(p: &mut [u8], l: Layout, s: Site, f: reader::Fields, v: Value, c: Cursor) -> Low
+    requires { ⌜ Ready l (now p) s c 1 0 0 × (f .operator < 16) × (c .entry + f .children < 2 ^ 64) ⌝ }
+    ensures { λ r. ⌜ Says (finish-piece (context-of [] (l .generated)) f v (place l (now (p .entry)) s) (s .path) c) l c (now (p .entry)) (now (p .exit)) r ⌝ }
+{
+    let k = s.path;
+    let n = c.code;
+    let r = c.reg;
+    let e = c.entry;
+    let count = f.children;
+    let right = arity(f.kind, f.operator, count);
+    if right {
+        if v.boolean {
+            let jumps = stepped(f.kind, f.operator);
+            let bad = unsupported(jumps, v.dynamic, l.generated);
+            if bad {
+                return Low::Fault(8, k);
+            }
+            let lists = listing(f.kind, f.operator);
+            let o = opcode(f.kind, f.operator);
+            let b = gives(f.kind, f.operator);
+            if lists {
+                put_row(p, n, o, count, r, e, 0, 0, k);
+                return done(b, v.dynamic, c, e + count);
+            }
+            put_row(p, n, o, 0, r, v.a, v.b, v.c, k);
+            return done(b, v.dynamic, c, e);
+        }
+        return Low::Fault(7, k);
+    }
+    Low::Fault(5, k)
+}
+
+// ---- the cycle
+
+// Children joined by And or Or, one step below a site: one is itself, none is the constant that ends such a chain.
+fn lower(
+    b: &[u8],
+    p: &mut [u8],
+    kinds: &[u8],
+    l: Layout,
+    s: Site,
+    step: usize,
+    conjunction: bool,
+    left: usize,
+    d: usize,
+    c: Cursor,
+) -> Low
+    requires { ⌜ Ready l (now p) s c (instruction-count (arm (now b) d conjunction left (c .node))) (path-count (arm (now b) d conjunction left (c .node))) (entry-count (arm (now b) d conjunction left (c .node))) ⌝ }
+    requires { ⌜ (all-well-formed (kids (now b) d left (c .node)) ≡ true) × (step < 65539) × (left < 65536) ⌝ }
+    ensures { λ r. ⌜ Says (term-piece (context-of (now (kinds .entry)) (l .generated)) (arm (now (b .entry)) d conjunction left (c .node)) (place l (now (p .entry)) s ▸ step-of step) (s .path) c (past (now (b .entry)) d left (c .node))) l c (now (p .entry)) (now (p .exit)) r ⌝ }
+{
+    let own = c.path;
+    let site = enter(p, l, s, step, own);
+    let next = Cursor {
+        node: c.node,
+        reg: c.reg,
+        code: c.code,
+        path: own + 1,
+        entry: c.entry,
+    };
+    if left == 0 {
+        if conjunction {
+            return constant(p, site, 0, true, next);
+        }
+        return constant(p, site, 0x3ff0_0000_0000_0000, true, next);
+    }
+    if left == 1 {
+        return node(b, p, kinds, l, site, d, next);
+    }
+    link(b, p, kinds, l, site, conjunction, left, d, next)
+}
+
+// A node at its own site.
+pub fn node(b: &[u8], p: &mut [u8], kinds: &[u8], l: Layout, s: Site, d: usize, c: Cursor) -> Low
+    requires { ⌜ Ready l (now p) s c (instruction-count (term (tree-in d (now b) (c .node)))) (inner-count (term (tree-in d (now b) (c .node)))) (entry-count (term (tree-in d (now b) (c .node)))) ⌝ }
+    requires { ⌜ well-formed (tree-in d (now b) (c .node)) ≡ true ⌝ }
+    ensures { λ r. ⌜ Says (own-piece (context-of (now (kinds .entry)) (l .generated)) (term (tree-in d (now (b .entry)) (c .node))) (place l (now (p .entry)) s) (s .path) c (c .node + 16 * size (tree-in d (now (b .entry)) (c .node)))) l c (now (p .entry)) (now (p .exit)) r ⌝ }
+{
+    let at = c.node;
+    let f = reader::node(b, at);
+    let next = Cursor {
+        node: at + 16,
+        reg: c.reg,
+        code: c.code,
+        path: c.path,
+        entry: c.entry,
+    };
+    if f.kind < 3 {
+        return lower_leaf(p, kinds, l, s, f, next);
+    }
+    if f.kind == 6 {
+        if f.children < 2 {
+            return Low::Fault(5, s.path);
+        }
+        let conjunction = f.operator == 0;
+        return link(b, p, kinds, l, s, conjunction, f.children, d - 1, next);
+    }
+    let choice = chooses(f);
+    if choice {
+        if f.children == 3 {
+            let a = lower(b, p, kinds, l, s, 0, true, 1, d - 1, next);
+            let Low::Done(v, e) = a else {
+                return a;
+            };
+            return branch(b, p, kinds, l, s, v, true, 1, 1, d - 1, e);
+        }
+        return Low::Fault(5, s.path);
+    }
+    let want = takes(f.kind, f.operator);
+    let lists = listing(f.kind, f.operator);
+    let o = operands(b, p, kinds, l, s, want, lists, 0, f.children, d - 1, next);
+    let Low::Done(w, g) = o else {
+        return o;
+    };
+    finish(p, l, s, f, w, g)
+}
+
+// And or Or of at least two children: the first is a condition.
+fn link(
+    b: &[u8],
+    p: &mut [u8],
+    kinds: &[u8],
+    l: Layout,
+    s: Site,
+    conjunction: bool,
+    left: usize,
+    d: usize,
+    c: Cursor,
+) -> Low
+    requires { ⌜ Ready l (now p) s c (instruction-count (arm (now b) d conjunction left (c .node))) (inner-count (arm (now b) d conjunction left (c .node))) (entry-count (arm (now b) d conjunction left (c .node))) ⌝ }
+    requires { ⌜ (all-well-formed (kids (now b) d left (c .node)) ≡ true) × (2 ≤ left) × (left < 65536) ⌝ }
+    ensures { λ r. ⌜ Says (own-piece (context-of (now (kinds .entry)) (l .generated)) (arm (now (b .entry)) d conjunction left (c .node)) (place l (now (p .entry)) s) (s .path) c (past (now (b .entry)) d left (c .node))) l c (now (p .entry)) (now (p .exit)) r ⌝ }
+{
+    let a = lower(b, p, kinds, l, s, 0, true, 1, d, c);
+    let Low::Done(v, e) = a else {
+        return a;
+    };
+    if conjunction {
+        return branch(b, p, kinds, l, s, v, conjunction, left - 1, 0, d, e);
+    }
+    branch(b, p, kinds, l, s, v, conjunction, 0, left - 1, d, e)
+}
+
+// The arms of a condition. A jump is written once its target is known.
+fn branch(
+    b: &[u8],
+    p: &mut [u8],
+    kinds: &[u8],
+    l: Layout,
+    s: Site,
+    v: Value,
+    conjunction: bool,
+    yes: usize,
+    no: usize,
+    d: usize,
+    c: Cursor,
+) -> Low
+    requires { ⌜ Ready l (now p) s c (4 + instruction-count (arm (now b) d conjunction yes (c .node)) + instruction-count (arm (now b) d conjunction no (past (now b) d yes (c .node)))) (path-count (arm (now b) d conjunction yes (c .node)) + path-count (arm (now b) d conjunction no (past (now b) d yes (c .node)))) (entry-count (arm (now b) d conjunction yes (c .node)) + entry-count (arm (now b) d conjunction no (past (now b) d yes (c .node)))) ⌝ }
+    requires { ⌜ (all-well-formed (kids (now b) d yes (c .node)) ≡ true) × (all-well-formed (kids (now b) d no (past (now b) d yes (c .node))) ≡ true) × (yes < 65536) × (no < 65536) ⌝ }
+    ensures { λ r. ⌜ Says (branch-piece (context-of (now (kinds .entry)) (l .generated)) v (arm (now (b .entry)) d conjunction yes (c .node)) (arm (now (b .entry)) d conjunction no (past (now (b .entry)) d yes (c .node))) (place l (now (p .entry)) s) (s .path) c (past (now (b .entry)) d no (past (now (b .entry)) d yes (c .node)))) l c (now (p .entry)) (now (p .exit)) r ⌝ }
+{
+    let k = s.path;
+    let n = c.code;
+    let r = c.reg;
+    if v.boolean {
+        let bad = unsupported(true, v.dynamic, l.generated);
+        if bad {
+            return Low::Fault(8, k);
+        }
+        let first = Cursor {
+            node: c.node,
+            reg: r + 1,
+            code: n + 1,
+            path: c.path,
+            entry: c.entry,
+        };
+        let a = lower(b, p, kinds, l, s, 1, conjunction, yes, d, first);
+        let Low::Done(y, e) = a else {
+            return a;
+        };
+        let m = e.code;
+        let t = e.reg;
+        put_row(p, n, 3, 0, r, v.a, 0, m + 2, k);
+        put_row(p, m, 2, 0, t, y.a, 0, 0, k);
+        let second = Cursor {
+            node: e.node,
+            reg: t + 2,
+            code: m + 2,
+            path: e.path,
+            entry: e.entry,
+        };
+        let o = lower(b, p, kinds, l, s, 2, conjunction, no, d, second);
+        let Low::Done(z, g) = o else {
+            return o;
+        };
+        let alike = same(y.boolean, z.boolean);
+        if alike {
+            let end = g.code;
+            put_row(p, m + 1, 4, 0, t + 1, 0, 0, end + 1, k);
+            put_row(p, end, 2, 0, t, z.a, 0, 0, k);
+            return Low::Done(
+                Value {
+                    a: t,
+                    b: 0,
+                    c: 0,
+                    boolean: y.boolean,
+                    dynamic: any(v.dynamic, y.dynamic, z.dynamic),
+                },
+                Cursor {
+                    node: g.node,
+                    reg: g.reg,
+                    code: end + 1,
+                    path: g.path,
+                    entry: g.entry,
+                },
+            );
+        }
+        return Low::Fault(7, k);
+    }
+    Low::Fault(7, k)
+}
+
+// The last `left` children of an operation, of which i are done; on the way back their registers go into its list.
+fn operands(
+    b: &[u8],
+    p: &mut [u8],
+    kinds: &[u8],
+    l: Layout,
+    s: Site,
+    want: bool,
+    lists: bool,
+    i: usize,
+    left: usize,
+    d: usize,
+    c: Cursor,
+) -> Low
+    requires { ⌜ Ready l (now p) s c (instruction-counts (terms (kids (now b) d left (c .node)))) (path-counts (terms (kids (now b) d left (c .node)))) (entry-counts (terms (kids (now b) d left (c .node))) + cond lists (i + left) 0) ⌝ }
+    requires { ⌜ (all-well-formed (kids (now b) d left (c .node)) ≡ true) × (i + left < 65536) ⌝ }
+    ensures { λ r. ⌜ Lists l lists (terms (kids (now (b .entry)) d left (c .node))) i (operands-piece (context-of (now (kinds .entry)) (l .generated)) want (terms (kids (now (b .entry)) d left (c .node))) (place l (now (p .entry)) s) i (s .path) c (past (now (b .entry)) d left (c .node))) c (now (p .entry)) (now (p .exit)) r ⌝ }
+{
+    if left == 0 {
+        return Low::Done(
+            Value {
+                a: 0,
+                b: 0,
+                c: 0,
+                boolean: true,
+                dynamic: false,
+            },
+            c,
+        );
+    }
+    let a = lower(b, p, kinds, l, s, 3 + i, true, 1, d, c);
+    let Low::Done(v, e) = a else {
+        return a;
+    };
+    let rest = operands(b, p, kinds, l, s, want, lists, i + 1, left - 1, d, e);
+    let Low::Done(w, g) = rest else {
+        return rest;
+    };
+    let alike = same(v.boolean, want);
+    let first = v.a;
+    list_entry(p, lists, l.lists, g.entry + i, first);
+    Low::Done(
+        Value {
+            a: first,
+            b: w.a,
+            c: w.b,
+            boolean: all(alike, w.boolean),
+            dynamic: any(v.dynamic, w.dynamic, false),
+        },
+        g,
+    )
+}

@@ -1,0 +1,9 @@
+pub mod Trees
+pub mod Rows
+pub mod Worked
+pub mod Simplified
+pub mod Capped
+pub mod Steps
+pub mod Chosen
+pub mod Filling
+pub mod Derivative

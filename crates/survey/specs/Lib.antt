@@ -1,0 +1,3 @@
+pub mod Derived
+pub mod Table
+pub mod Worked

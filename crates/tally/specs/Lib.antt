@@ -1,0 +1,2 @@
+-- What a node adds to the counts of its children.
+pub mod Weight
