@@ -3,7 +3,8 @@
 // Standard input has a record for each case: the reference's answer (0 a tree, 8 or 4 its refusal), the symbol's number,
 // whether it is a state, a zero, the nodes of the formula and of the tree in two bytes each, and the two trees' bytes. The
 // formulas have every arm of `derivative.rs` with literals and symbols at each place, and random ones of
-// reference/generate.py. One is not the reference's, which runs out of memory: Multiply(0, Abs nested 30 times).
+// reference/generate.py; tools/derivative/make_cases.py made the records. One is not the reference's, which runs out of
+// memory: Multiply(0, Abs nested 30 times).
 ghost use mathlib.Core.Path.{_≡_};
 ghost use mathlib.Core.Bool.{true};
 ghost use Prim.Native.Nat.{_*_, _≤_};

@@ -1,0 +1,2 @@
+-- Laws of demand 3 for compile and a list of calls.
+pub mod Sources

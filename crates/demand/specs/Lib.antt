@@ -1,0 +1,2 @@
+-- Demand 3 for compile followed by a list of calls.
+pub mod Owed
