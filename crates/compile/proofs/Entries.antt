@@ -1,22 +1,22 @@
 -- The entry point's cases, in the order of its refusals.
 use mathlib.Core.Path.{_≡_, refl, sym, ap, ap₂, _∙_, subst}
 use mathlib.Core.Bool.{Bool, true, false, _&&_}
-use mathlib.Core.List.{List, [], _∷_, _++_, map}
+use mathlib.Core.List.{List, [], _∷_, map}
 use mathlib.Core.Option.{Option, none, some}
-use Prim.Native.Nat.{ℕ, suc, _+_, _-_, _*_, _/_, _≤_, _<_}
+use Prim.Native.Nat.{ℕ, zero, suc, _+_, _-_, _*_, _/_, _≤_, _<_}
 use native.Mathlib.Omega.{arith}
 use lib.ListN.{length, take, length-append}
 use lib.Seq.{length-take-le, take-at}
 use lib.Dec.{leb, ltb}
 use borrow.Author.Tests.{le-ltb, leb-true, lt-ltb}
 use Rattle.formula.specs.Text.{zeros}
-use Rattle.formula.specs.Path.{placed, root}
+use Rattle.formula.specs.Path.{Path, placed, root}
 use Rattle.formula.specs.Formula.{Formula, depth, size, well-formed, within}
 use Rattle.formula.specs.Names.{Input, Parameter, State, Symbol, SymbolKind, Time, kinds, symbols-of}
 use Rattle.formula.specs.Node.{formula-of, tree-in}
 use Rattle.formula.specs.Term.{term, terms}
 use Rattle.machine.specs.Check.{Context, Fault, fault}
-use Rattle.machine.specs.Compile.{Compiled, compile, lowered-or, own-context, path-after, program-after, program-room, read, refused, sized}
+use Rattle.machine.specs.Compile.{Compiled, accepted, compile, filled, lowered-or, own-context, path-after, program-after, program-room, read, refused, sized}
 use Rattle.machine.specs.Lower.{instruction-count, instruction-counts}
 use Rattle.machine.proofs.Size.{longest-path, narrow, path-size}
 use Rattle.layout.specs.Image.{entry-count, entry-counts, image, path-count, path-counts}
@@ -27,6 +27,8 @@ use Rattle.names.specs.declared.Names.{Names}
 use Rattle.lower.specs.Piece.{context-of, kids, kind-of}
 use Rattle.compile.specs.Outcome.{Fits, fault-place, number-of, slice-after}
 use Rattle.compile.specs.Entry.{answer}
+use Rattle.compile.specs.Preparation.{Prepares, Prepares-by, Source}
+use Rattle.compile.specs.declared.Prepared.{Prepared}
 use Rattle.compile.specs.declared.Answer.{Answer}
 use Rattle.compile.specs.declared.Answer.the-variants.{Program, Refused}
 use Rattle.compile.proofs.Faults.{Near, near}
@@ -90,142 +92,177 @@ module _ (b l : List ℕ) (path program : ℕ) where
         → compile b l path program ≡ refused 4 (some root)
     above-limit r e n z m = long-enough ∙ too-large (formula-of b) (symbols-of l) r e n z m
 
-    -- ---- a formula within the limits, over its symbols
+    sizes : (f : Formula) (ss : List Symbol) → within 256 32 f ≡ true → sized f ss ≡ lowered-or f ss (fault (own-context ss) (term f) root)
+    sizes f ss limits = rw limits
 
-    record Taken : Type 0 where
-      pub f : Formula
-      pub symbols : List Symbol
-      pub is-f : formula-of b ≡ some f
-      pub is-s : symbols-of l ≡ some symbols
+    prepared-at : (o : Option Formula) (s : Option (List Symbol)) (t : Names) (r : Prepared) → is-some o ≡ true → t ≡ names-of s → t .ok ≡ true → limited 256 32 o ≡ true
+        → formula-of b ≡ o → symbols-of l ≡ s → r .count ≡ t .count → r .kinds ≡ t .kinds → Source b l path program r
+    prepared-at none s t r e n z m x y rc rk = absurd (let w : _≡_ {A = ℕ} 0 1 = cc in omega arith)
+    prepared-at (some f) none t r e n z m x y rc rk = absurd (let w : _≡_ {A = ℕ} 0 1 = cc in omega arith)
+    prepared-at (some f) (some ss) t r e n z m x y rc rk =
+        record {
+          f = f;
+          symbols = ss;
+          formed = x;
+          named = y;
+          limit = m;
+          count = rc ∙ ap (λ (u : Names). u .count) n;
+          kinds-are = rk ∙ ap (λ (u : Names). u .kinds) n;
+          places = h;
+          room = omega (arith, k);
+          comes-to = long-enough ∙ ap₂ read x y ∙ sizes f ss m;
+        }
 
-    take-both : (o : Option Formula) (s : Option (List Symbol)) (r : Names) → is-some o ≡ true → r ≡ names-of s → r .ok ≡ true → formula-of b ≡ o → symbols-of l ≡ s → Taken
-    take-both none s r e n z x y = absurd (let w : _≡_ {A = ℕ} 0 1 = cc in omega arith)
-    take-both (some f) none r e n z x y = absurd (let w : _≡_ {A = ℕ} 0 1 = cc in omega arith)
-    take-both (some f) (some ss) r e n z x y = record { f = f; symbols = ss; is-f = x; is-s = y }
+    pub prepared : (t : Names) (r : Prepared) → is-some (formula-of b) ≡ true → t ≡ names-of (symbols-of l) → t .ok ≡ true → limited 256 32 (formula-of b) ≡ true
+        → r .count ≡ t .count → r .kinds ≡ t .kinds → Source b l path program r
+    prepared t r e n z m rc rk = prepared-at (formula-of b) (symbols-of l) t r e n z m refl refl rc rk
 
-    both : (u v : Bool) → (u && v) ≡ true → (u ≡ true) × (v ≡ true)
-    both true true e = (refl, refl)
-    both true false e = absurd (let w : _≡_ {A = ℕ} 0 1 = cc in omega arith)
-    both false v e = absurd (let w : _≡_ {A = ℕ} 0 1 = cc in omega arith)
+-- what prepare answers, and what a caller has of it
+module _ (b l : List ℕ) (program : ℕ) (q q′ : List ℕ) (r : Prepared) where
+  pub unprepared-is : (n : ℕ) (place : Option Path) → r .refusal ≡ suc n → compile b l (length q) program ≡ refused (suc n) place → suc n < 5 → q′ ≡ placed place q
+      → Prepares b l program q q′ r
+  unfolding Prepares
+  unprepared-is n place e c h k = subst (λ (m : ℕ). Prepares-by m b l program q q′ r) (sym e) (place, c, h, k)
 
-    module _ (r : Names) (e : is-some (formula-of b) ≡ true) (n : r ≡ names-of (symbols-of l)) (z : r .ok ≡ true) (m : limited 256 32 (formula-of b) ≡ true) where
-      T : Taken
-      T = take-both (formula-of b) (symbols-of l) r e n z refl refl
+  pub prepared-is : r .refusal ≡ 0 → Source b l (length q) program r → q′ ≡ q → Prepares b l program q q′ r
+  unfolding Prepares
+  prepared-is e S k = subst (λ (m : ℕ). Prepares-by m b l program q q′ r) (sym e) (S, k)
 
-      abbrev f : Formula
-      f = T .f
+  pub source-of : Prepares b l program q q′ r → r .refusal ≡ 0 → Source b l (length q) program r × (q′ ≡ q)
+  unfolding Prepares
+  source-of O e = subst (λ (m : ℕ). Prepares-by m b l program q q′ r) e O
 
-      abbrev ss : List Symbol
-      ss = T .symbols
+  refusal-at : (m : ℕ) → (m ≡ 0 → ⊥) → Prepares-by m b l program q q′ r → (place : Option Path) × (compile b l (length q) program ≡ refused m place) × (m < 5) × (q′ ≡ placed place q)
+  refusal-at zero z O = absurd (z refl)
+  refusal-at (suc m) z O = O
 
-      limits : within 256 32 f ≡ true
-      limits = ap (limited 256 32) (sym (T .is-f)) ∙ m
+  pub refusal-of : Prepares b l program q q′ r → (r .refusal ≡ 0 → ⊥)
+      → (place : Option Path) × (compile b l (length q) program ≡ refused (r .refusal) place) × (r .refusal < 5) × (q′ ≡ placed place q)
+  unfolding Prepares
+  refusal-of O z = refusal-at (r .refusal) z O
 
-      few : size f ≤ 256
-      few = leb-true (size f) 256 (both (leb (size f) 256) (leb (depth f) 32) limits .0)
+-- ---- the table of the symbols
 
-      low : depth f ≤ 32
-      low = leb-true (depth f) 32 (both (leb (size f) 256) (leb (depth f) 32) limits .1)
+mapped : (xs : List Symbol) → length (map kind-number (kinds xs)) ≡ length xs
+mapped [] = refl
+mapped (x ∷ xs) = ap suc (mapped xs)
 
-      tree : tree-in 32 b 0 ≡ f
-      tree = formula-in b f 32 (T .is-f) low .0
+module _ (r : Prepared) (ss : List Symbol) (counted : r .count ≡ length ss) (kinds-are : r .kinds ≡ names-of (some ss) .kinds) where
+  pub within-table : r .count ≤ length (r .kinds)
+  within-table = omega (arith, counted, ap length kinds-are, length-append (map kind-number (kinds ss)) (zeros (256 - length ss)), mapped ss)
 
-      well : well-formed f ≡ true
-      well = formula-in b f 32 (T .is-f) low .1
+  pub prefix-long : r .count ≡ length (take (r .count) (r .kinds))
+  prefix-long = sym (length-take-le (r .count) (r .kinds) within-table)
 
-      long : 16 * size f ≡ length b
-      long = formula-in b f 32 (T .is-f) low .2
+  pub prefix : take (r .count) (r .kinds) ≡ map kind-number (kinds ss)
+  prefix =
+      ap (take (r .count)) kinds-are ∙ take-at (map kind-number (kinds ss)) (zeros (256 - length ss)) (r .count) (mapped ss ∙ sym counted)
 
-      pub all-fit : Fits b 32 program path
-      all-fit =
-          let s : size (tree-in 32 b 0) ≡ size f = ap size tree in
-          record {
-            well = ap well-formed tree ∙ well;
-            few = omega (arith, s, few);
-            room = omega (arith, s, long);
-            places = h;
-            short = omega (arith, ap (λ (g : Formula). longest-path (term g)) tree, path-size f, few);
-          }
+back : (κ : SymbolKind) → kind-of (kind-number κ) ≡ κ
+back Parameter = refl
+back State = refl
+back Time = refl
+back Input = refl
 
-      table : r ≡ names-of (some ss)
-      table = n ∙ ap names-of (T .is-s)
+all-back : (xs : List SymbolKind) → map kind-of (map kind-number xs) ≡ xs
+all-back [] = refl
+all-back (x ∷ xs) = ap₂ (λ (y : SymbolKind) (ys : List SymbolKind). y ∷ ys) (back x) (all-back xs)
 
-      counted : r .count ≡ length ss
-      counted = ap (λ (x : Names). x .count) table
+-- the kinds in a slice are the symbols'
+pub same-context : (K : List ℕ) (ss : List Symbol) (g : Bool) → K ≡ map kind-number (kinds ss) → context-of K g ≡ record { symbols = kinds ss; generated = g }
+same-context K ss g e = ap (λ (x : List SymbolKind). record { symbols = x; generated = g }) (ap (map kind-of) e ∙ all-back (kinds ss))
 
-      kinds-are : r .kinds ≡ map kind-number (kinds ss) ++ zeros (256 - length ss)
-      kinds-are = ap (λ (x : Names). x .kinds) table
+-- ---- a formula within the limits, over its symbols
 
-      mapped : (xs : List Symbol) → length (map kind-number (kinds xs)) ≡ length xs
-      mapped [] = refl
-      mapped (x ∷ xs) = ap suc (mapped xs)
+both : (u v : Bool) → (u && v) ≡ true → (u ≡ true) × (v ≡ true)
+both true true e = (refl, refl)
+both true false e = absurd (let w : _≡_ {A = ℕ} 0 1 = cc in omega arith)
+both false v e = absurd (let w : _≡_ {A = ℕ} 0 1 = cc in omega arith)
 
-      pub within-table : r .count ≤ length (r .kinds)
-      within-table = omega (arith, counted, ap length kinds-are, length-append (map kind-number (kinds ss)) (zeros (256 - length ss)), mapped ss)
+module _ (b : List ℕ) (f : Formula) (is-f : formula-of b ≡ some f) (limits : within 256 32 f ≡ true) where
+  pub few : size f ≤ 256
+  few = leb-true (size f) 256 (both (leb (size f) 256) (leb (depth f) 32) limits .0)
 
-      pub prefix-long : r .count ≡ length (take (r .count) (r .kinds))
-      prefix-long = sym (length-take-le (r .count) (r .kinds) within-table)
+  pub low : depth f ≤ 32
+  low = leb-true (depth f) 32 (both (leb (size f) 256) (leb (depth f) 32) limits .1)
 
-      prefix : take (r .count) (r .kinds) ≡ map kind-number (kinds ss)
-      prefix =
-          ap (take (r .count)) kinds-are ∙ take-at (map kind-number (kinds ss)) (zeros (256 - length ss)) (r .count) (mapped ss ∙ sym counted)
+  tree : tree-in 32 b 0 ≡ f
+  tree = formula-in b f 32 is-f low .0
 
-      back : (κ : SymbolKind) → kind-of (kind-number κ) ≡ κ
-      back Parameter = refl
-      back State = refl
-      back Time = refl
-      back Input = refl
+  well : well-formed f ≡ true
+  well = formula-in b f 32 is-f low .1
 
-      all-back : (xs : List SymbolKind) → map kind-of (map kind-number xs) ≡ xs
-      all-back [] = refl
-      all-back (x ∷ xs) = ap₂ (λ (y : SymbolKind) (ys : List SymbolKind). y ∷ ys) (back x) (all-back xs)
+  pub long : 16 * size f ≡ length b
+  long = formula-in b f 32 is-f low .2
 
-      abbrev C : Context
-      C = context-of (take (r .count) (r .kinds)) false
+  pub all-fit : (path program : ℕ) → 8192 ≤ path → 15 * length b ≤ program → Fits b 32 program path
+  all-fit path program h k =
+      let s : size (tree-in 32 b 0) ≡ size f = ap size tree in
+      record {
+        well = ap well-formed tree ∙ well;
+        few = omega (arith, s, few);
+        room = omega (arith, s, long);
+        places = h;
+        short = omega (arith, ap (λ (g : Formula). longest-path (term g)) tree, path-size f, few);
+      }
 
-      same-context : C ≡ own-context ss
-      same-context = ap (λ (x : List SymbolKind). record { symbols = x; generated = false }) (ap (map kind-of) prefix ∙ all-back (kinds ss))
+  module _ (K : List ℕ) (ss : List Symbol) (are : K ≡ map kind-number (kinds ss)) where
+    abbrev C : Context
+    C = context-of K false
 
-      comes-to : compile b l path program ≡ lowered-or f ss (fault (own-context ss) (term f) root)
-      comes-to = long-enough ∙ ap₂ read (T .is-f) (T .is-s) ∙ sizes
-        where
-          sizes : sized f ss ≡ lowered-or f ss (fault (own-context ss) (term f) root)
-          sizes = rw limits
+    abbrev O : Option Fault
+    O = fault C (term (tree-in 32 b 0)) root
 
-      abbrev O : Option Fault
-      O = fault C (term (tree-in 32 b 0)) root
+    abbrev O′ : Option Fault
+    O′ = fault (own-context ss) (term f) root
 
-      same-fault : O ≡ fault (own-context ss) (term f) root
-      same-fault = ap₂ (λ (x : Context) (g : Formula). fault x (term g) root) same-context tree
+    pub same-fault : O ≡ O′
+    same-fault = ap₂ (λ (x : Context) (g : Formula). fault x (term g) root) (same-context K ss false are) tree
 
-      near-fault : (x : Fault) → fault (own-context ss) (term f) root ≡ some x → Near x 8192
-      near-fault = near (own-context ss) (term f) root 8192 (narrow f (omega (arith, few))) (omega (arith, path-size f, few))
+    pub near-fault : (x : Fault) → O′ ≡ some x → Near x 8192
+    near-fault = near (own-context ss) (term f) root 8192 (narrow f (omega (arith, few))) (omega (arith, path-size f, few))
 
-      module _ (w : ℕ) (q q′ p p′ : List ℕ) (ew : w ≡ number-of O) (ep : p′ ≡ slice-after C (tree-in 32 b 0) O p) (eq : q′ ≡ placed (fault-place O) q) where
-        abbrev O′ : Option Fault
-        O′ = fault (own-context ss) (term f) root
+    -- what writing the program came to, by the formula's first fault
+    module _ (w : ℕ) (q q₁ q′ p p′ : List ℕ) (same : q₁ ≡ q) (ew : w ≡ number-of O) (ep : p′ ≡ slice-after C (tree-in 32 b 0) O p) (eq : q′ ≡ placed (fault-place O) q₁) where
+      ew′ : w ≡ number-of O′
+      ew′ = ew ∙ ap number-of same-fault
 
-        ew′ : w ≡ number-of O′
-        ew′ = ew ∙ ap number-of same-fault
+      ep′ : p′ ≡ slice-after (own-context ss) f O′ p
+      ep′ = ep ∙ ap₂ (λ (x : Context) (g : Formula). slice-after x g O p) (same-context K ss false are) tree ∙ ap (λ (o : Option Fault). slice-after (own-context ss) f o p) same-fault
 
-        ep′ : p′ ≡ slice-after (own-context ss) f O′ p
-        ep′ = ep ∙ ap₂ (λ (x : Context) (g : Formula). slice-after x g O p) same-context tree ∙ ap (λ (o : Option Fault). slice-after (own-context ss) f o p) same-fault
+      eq′ : q′ ≡ placed (fault-place O′) q
+      eq′ = eq ∙ ap₂ (λ (o : Option Fault) (x : List ℕ). placed (fault-place o) x) same-fault same
 
-        eq′ : q′ ≡ placed (fault-place O′) q
-        eq′ = eq ∙ ap (λ (o : Option Fault). placed (fault-place o) q) same-fault
+      none-at : (o : Option Fault) → ((x : Fault) → o ≡ some x → Near x 8192) → w ≡ 0 → w ≡ number-of o → p′ ≡ slice-after (own-context ss) f o p → q′ ≡ placed (fault-place o) q
+          → (o ≡ none) × (p′ ≡ filled (image (own-context ss) f) p) × (q′ ≡ q)
+      none-at none N y a c d = (refl, c, d)
+      none-at (some x) N y a c d = absurd (omega (arith, N x refl .least))
 
-        programs : (o : Option Fault) → ((x : Fault) → o ≡ some x → Near x 8192) → w ≡ 0 → w ≡ number-of o → p′ ≡ slice-after (own-context ss) f o p → q′ ≡ placed (fault-place o) q
-            → After (lowered-or f ss o) Program q q′ p p′
-        programs none N y a c d = (refl, d, c)
-        programs (some x) N y a c d = absurd (omega (arith, N x refl .least))
+      pub no-fault : w ≡ 0 → (O′ ≡ none) × (p′ ≡ filled (image (own-context ss) f) p) × (q′ ≡ q)
+      no-fault y = none-at O′ near-fault y ew′ ep′ eq′
 
-        pub is-program : w ≡ 0 → After (compile b l path program) Program q q′ p p′
-        is-program y = after _ _ Program q q′ p p′ comes-to (programs O′ near-fault y ew′ ep′ eq′)
+      first-at : (o : Option Fault) → ((x : Fault) → o ≡ some x → Near x 8192) → (w ≡ 0 → ⊥) → w ≡ number-of o → p′ ≡ slice-after (own-context ss) f o p → q′ ≡ placed (fault-place o) q
+          → (place : Path) × (o ≡ some (record { number = w; place = place })) × (5 ≤ w) × (p′ ≡ zeros (length p)) × (q′ ≡ placed (some place) q)
+      first-at none N y a c d = absurd (y a)
+      first-at (some x) N y a c d = (x .place, ap (λ (n : ℕ). some (record { number = n; place = x .place })) (sym a), omega (arith, N x refl .least), c, d)
 
-        faults-at : (o : Option Fault) → ((x : Fault) → o ≡ some x → Near x 8192) → (w ≡ 0 → ⊥) → w ≡ number-of o → p′ ≡ slice-after (own-context ss) f o p → q′ ≡ placed (fault-place o) q
-            → After (lowered-or f ss o) (Refused w) q q′ p p′
-        faults-at none N y a c d = absurd (y a)
-        faults-at (some x) N y a c d = (ap Refused a, d, c ∙ sym (rw (le-ltb (x .number) 5 (N x refl .least))))
+      pub first-fault : (w ≡ 0 → ⊥) → (place : Path) × (O′ ≡ some (record { number = w; place = place })) × (5 ≤ w) × (p′ ≡ zeros (length p)) × (q′ ≡ placed (some place) q)
+      first-fault y = first-at O′ near-fault y ew′ ep′ eq′
 
-        pub is-refused : (w ≡ 0 → ⊥) → After (compile b l path program) (Refused w) q q′ p p′
-        is-refused y = after _ _ (Refused w) q q′ p p′ comes-to (faults-at O′ near-fault y ew′ ep′ eq′)
+      -- ---- the answers of compile
+
+      module _ (X : Compiled) (comes : X ≡ lowered-or f ss O′) where
+        pub is-program : w ≡ 0 → After X Program q q′ p p′
+        is-program y =
+            let n = no-fault y in
+            after X (accepted f ss) Program q q′ p p′ (comes ∙ ap (lowered-or f ss) (n .0)) (refl, n .2, n .1)
+
+        pub is-refused : (w ≡ 0 → ⊥) → After X (Refused w) q q′ p p′
+        is-refused y =
+            let n = first-fault y in
+            after X (refused w (some (n .0))) (Refused w) q q′ p p′ (comes ∙ ap (lowered-or f ss) (n .1))
+            (refl, n .4, n .3 ∙ sym (rw (le-ltb w 5 (n .2))))
+
+-- a refusal of 1 to 4
+pub early : (X : Compiled) (n : ℕ) (place : Option Path) (q q′ p : List ℕ) → X ≡ refused n place → n < 5 → q′ ≡ placed place q → After X (Refused n) q q′ p p
+early X n place q q′ p e h k = after X (refused n place) (Refused n) q q′ p p e (refl, k, sym (rw (lt-ltb n 5 h)))

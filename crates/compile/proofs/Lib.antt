@@ -3,3 +3,4 @@ pub mod Headers
 pub mod Faults
 pub mod Whole
 pub mod Entries
+pub mod Back

@@ -28,6 +28,7 @@ ghost use Rattle.layout.specs.Image.{entry-count, image, magic, path-count};
 ghost use Rattle.paths.specs.Over.{over};
 ghost use Rattle.lower.specs.Piece.{context-of, kind-if};
 ghost use Rattle.compile.specs.Entry.{answer};
+ghost use Rattle.compile.specs.Preparation.{Prepares};
 ghost use Rattle.compile.specs.Outcome.{Fits, fault-place, number-of, slice-after};
 
 // A program stands in its slice, or compile refused by a number.
@@ -67,7 +68,8 @@ fn kind_of(boolean: bool) -> usize
     if boolean { 1 } else { 0 }
 }
 
-// Writes the program of a formula with so many instructions, path records and entries, or clears it and writes the place of the first fault.
+// Writes the program of a formula with so many instructions, path records and entries, or clears it and writes the place of
+// the first fault.
 fn write_counted(
     b: &[u8],
     p: &mut [u8],
@@ -124,35 +126,69 @@ pub fn write(b: &[u8], p: &mut [u8], path: &mut [u8], kinds: &[u8], generated: b
     write_counted(b, p, path, kinds, generated, d, t.code, t.paths, t.entries)
 }
 
-// "Compile (reference `compile_prepared`, limit 256, not generated). In order: 1, path slice or program slice too short; 2,
-// formula bytes not as above (size and depth apart); 3, name line not as above; 4 `ExpressionLimit` at `root`; then the first
-// fault in `lower`'s order."
-pub fn compile(formula: &[u8], names: &[u8], path: &mut [u8], program: &mut [u8]) -> Answer
-    ensures { λ r. ⌜ (r ≡ answer (compile (now (formula .entry)) (now (names .entry)) (length (now (path .entry))) (length (now (program .entry))))) × (now (path .exit) ≡ path-after (compile (now (formula .entry)) (now (names .entry)) (length (now (path .entry))) (length (now (program .entry)))) (now (path .entry))) × (now (program .exit) ≡ program-after image (compile (now (formula .entry)) (now (names .entry)) (length (now (path .entry))) (length (now (program .entry)))) (now (program .entry))) ⌝ }
+// What comes before the lowering: a refusal of 1 to 4, or 0 and the kinds of the symbols.
+pub struct Prepared {
+    pub refusal: u8,
+    pub count: usize,
+    pub kinds: [u8; 256],
+}
+
+fn unprepared(refusal: u8) -> Prepared
+    ensures { λ r. ⌜ r .refusal ≡ refusal ⌝ }
+{
+    let kinds = [0u8; 256];
+    Prepared {
+        refusal: refusal,
+        count: 0,
+        kinds: kinds,
+    }
+}
+
+// "In order: 1, path slice or program slice too short; 2, formula bytes not as above (size and depth apart); 3, name line
+// not as above; 4 `ExpressionLimit` at `root`". The program slice has so many bytes.
+pub fn prepare(formula: &[u8], names: &[u8], path: &mut [u8], room: usize) -> Prepared
+    ensures { λ r. ⌜ Prepares (now (formula .entry)) (now (names .entry)) room (now (path .entry)) (now (path .exit)) r ⌝ }
 {
     if path.len() < 8192 {
-        return Answer::Refused(1);
+        return unprepared(1);
     }
-    if program.len() / 240 < (formula.len() + 15) / 16 {
-        return Answer::Refused(1);
+    if room / 240 < (formula.len() + 15) / 16 {
+        return unprepared(1);
     }
     let read = is_formula(formula);
     if !read {
-        return Answer::Refused(2);
+        return unprepared(2);
     }
     let table = read_names(names);
     if !table.ok {
-        return Answer::Refused(3);
+        return unprepared(3);
     }
     let small = within_limits(formula, 256, 32);
     if !small {
         write_root(path);
-        return Answer::Refused(4);
+        return unprepared(4);
     }
     let kinds = table.kinds;
-    let number = write(formula, program, path, &kinds[..table.count], false, 32);
-    if number == 0 {
+    Prepared {
+        refusal: 0,
+        count: table.count,
+        kinds: kinds,
+    }
+}
+
+// "Compile (reference `compile_prepared`, limit 256, not generated)": the refusals 1 to 4, "then the first fault in
+// `lower`'s order".
+pub fn compile(formula: &[u8], names: &[u8], path: &mut [u8], program: &mut [u8]) -> Answer
+    ensures { λ r. ⌜ (r ≡ answer (compile (now (formula .entry)) (now (names .entry)) (length (now (path .entry))) (length (now (program .entry))))) × (now (path .exit) ≡ path-after (compile (now (formula .entry)) (now (names .entry)) (length (now (path .entry))) (length (now (program .entry)))) (now (path .entry))) × (now (program .exit) ≡ program-after image (compile (now (formula .entry)) (now (names .entry)) (length (now (path .entry))) (length (now (program .entry)))) (now (program .entry))) ⌝ }
+{
+    let prepared = prepare(formula, names, path, program.len());
+    if prepared.refusal != 0 {
+        return Answer::Refused(prepared.refusal);
+    }
+    let kinds = prepared.kinds;
+    let n = write(formula, program, path, &kinds[..prepared.count], false, 32);
+    if n == 0 {
         return Answer::Program;
     }
-    Answer::Refused(number)
+    Answer::Refused(n)
 }

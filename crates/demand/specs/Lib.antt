@@ -1,2 +1,3 @@
--- Demand 3 for compile followed by a list of calls.
+-- Demand 3 for compile or derive followed by a list of calls.
+pub mod Made
 pub mod Owed

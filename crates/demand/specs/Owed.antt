@@ -1,4 +1,4 @@
--- What compile and a list of calls after it owe.
+-- What compile or derive and a list of calls after it owe.
 use mathlib.Core.Path.{_≡_}
 use mathlib.Core.Bool.{true}
 use mathlib.Core.List.{List}
@@ -7,23 +7,27 @@ use lib.ListN.{length}
 use lib.Ieee.{Float}
 use Rattle.arithmetic.specs.Value.{finite}
 use Rattle.formula.specs.Text.{all}
+use Rattle.formula.specs.Path.{placed}
 use Rattle.formula.specs.Term.{term}
-use Rattle.machine.specs.Compile.{Compiled, accepted, own-context, refused}
 use Rattle.machine.specs.Lower.{register-count}
-use Rattle.machine.specs.Machine.{Reply}
 use Rattle.run.specs.Views.{reply-of}
 use Rattle.run.specs.declared.Reply as Declared
+use Rattle.play.specs.Listed.{play-at}
 use Rattle.play.specs.Owed.{Last, Within}
+use Rattle.demand.specs.Made.{Made, made, refused}
 use Rattle.demand.specs.declared.Played.{Played}
 use Rattle.demand.specs.declared.Played.the-variants.{Refused, Replied}
 
--- "Take a formula that compiles, .. finite inputs of the declared count and the registers that 01 asks for. Take any list of calls": the last reply of the
--- list owes what the tree reading gives, and the counts add up to at most the instructions that the code holds. Every beginning of a list is a list.
-abbrev pub Owes : Compiled → List ℕ → List Float → ℕ → List ℕ → List ℕ → List Float → List Float → List Float → Played → Type 0
-Owes (refused n place) b inputs room budgets flags values regs regs′ r = r ≡ Refused n
-Owes (accepted f symbols) b inputs room budgets flags values regs regs′ r =
+-- A refusal: its number, its place, and registers as they were. Else the last reply of the list, with registers and path slice after it, is the machine's;
+-- and "finite inputs of the declared count and the registers that 01 asks for" given, it owes what the tree reading gives, and the counts add up to at
+-- most the instructions that the code holds. Every beginning of a list is a list, so each reply of it does.
+abbrev pub Owes : Made → List ℕ → List Float → List ℕ → List ℕ → List ℕ → List Float → List Float → List Float → List ℕ → List ℕ → Played → Type 0
+Owes (refused n place) program inputs rooms budgets flags values regs regs′ path path′ r = (r ≡ Refused n) × (path′ ≡ placed place path) × (regs′ ≡ regs)
+Owes (made C f) program inputs rooms budgets flags values regs regs′ path path′ r =
     (reply : Declared.Reply)
     × (r ≡ Replied reply)
-    × (length inputs ≡ length symbols → all finite inputs ≡ true → register-count (term f) ≤ length regs
-    → Last (own-context symbols) inputs (term f) room budgets flags values regs (reply-of b reply regs′) (length budgets - 1)
-    × Within (own-context symbols) inputs (term f) room budgets flags values regs (length budgets - 1))
+    × (reply-of program reply regs′ ≡ play-at inputs program path rooms budgets flags values regs .reply)
+    × (path′ ≡ play-at inputs program path rooms budgets flags values regs .path)
+    × (length inputs ≡ length (C .symbols) → all finite inputs ≡ true → register-count (term f) ≤ length regs
+    → Last C inputs (term f) (length path) rooms budgets flags values regs (reply-of program reply regs′) (length budgets - 1)
+    × Within C inputs (term f) (length path) rooms budgets flags values regs (length budgets - 1))

@@ -1,43 +1,87 @@
-// Compile, and a list of calls on the program that it wrote: demand 3 as the contract of a function over lent slices.
+// Demand 3 as the contract of a function over lent slices: compile or derive, and a list of calls on the program that it wrote.
 ghost use mathlib.Core.Path.{_≡_};
 ghost use lib.ListN.{length};
-ghost use Rattle.machine.specs.Compile.{compile, program-after};
-ghost use Rattle.layout.specs.Image.{image};
+ghost use Rattle.formula.specs.Path.{placed};
+ghost use Rattle.demand.specs.Made.{answer-of, make, place-of, program-left, tree-left};
 ghost use Rattle.demand.specs.Owed.{Owes};
-use compile::Answer;
 use compile::compile;
+use derive::derive;
 use play::play;
 use run::Reply;
 
-// Compile's refusal, or the reply to the last call.
+// "a formula that compiles, or its derivative by a named symbol where one is given"
+pub enum Wanted {
+    Formula,
+    Derivative(usize),
+}
+
+enum Making {
+    Written,
+    Refused(u8),
+}
+
+// Writes the program of the formula or of its derivative.
+fn write_program(
+    formula: &[u8],
+    names: &[u8],
+    wanted: Wanted,
+    path: &mut [u8],
+    tree: &mut [u8],
+    program: &mut [u8],
+) -> Making
+    ensures { λ r. ⌜ (r ≡ answer-of (make (now (formula .entry)) (now (names .entry)) wanted (length (now (path .entry))) (length (now (tree .entry))) (length (now (program .entry))))) × (now (path .exit) ≡ placed (place-of (make (now (formula .entry)) (now (names .entry)) wanted (length (now (path .entry))) (length (now (tree .entry))) (length (now (program .entry))))) (now (path .entry))) × (now (tree .exit) ≡ tree-left (now (formula .entry)) (now (names .entry)) wanted (length (now (path .entry))) (now (tree .entry)) (length (now (program .entry)))) × (now (program .exit) ≡ program-left (now (formula .entry)) (now (names .entry)) wanted (length (now (path .entry))) (length (now (tree .entry))) (now (program .entry))) ⌝ }
+{
+    match wanted {
+        Wanted::Formula => {
+            let a = compile(formula, names, path, program);
+            match a {
+                compile::Answer::Program => Making::Written,
+                compile::Answer::Refused(n) => Making::Refused(n),
+            }
+        }
+        Wanted::Derivative(symbol) => {
+            let a = derive(formula, names, symbol, path, tree, program);
+            match a {
+                derive::Answer::Derived(_) => Making::Written,
+                derive::Answer::Refused(n) => Making::Refused(n),
+            }
+        }
+    }
+}
+
+// The refusal of compile or derive, or the reply to the last call.
 pub enum Played {
     Refused(u8),
     Replied(Reply),
 }
 
-// Compiles a formula and plays a list of calls: a run, then resumes, as many calls as there are budgets, one at least.
-pub fn compile_and_play(
+// Compiles or derives, and plays a list of calls: a run, then resumes, as many calls as there are budgets, one at least.
+pub fn make_and_play(
     formula: &[u8],
     names: &[u8],
+    wanted: Wanted,
+    tree: &mut [u8],
     program: &mut [u8],
     inputs: &[f64],
     regs: &mut [f64],
     path: &mut [u8],
+    rooms: &[usize],
     budgets: &[usize],
     flags: &[u8],
     values: &[f64],
 ) -> Played
-    ensures written { λ r. ⌜ now (program .exit) ≡ program-after image (compile (now (formula .entry)) (now (names .entry)) (length (now (path .entry))) (length (now (program .entry)))) (now (program .entry)) ⌝ }
-    ensures demand { λ r. ⌜ Owes (compile (now (formula .entry)) (now (names .entry)) (length (now (path .entry))) (length (now (program .entry)))) (now (program .exit)) (now (inputs .entry)) (length (now (path .entry))) (now (budgets .entry)) (now (flags .entry)) (now (values .entry)) (now (regs .entry)) (now (regs .exit)) r ⌝ }
+    ensures written { λ r. ⌜ (now (tree .exit) ≡ tree-left (now (formula .entry)) (now (names .entry)) wanted (length (now (path .entry))) (now (tree .entry)) (length (now (program .entry)))) × (now (program .exit) ≡ program-left (now (formula .entry)) (now (names .entry)) wanted (length (now (path .entry))) (length (now (tree .entry))) (now (program .entry))) ⌝ }
+    ensures demand { λ r. ⌜ Owes (make (now (formula .entry)) (now (names .entry)) wanted (length (now (path .entry))) (length (now (tree .entry))) (length (now (program .entry)))) (now (program .exit)) (now (inputs .entry)) (now (rooms .entry)) (now (budgets .entry)) (now (flags .entry)) (now (values .entry)) (now (regs .entry)) (now (regs .exit)) (now (path .entry)) (now (path .exit)) r ⌝ }
 {
-    let a = compile(formula, names, path, program);
-    match a {
-        Answer::Refused(n) => Played::Refused(n),
-        Answer::Program => Played::Replied(play(
+    let made = write_program(formula, names, wanted, path, tree, program);
+    match made {
+        Making::Refused(n) => Played::Refused(n),
+        Making::Written => Played::Replied(play(
             program,
             inputs,
             regs,
             path,
+            rooms,
             budgets,
             flags,
             values,

@@ -1,27 +1,30 @@
 -- The whole derivative, and how a caller comes to it.
-use mathlib.Core.Path.{_≡_, refl, sym, ap, _∙_, subst}
-use mathlib.Core.Bool.{Bool, true, false, cond, _&&_}
-use mathlib.Core.List.{List, [], _∷_, _++_, append-assoc, append-nil}
+use mathlib.Core.Path.{_≡_, refl, sym, ap, _∙_}
+use mathlib.Core.Bool.{Bool, true, false, cond}
+use mathlib.Core.List.{List, [], _++_, append-assoc, append-nil}
 use mathlib.Core.Option.{Option, none, some}
-use Prim.Native.Nat.{ℕ, _+_, _*_, _≤_, _<_, min}
+use Prim.Native.Nat.{ℕ, _+_, _*_, _≤_, min}
 use native.Mathlib.Omega.{arith}
 use lib.ListN.{length, length-append}
 use lib.Dec.{leb}
 use borrow.Author.Tests.{leb-true}
-use Rattle.formula.specs.Formula.{Formula, size, depth, within, well-formed}
-use Rattle.formula.specs.Node.{encode, node-bytes, inner-fields, tree-at, tree-in, formula-of}
+use Rattle.formula.specs.Formula.{Formula, size, depth, within}
+use Rattle.formula.specs.Node.{encode, node-bytes, inner-fields, tree-at, formula-of}
 use Rattle.derivative.specs.Differentiate.{differentiate, derivative, and-then, with-primal}
 use Rattle.derivative.specs.Attributes.{Attributes, Survey, attributes-of, survey, primal-attributes}
-use Rattle.derivative.proofs.Attributes.{survey-right, derivative-right, map-option}
-use Rattle.reader.specs.Read.{is-some}
+use Rattle.derivative.proofs.Attributes.{survey-right, map-option}
+use Rattle.reader.specs.Read.{is-some, limited}
 use Rattle.reader.proofs.Heads.{and-first, and-second}
 use Rattle.reader.proofs.Encode.{encode-length}
 use Rattle.reader.proofs.Scan.{whole}
 use Rattle.survey.specs.Derived.{derived}
-use Rattle.survey.specs.Table.{tree, Owned, Room, Filled, found, reading}
+use Rattle.survey.specs.Table.{tree, Room, Filled, found, optional-attributes, reading}
+use Rattle.survey.specs.Worked.{Capped}
+use Rattle.survey.specs.declared.Attributes as Declared
+use Rattle.survey.proofs.Capped.{capped-tree}
 use Rattle.survey.specs.declared.Found.{Found}
 use Rattle.survey.proofs.Derivative.{fine-some}
-use Rattle.differentiate.specs.Written.{Known, Task, Job, literal-bytes, primal-bytes, Writes}
+use Rattle.differentiate.specs.Written.{Known, Job, literal-bytes, primal-bytes, Writes}
 use Rattle.differentiate.proofs.Lists.{as-text}
 
 some-of : (a b : Formula) → _≡_ {A = Option Formula} (some a) (some b) → a ≡ b
@@ -117,3 +120,21 @@ module _ (s : ℕ) (b : Bool) (f T T′ : List ℕ) (levels : ℕ) (room : Room 
         fine = is-fine;
         room = λ d q. omega (arith, sized n p d q);
       }
+
+-- what the survey found is within the caps
+capped-option : (o : Option Formula) (a : Declared.Attributes) → some (reading a) ≡ map-option attributes-of o → Capped a
+capped-option none a e = let z : _≡_ {A = ℕ} 0 1 = cc in absurd (omega arith)
+capped-option (some d) a e = let q : reading a ≡ attributes-of d = cc in capped-tree a d q
+
+module _ (s : ℕ) (b : Bool) (t : Formula) (r : Found) (e : found r ≡ survey s b t) where
+  pub own-capped : Capped (r .own)
+  own-capped = capped-tree (r .own) t (ap (λ (x : Survey). x .own) (e ∙ survey-right s b t))
+
+  pub diff-capped : r .fine ≡ true → Capped (r .diff)
+  diff-capped f =
+      capped-option (differentiate s b t) (r .diff)
+      (sym (ap (λ (c : Bool). optional-attributes c (reading (r .diff))) f) ∙ ap (λ (x : Survey). x .diff) (e ∙ survey-right s b t))
+
+-- a formula within the limits, as the reader says it
+pub room-from : (f T : List ℕ) → is-some (formula-of f) ≡ true → limited 256 32 (formula-of f) ≡ true → 2048 ≤ length T → Room f T 0 32
+room-from f T e w l = room-of f T e (sym (ap (λ (o : Option Formula). limited 256 32 o) (whole f e .2)) ∙ w) l

@@ -36,23 +36,23 @@ module _ (C : Context) (inputs : List Float) (t : Term) where
   resumed h (c ∷ cs) = resumed (after h c (resume binary64 inputs (program C t) c (h .state) (h .registers))) cs
 
   -- what the reply owes to a list of a run and k resumes
-  abbrev pub Last : ℕ → List ℕ → List ℕ → List Float → List Float → Reply → ℕ → Type 0
-  Last room budgets flags values regs reply zero =
-      let c = first-call room budgets in
+  abbrev pub Last : ℕ → List ℕ → List ℕ → List ℕ → List Float → List Float → Reply → ℕ → Type 0
+  Last n rooms budgets flags values regs reply zero =
+      let c = first-call n rooms budgets in
       Fulfils binary64 C inputs t (start regs) c reply (refusal ready c)
-  Last room budgets flags values regs reply (suc k) =
-      let h = resumed (begun (first-call room budgets) regs) (calls-from room budgets flags values k 1) in
-      let c = call-at room budgets flags values (suc k) in
+  Last n rooms budgets flags values regs reply (suc k) =
+      let h = resumed (begun (first-call n rooms budgets) regs) (calls-from n rooms budgets flags values k 1) in
+      let c = call-at n rooms budgets flags values (suc k) in
       Fulfils binary64 C inputs t h c reply (refusal (h .stage) c)
 
   -- "The counts of the whole list add up to at most the instructions that the code holds."
-  abbrev pub Within : ℕ → List ℕ → List ℕ → List Float → List Float → ℕ → Type 0
-  Within room budgets flags values regs k =
-      resumed (begun (first-call room budgets) regs) (calls-from room budgets flags values k 1) .total ≤ length (program C t .code)
+  abbrev pub Within : ℕ → List ℕ → List ℕ → List ℕ → List Float → List Float → ℕ → Type 0
+  Within n rooms budgets flags values regs k =
+      resumed (begun (first-call n rooms budgets) regs) (calls-from n rooms budgets flags values k 1) .total ≤ length (program C t .code)
 
 -- the bytes are the program of a source, "finite inputs of the declared count and the registers that 01 asks for"
-abbrev pub Demand : List Float → List ℕ → ℕ → List ℕ → List ℕ → List Float → List Float → Reply → Type 0
-Demand inputs b room budgets flags values regs reply =
+abbrev pub Demand : List Float → List ℕ → ℕ → List ℕ → List ℕ → List ℕ → List Float → List Float → Reply → Type 0
+Demand inputs b n rooms budgets flags values regs reply =
     (C : Context) (t : Term) → Source C t → program-at b ≡ program C t → length inputs ≡ program C t .inputs → all finite inputs ≡ true
     → program C t .registers ≤ length regs
-    → Last C inputs t room budgets flags values regs reply (length budgets - 1) × Within C inputs t room budgets flags values regs (length budgets - 1)
+    → Last C inputs t n rooms budgets flags values regs reply (length budgets - 1) × Within C inputs t n rooms budgets flags values regs (length budgets - 1)

@@ -4,8 +4,7 @@ use mathlib.Core.Path.{_≡_, refl, sym, _∙_, ap}
 use Rattle.formula.specs.Formula.{Formula}
 use Rattle.derivative.specs.Attributes.{Attributes}
 use Rattle.survey.specs.Table.{tree}
-use Rattle.differentiate.proofs.Whole.{job-of}
-use Rattle.derivative_cases.proofs.Capped.{own-capped, diff-capped, room-from}
+use Rattle.differentiate.proofs.Whole.{diff-capped, job-of, own-capped, room-from}
 use borrow.Author.Needs.{needs}
 use Rattle.derivative_cases.proofs.derive.Statement.{statement}
 use Rattle.derivative_cases.proofs.derive.Tie as tie

@@ -3,18 +3,28 @@ use Prim.Native.Nat.{_-_}
 use native.Mathlib.Omega.{arith}
 use borrow.Author.Needs.{needs}
 use lib.ListN.{length}
+use lib.Seq.{length-take-le}
 use Rattle.run.specs.Views.{supplied-of}
 use Rattle.play.specs.Listed.{Played}
-use Rattle.play.proofs.Loops.{left-at, left-end, left-start, left-step, seen}
+use Rattle.play.proofs.Loops.{again-long, left-at, left-end, left-start, left-step, seen}
 use Rattle.play.proofs.Lasts.{demand}
 use Rattle.play.proofs.play.Statement.{statement}
 use Rattle.play.proofs.play.Tie as tie
 
 abbrev Inv-loop : tie.InvT-loop
-Inv-loop p inputs regs₀ path₀ budgets flags values r₀ i₀ regs path r i = (length regs ≡ length regs₀) × (length path ≡ length path₀) × (left-at inputs p (length path₀) budgets flags values (seen p r regs path) i ≡ left-at inputs p (length path₀) budgets flags values (seen p r₀ regs₀ path₀) 1)
+Inv-loop p inputs regs₀ path₀ rooms budgets flags values n first r₀ i₀ regs path r i = (length regs ≡ length regs₀) × (length path ≡ n) × (left-at inputs p n rooms budgets flags values (seen p r regs path) i ≡ left-at inputs p n rooms budgets flags values (seen p r₀ regs₀ path₀) 1)
 
 abbrev μ-loop : tie.MeasureT-loop
-μ-loop p inputs regs₀ path₀ budgets flags values r₀ i₀ regs path r i = length budgets - i
+μ-loop p inputs regs₀ path₀ rooms budgets flags values n first r₀ i₀ regs path r i = length budgets - i
+
+room-at-requires : tie.Need-room-at-requires Inv-loop μ-loop
+room-at-requires c κs = search needs
+
+slice-relend-prefix-run : tie.Need-slice-relend-prefix-run Inv-loop μ-loop
+slice-relend-prefix-run c = c .before .room-at .ensures .1
+
+slice-aggregate-run : tie.Need-slice-aggregate-run Inv-loop μ-loop
+slice-aggregate-run c = sym (length-take-le (c .before .before .room-at .result) (c .before .before .before .before .before .before .before .before .before .before .before .args .path .now) (c .before .before .room-at .ensures .1))
 
 budget-at-requires : tie.Need-budget-at-requires Inv-loop μ-loop
 budget-at-requires c κs = search needs
@@ -23,10 +33,19 @@ run-requires : tie.Need-run-requires Inv-loop μ-loop
 run-requires c κs = search needs
 
 loop-holds : tie.Need-loop-holds Inv-loop μ-loop
-loop-holds c = (refl, refl, refl)
+loop-holds c = (refl, again-long (c .before .before .before .before .before .before .before .before .before .before .before .before .before .before .before .before .before .args .path .now) (c .before .before .before .before .run .last .1 .1 .1 .0) (c .before .before .before .before .before .before .before .before .room-at .result) (c .before .before .before .before .before .before .before .before .room-at .ensures .1) (c .before .before .before .before .run .kept .1 .1 .1 .0), refl)
+
+room-at-requires-2 : tie.Need-room-at-requires-2 Inv-loop μ-loop
+room-at-requires-2 c κs = search needs
 
 supplied-at-requires : tie.Need-supplied-at-requires Inv-loop μ-loop
 supplied-at-requires c κs = search needs
+
+slice-relend-prefix-resume : tie.Need-slice-relend-prefix-resume Inv-loop μ-loop
+slice-relend-prefix-resume c = omega (arith, c .before .before .before .room-at2 .ensures .1, c .before .before .before .before .before .loop .inv .1)
+
+slice-aggregate-resume : tie.Need-slice-aggregate-resume Inv-loop μ-loop
+slice-aggregate-resume c = sym (length-take-le (c .before .before .before .before .room-at2 .result) (c .before .before .before .before .before .before .loop .path) (omega (arith, c .before .before .before .before .room-at2 .ensures .1, c .before .before .before .before .before .before .loop .inv .1)))
 
 budget-at-requires-2 : tie.Need-budget-at-requires-2 Inv-loop μ-loop
 budget-at-requires-2 c κs = search needs
@@ -35,23 +54,23 @@ resume-requires : tie.Need-resume-requires Inv-loop μ-loop
 resume-requires c κs = search needs
 
 add-i : tie.Need-add-i Inv-loop μ-loop
-add-i c = omega (arith, c .before .before .before .before .before .before .before .before .before .before .loop-test .taken, c .before .before .before .before .before .before .before .before .before .before .before .before .before .before .before .before .before .before .before .before .before .before .before .before .before .before .before .good .1 .1 .1 .1 .0 .0)
+add-i c = omega (arith, c .before .before .before .before .before .before .before .before .before .before .before .loop-test .taken, c .before .before .before .before .before .before .before .before .before .before .before .before .before .before .before .before .before .before .before .before .before .before .before .before .before .before .before .before .before .before .good .1 .1 .1 .1 .1 .0 .0)
 
 loop-less : tie.Need-loop-less Inv-loop μ-loop
 loop-less c = omega arith
 
 loop-again : tie.Need-loop-again Inv-loop μ-loop
-loop-again c = (c .before .before .before .before .resume .kept .1 .1 .0 ∙ c .before .before .before .before .before .before .before .before .before .before .before .loop .inv .0, c .before .before .before .before .resume .kept .1 .1 .1 .0 ∙ c .before .before .before .before .before .before .before .before .before .before .before .loop .inv .1, sym (left-step (c .before .before .before .before .before .before .before .before .before .before .before .before .before .before .before .before .before .before .before .before .before .before .before .before .before .before .before .args .inputs .now) (c .before .before .before .before .before .before .before .before .before .before .before .before .before .before .before .before .before .before .before .before .before .before .before .before .before .before .before .args .p .now) _ (c .before .before .before .before .before .before .before .before .before .before .before .before .before .before .before .before .before .before .before .before .before .before .before .before .before .before .before .args .budgets .now) (c .before .before .before .before .before .before .before .before .before .before .before .before .before .before .before .before .before .before .before .before .before .before .before .before .before .before .before .args .flags .now) (c .before .before .before .before .before .before .before .before .before .before .before .before .before .before .before .before .before .before .before .before .before .before .before .before .before .before .before .args .values .now) (c .before .before .before .before .before .before .before .before .before .before .before .loop .r) (c .before .before .before .before .resume .result) (c .before .before .before .before .before .before .before .before .before .before .before .loop .regs) _ (c .before .before .before .before .before .before .before .before .before .before .before .loop .path) _ (c .before .before .before .before .before .before .before .before .before .before .before .loop .i) (c .before .before .before .before .before .budget-at2 .result) (supplied-of (c .before .before .before .before .before .before .before .before .before .supplied-at .result)) (sym (c .before .before .before .before .before .before .before .before .before .before .before .loop .inv .1)) (c .before .before .before .before .before .before .before .before .before .before .loop-test .taken) (c .before .before .before .before .before .budget-at2 .ensures) (c .before .before .before .before .before .before .before .before .before .supplied-at .ensures) (c .before .before .before .before .resume .ensures .0) (c .before .before .before .before .resume .ensures .1 .0)) ∙ c .before .before .before .before .before .before .before .before .before .before .before .loop .inv .2)
+loop-again c = (c .before .before .before .before .resume .kept .1 .1 .0 ∙ c .before .before .before .before .before .before .before .before .before .before .before .before .loop .inv .0, again-long (c .before .before .before .before .before .before .before .before .before .before .before .before .loop .path) (c .before .before .before .before .resume .last .1 .1 .1 .0) (c .before .before .before .before .before .before .before .before .before .before .room-at2 .result) (omega (arith, c .before .before .before .before .before .before .before .before .before .before .room-at2 .ensures .1, c .before .before .before .before .before .before .before .before .before .before .before .before .loop .inv .1)) (c .before .before .before .before .resume .kept .1 .1 .1 .0) ∙ c .before .before .before .before .before .before .before .before .before .before .before .before .loop .inv .1, sym (left-step (c .before .before .before .before .before .before .before .before .before .before .before .before .before .before .before .before .before .before .before .before .before .before .before .before .before .before .before .before .before .before .args .inputs .now) (c .before .before .before .before .before .before .before .before .before .before .before .before .before .before .before .before .before .before .before .before .before .before .before .before .before .before .before .before .before .before .args .p .now) (length (c .before .before .before .before .before .before .before .before .before .before .before .before .before .before .before .before .before .before .before .before .before .before .before .before .before .before .before .before .before .before .args .path .now)) (c .before .before .before .before .before .before .before .before .before .before .before .before .before .before .before .before .before .before .before .before .before .before .before .before .before .before .before .before .before .before .args .rooms .now) (c .before .before .before .before .before .before .before .before .before .before .before .before .before .before .before .before .before .before .before .before .before .before .before .before .before .before .before .before .before .before .args .budgets .now) (c .before .before .before .before .before .before .before .before .before .before .before .before .before .before .before .before .before .before .before .before .before .before .before .before .before .before .before .before .before .before .args .flags .now) (c .before .before .before .before .before .before .before .before .before .before .before .before .before .before .before .before .before .before .before .before .before .before .before .before .before .before .before .before .before .before .args .values .now) (c .before .before .before .before .before .before .before .before .before .before .before .before .loop .r) (c .before .before .before .before .resume .result) (c .before .before .before .before .before .before .before .before .before .before .before .before .loop .regs) _ (c .before .before .before .before .before .before .before .before .before .before .before .before .loop .path) _ (c .before .before .before .before .before .before .before .before .before .before .before .before .loop .i) (c .before .before .before .before .before .before .before .before .before .before .room-at2 .result) (c .before .before .before .before .before .budget-at2 .result) (supplied-of (c .before .before .before .before .before .before .before .before .before .supplied-at .result)) (c .before .before .before .before .before .before .before .before .before .before .room-at2 .ensures .0) (omega (arith, c .before .before .before .before .before .before .before .before .before .before .room-at2 .ensures .1, c .before .before .before .before .before .before .before .before .before .before .before .before .loop .inv .1)) (c .before .before .before .before .before .before .before .before .before .before .before .loop-test .taken) (c .before .before .before .before .before .budget-at2 .ensures) (c .before .before .before .before .before .before .before .before .before .supplied-at .ensures) (c .before .before .before .before .resume .ensures .0) (c .before .before .before .before .resume .ensures .1 .0)) ∙ c .before .before .before .before .before .before .before .before .before .before .before .before .loop .inv .2)
 
 same-length : tie.Need-same-length Inv-loop μ-loop
 same-length c = c .before .loop .inv .0 ∙ c .before .before .before .before .before .before .run .kept .1 .1 .0
 
 same-length-2 : tie.Need-same-length-2 Inv-loop μ-loop
-same-length-2 c = c .before .loop .inv .1 ∙ c .before .before .before .before .before .before .run .kept .1 .1 .1 .0
+same-length-2 c = c .before .loop .inv .1
 
 returns : tie.Need-returns Inv-loop μ-loop
-returns c = let e = sym (left-end (c .before .before .before .before .before .before .before .before .before .before .before .before .before .before .before .before .before .args .inputs .now) (c .before .before .before .before .before .before .before .before .before .before .before .before .before .before .before .before .before .args .p .now) _ (c .before .before .before .before .before .before .before .before .before .before .before .before .before .before .before .before .before .args .budgets .now) (c .before .before .before .before .before .before .before .before .before .before .before .before .before .before .before .before .before .args .flags .now) (c .before .before .before .before .before .before .before .before .before .before .before .before .before .before .before .before .before .args .values .now) (seen (c .before .before .before .before .before .before .before .before .before .before .before .before .before .before .before .before .before .args .p .now) (c .before .loop .r) (c .before .loop .regs) (c .before .loop .path)) (c .before .loop .i) (c .loop-test .left)) ∙ c .before .loop .inv .2 ∙ left-start (c .before .before .before .before .before .before .before .before .before .before .before .before .before .before .before .before .before .args .inputs .now) (c .before .before .before .before .before .before .before .before .before .before .before .before .before .before .before .before .before .args .p .now) _ (c .before .before .before .before .before .before .before .before .before .before .before .before .before .before .before .before .before .args .budgets .now) (c .before .before .before .before .before .before .before .before .before .before .before .before .before .before .before .before .before .args .flags .now) (c .before .before .before .before .before .before .before .before .before .before .before .before .before .before .before .before .before .args .values .now) (c .before .before .before .before .before .before .before .before .before .before .before .before .before .before .before .before .before .args .regs .now) _ (c .before .before .before .before .before .before .before .before .before .before .before .before .before .before .before .before .before .args .path .now) _ (c .before .before .before .before .before .before .run .result) (c .before .before .before .before .before .before .before .budget-at .result) (c .before .before .before .before .before .before .run .kept .1 .1 .1 .0) (c .before .before .before .before .before .before .before .budget-at .ensures) (c .before .before .before .before .before .before .run .ensures .0) (c .before .before .before .before .before .before .run .ensures .1) in
-    (ap (λ (x : Played). x .reply) e, (ap (λ (x : Played). x .path) e, demand (c .before .before .before .before .before .before .before .before .before .before .before .before .before .before .before .before .before .args .inputs .now) (c .before .before .before .before .before .before .before .before .before .before .before .before .before .before .before .before .before .args .p .now) (c .before .before .before .before .before .before .before .before .before .before .before .before .before .before .before .before .before .args .path .now) (c .before .before .before .before .before .before .before .before .before .before .before .before .before .before .before .before .before .args .budgets .now) (c .before .before .before .before .before .before .before .before .before .before .before .before .before .before .before .before .before .args .flags .now) (c .before .before .before .before .before .before .before .before .before .before .before .before .before .before .before .before .before .args .values .now) (c .before .before .before .before .before .before .before .before .before .before .before .before .before .before .before .before .before .args .regs .now) _ (ap (λ (x : Played). x .reply) e)))
+returns c = let e = sym (left-end (c .before .before .before .before .before .before .before .before .before .before .before .before .before .before .before .before .before .before .before .args .inputs .now) (c .before .before .before .before .before .before .before .before .before .before .before .before .before .before .before .before .before .before .before .args .p .now) (length (c .before .before .before .before .before .before .before .before .before .before .before .before .before .before .before .before .before .before .before .args .path .now)) (c .before .before .before .before .before .before .before .before .before .before .before .before .before .before .before .before .before .before .before .args .rooms .now) (c .before .before .before .before .before .before .before .before .before .before .before .before .before .before .before .before .before .before .before .args .budgets .now) (c .before .before .before .before .before .before .before .before .before .before .before .before .before .before .before .before .before .before .before .args .flags .now) (c .before .before .before .before .before .before .before .before .before .before .before .before .before .before .before .before .before .before .before .args .values .now) (seen (c .before .before .before .before .before .before .before .before .before .before .before .before .before .before .before .before .before .before .before .args .p .now) (c .before .loop .r) (c .before .loop .regs) (c .before .loop .path)) (c .before .loop .i) (c .loop-test .left)) ∙ c .before .loop .inv .2 ∙ left-start (c .before .before .before .before .before .before .before .before .before .before .before .before .before .before .before .before .before .before .before .args .inputs .now) (c .before .before .before .before .before .before .before .before .before .before .before .before .before .before .before .before .before .before .before .args .p .now) (length (c .before .before .before .before .before .before .before .before .before .before .before .before .before .before .before .before .before .before .before .args .path .now)) (c .before .before .before .before .before .before .before .before .before .before .before .before .before .before .before .before .before .before .before .args .rooms .now) (c .before .before .before .before .before .before .before .before .before .before .before .before .before .before .before .before .before .before .before .args .budgets .now) (c .before .before .before .before .before .before .before .before .before .before .before .before .before .before .before .before .before .before .before .args .flags .now) (c .before .before .before .before .before .before .before .before .before .before .before .before .before .before .before .before .before .before .before .args .values .now) (c .before .before .before .before .before .before .before .before .before .before .before .before .before .before .before .before .before .before .before .args .regs .now) _ (c .before .before .before .before .before .before .before .before .before .before .before .before .before .before .before .before .before .before .before .args .path .now) _ (c .before .before .before .before .before .before .run .result) (c .before .before .before .before .before .before .before .before .before .before .room-at .result) (c .before .before .before .before .before .before .before .budget-at .result) refl (c .before .before .before .before .before .before .before .before .before .before .room-at .ensures .0) (c .before .before .before .before .before .before .before .before .before .before .room-at .ensures .1) (c .before .before .before .before .before .before .before .budget-at .ensures) (c .before .before .before .before .before .before .run .ensures .0) (c .before .before .before .before .before .before .run .ensures .1) in
+    (ap (λ (x : Played). x .reply) e, (ap (λ (x : Played). x .path) e, demand (c .before .before .before .before .before .before .before .before .before .before .before .before .before .before .before .before .before .before .before .args .inputs .now) (c .before .before .before .before .before .before .before .before .before .before .before .before .before .before .before .before .before .before .before .args .p .now) (c .before .before .before .before .before .before .before .before .before .before .before .before .before .before .before .before .before .before .before .args .path .now) (c .before .before .before .before .before .before .before .before .before .before .before .before .before .before .before .before .before .before .before .args .rooms .now) (c .before .before .before .before .before .before .before .before .before .before .before .before .before .before .before .before .before .before .before .args .budgets .now) (c .before .before .before .before .before .before .before .before .before .before .before .before .before .before .before .before .before .before .before .args .flags .now) (c .before .before .before .before .before .before .before .before .before .before .before .before .before .before .before .before .before .before .before .args .values .now) (c .before .before .before .before .before .before .before .before .before .before .before .before .before .before .before .before .before .before .before .args .regs .now) _ (ap (λ (x : Played). x .reply) e)))
 
 pub play-spec : {M : Type 1} → statement M
 play-spec =
@@ -59,10 +78,16 @@ play-spec =
     (tie.spec
     Inv-loop
     μ-loop
+    room-at-requires
+    slice-relend-prefix-run
+    slice-aggregate-run
     budget-at-requires
     run-requires
     loop-holds
+    room-at-requires-2
     supplied-at-requires
+    slice-relend-prefix-resume
+    slice-aggregate-resume
     budget-at-requires-2
     resume-requires
     add-i

@@ -1,0 +1,98 @@
+use mathlib.Core.Path.{refl, ap}
+use Rattle.demand.proofs.Owing.{compiling, derivative-done, differentiating, formula-done}
+use borrow.Author.Needs.{needs}
+use Rattle.demand.proofs.write_program.Statement.{statement}
+use Rattle.demand.proofs.write_program.Tie as tie
+
+enum-told : tie.Need-enum-told
+enum-told c = search needs
+
+compile-requires : tie.Need-compile-requires
+compile-requires c κs = search needs
+
+enum-told-2 : tie.Need-enum-told-2
+enum-told-2 c = search needs
+
+enum-known-a : tie.Need-enum-known-a
+enum-known-a c = search needs
+
+enum-known-wanted : tie.Need-enum-known-wanted
+enum-known-wanted c = search needs
+
+derive-requires : tie.Need-derive-requires
+derive-requires c κs = search needs
+
+enum-told-3 : tie.Need-enum-told-3
+enum-told-3 c = search needs
+
+enum-known-a-2 : tie.Need-enum-known-a-2
+enum-known-a-2 c = search needs
+
+same-length : tie.Need-same-length
+same-length c = search needs
+
+same-length-2 : tie.Need-same-length-2
+same-length-2 c = search needs
+
+returns : tie.Need-returns
+returns c = formula-done (c .before .before .before .before .before .before .before .before .before .before .before .before .before .before .before .before .args .formula .now) (c .before .before .before .before .before .before .before .before .before .before .before .before .before .before .before .before .args .names .now) (c .before .before .before .before .before .before .before .before .before .before .before .before .before .before .before .before .args .path .now) (c .before .before .before .before .before .before .compile .last .1 .1 .0) (c .before .before .before .before .before .before .before .before .before .before .before .before .before .before .before .before .args .tree .now) (c .before .before .before .before .before .before .before .before .before .before .before .before .before .before .before .before .args .tree .now) (c .before .before .before .before .before .before .before .before .before .before .before .before .before .before .before .before .args .program .now) (c .before .before .before .before .before .before .compile .last .1 .1 .1 .0) (c .before .before .before .before .before .before .before .before .before .before .before .before .before .before .before .before .args .wanted) (c .before .before .before .before .before .before .compile .result) _ (c .before .before .before .before .before .before .before .before .before .enum-told .given .1) (ap compiling (c .enum-told2 .given .1)) refl (c .before .before .before .before .before .before .compile .ensures .0) (c .before .before .before .before .before .before .compile .ensures .1) (c .before .before .before .before .before .before .compile .ensures .2)
+
+same-length-3 : tie.Need-same-length-3
+same-length-3 c = search needs
+
+same-length-4 : tie.Need-same-length-4
+same-length-4 c = search needs
+
+returns-2 : tie.Need-returns-2
+returns-2 c = formula-done (c .before .before .before .before .before .before .before .before .before .before .before .before .before .before .before .before .before .args .formula .now) (c .before .before .before .before .before .before .before .before .before .before .before .before .before .before .before .before .before .args .names .now) (c .before .before .before .before .before .before .before .before .before .before .before .before .before .before .before .before .before .args .path .now) (c .before .before .before .before .before .before .before .compile .last .1 .1 .0) (c .before .before .before .before .before .before .before .before .before .before .before .before .before .before .before .before .before .args .tree .now) (c .before .before .before .before .before .before .before .before .before .before .before .before .before .before .before .before .before .args .tree .now) (c .before .before .before .before .before .before .before .before .before .before .before .before .before .before .before .before .before .args .program .now) (c .before .before .before .before .before .before .before .compile .last .1 .1 .1 .0) (c .before .before .before .before .before .before .before .before .before .before .before .before .before .before .before .before .before .args .wanted) (c .before .before .before .before .before .before .before .compile .result) _ (c .before .before .before .before .before .before .before .before .before .before .enum-told .given .1) (ap compiling (c .before .a .given .1)) refl (c .before .before .before .before .before .before .before .compile .ensures .0) (c .before .before .before .before .before .before .before .compile .ensures .1) (c .before .before .before .before .before .before .before .compile .ensures .2)
+
+same-length-5 : tie.Need-same-length-5
+same-length-5 c = search needs
+
+same-length-6 : tie.Need-same-length-6
+same-length-6 c = search needs
+
+same-length-7 : tie.Need-same-length-7
+same-length-7 c = search needs
+
+returns-3 : tie.Need-returns-3
+returns-3 c = derivative-done (c .before .before .before .before .before .before .before .before .before .before .before .before .before .before .before .before .before .before .before .before .args .formula .now) (c .before .before .before .before .before .before .before .before .before .before .before .before .before .before .before .before .before .before .before .before .args .names .now) (c .before .before .before .before .before .before .before .before .before .before .before .before .before .before .before .before .before .before .before .before .args .path .now) (c .before .before .before .before .before .before .before .before .derive .last .1 .1 .1 .0) (c .before .before .before .before .before .before .before .before .before .before .before .before .before .before .before .before .before .before .before .before .args .tree .now) (c .before .before .before .before .before .before .before .before .derive .last .1 .1 .1 .1 .0) (c .before .before .before .before .before .before .before .before .before .before .before .before .before .before .before .before .before .before .before .before .args .program .now) (c .before .before .before .before .before .before .before .before .derive .last .1 .1 .1 .1 .1 .0) (c .before .before .before .before .before .before .before .before .before .before .before .before .before .before .before .before .before .before .before .before .args .wanted) (c .before .before .before .before .before .before .before .before .before .before .before .before .before .wanted .given .0 .0) (c .before .before .before .before .before .before .before .before .derive .result) _ (c .before .before .before .before .before .before .before .before .before .before .before .before .before .wanted .given .1) (ap differentiating (c .enum-told3 .given .1)) (c .before .before .before .before .before .before .before .before .derive .ensures)
+
+same-length-8 : tie.Need-same-length-8
+same-length-8 c = search needs
+
+same-length-9 : tie.Need-same-length-9
+same-length-9 c = search needs
+
+same-length-10 : tie.Need-same-length-10
+same-length-10 c = search needs
+
+returns-4 : tie.Need-returns-4
+returns-4 c = derivative-done (c .before .before .before .before .before .before .before .before .before .before .before .before .before .before .before .before .before .before .before .before .before .args .formula .now) (c .before .before .before .before .before .before .before .before .before .before .before .before .before .before .before .before .before .before .before .before .before .args .names .now) (c .before .before .before .before .before .before .before .before .before .before .before .before .before .before .before .before .before .before .before .before .before .args .path .now) (c .before .before .before .before .before .before .before .before .before .derive .last .1 .1 .1 .0) (c .before .before .before .before .before .before .before .before .before .before .before .before .before .before .before .before .before .before .before .before .before .args .tree .now) (c .before .before .before .before .before .before .before .before .before .derive .last .1 .1 .1 .1 .0) (c .before .before .before .before .before .before .before .before .before .before .before .before .before .before .before .before .before .before .before .before .before .args .program .now) (c .before .before .before .before .before .before .before .before .before .derive .last .1 .1 .1 .1 .1 .0) (c .before .before .before .before .before .before .before .before .before .before .before .before .before .before .before .before .before .before .before .before .before .args .wanted) (c .before .before .before .before .before .before .before .before .before .before .before .before .before .before .wanted .given .0 .0) (c .before .before .before .before .before .before .before .before .before .derive .result) _ (c .before .before .before .before .before .before .before .before .before .before .before .before .before .before .wanted .given .1) (ap differentiating (c .before .a2 .given .1)) (c .before .before .before .before .before .before .before .before .before .derive .ensures)
+
+pub write-program-spec : {M : Type 1} → statement M
+write-program-spec =
+    tie.close
+    (tie.spec
+    enum-told
+    compile-requires
+    enum-told-2
+    enum-known-a
+    enum-known-wanted
+    derive-requires
+    enum-told-3
+    enum-known-a-2
+    same-length
+    same-length-2
+    returns
+    same-length-3
+    same-length-4
+    returns-2
+    same-length-5
+    same-length-6
+    same-length-7
+    returns-3
+    same-length-8
+    same-length-9
+    same-length-10
+    returns-4)

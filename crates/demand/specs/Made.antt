@@ -1,0 +1,55 @@
+-- What compile or derive makes of a formula: "Take a formula that compiles, or its derivative by a named symbol where one is given".
+use mathlib.Core.List.{List}
+use mathlib.Core.Option.{Option, none}
+use Prim.Native.Nat.{ℕ}
+use lib.ListN.{length}
+use Rattle.formula.specs.Formula as Tree
+use Rattle.formula.specs.Path.{Path}
+use Rattle.machine.specs.Check.{Context}
+use Rattle.machine.specs.Compile.{Compiled, accepted, compile, own-context}
+use Rattle.machine.specs.Compile as Compile
+use Rattle.layout.specs.Image.{image}
+use Rattle.derivative.specs.Derive.{Derived, derive, derived, formula-refused, generated-context, tree-after}
+use Rattle.derivative.specs.Derive as Derive
+use Rattle.demand.specs.declared.Making.{Making}
+use Rattle.demand.specs.declared.Making.the-variants as Making
+use Rattle.demand.specs.declared.Wanted.{Wanted}
+use Rattle.demand.specs.declared.Wanted.the-variants.{Derivative, Formula}
+
+-- a refusal with its place, or the program of a formula or of a derivative tree
+pub data Made : Type 0 where
+  refused : ℕ → Option Path → Made
+  made : Context → Tree.Formula → Made
+
+abbrev pub of-compiled : Compiled → Made
+of-compiled (Compile.refused n place) = refused n place
+of-compiled (accepted f symbols) = made (own-context symbols) f
+
+abbrev pub of-derived : Derived → Made
+of-derived (formula-refused n place) = refused n place
+of-derived (Derive.refused n place) = refused n place
+of-derived (derived d symbols) = made (generated-context symbols) d
+
+abbrev pub answer-of : Made → Making
+answer-of (refused n place) = Making.Refused n
+answer-of (made C f) = Making.Written
+
+abbrev pub place-of : Made → Option Path
+place-of (refused n place) = place
+place-of (made C f) = none
+
+-- of formula bytes and a name line, with slices of these lengths
+module _ (formula names : List ℕ) where
+  abbrev pub make : Wanted → ℕ → ℕ → ℕ → Made
+  make Formula path tree program = of-compiled (compile formula names path program)
+  make (Derivative s) path tree program = of-derived (derive formula names s path tree program)
+
+  -- ---- what the slices hold after
+
+  abbrev pub tree-left : Wanted → ℕ → List ℕ → ℕ → List ℕ
+  tree-left Formula path tree program = tree
+  tree-left (Derivative s) path tree program = tree-after (derive formula names s path (length tree) program) tree
+
+  abbrev pub program-left : Wanted → ℕ → ℕ → List ℕ → List ℕ
+  program-left Formula path tree program = Compile.program-after image (compile formula names path (length program)) program
+  program-left (Derivative s) path tree program = Derive.program-after image (derive formula names s path tree (length program)) program

@@ -1,0 +1,5 @@
+-- Laws of derive.
+pub mod Writable
+pub mod Parts
+pub mod Writing
+pub mod Ends

@@ -1,0 +1,2 @@
+-- What derive answers and leaves.
+pub mod Outcome

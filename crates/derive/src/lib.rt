@@ -1,0 +1,194 @@
+// The derivative of a formula by one of its symbols, as a tree and as a program; reference `derivative_prepared`.
+ghost use mathlib.Core.Path.{_≡_};
+ghost use mathlib.Core.List.{List};
+ghost use mathlib.Core.Option.{some};
+ghost use Prim.Native.Nat.{_≤_};
+ghost use lib.ListN.{length};
+ghost use Rattle.formula.specs.Text.{zeros};
+ghost use Rattle.formula.specs.Formula.{Formula, size};
+ghost use Rattle.formula.specs.Names.{Symbol};
+ghost use Rattle.formula.specs.Node.{encode};
+ghost use Rattle.formula.specs.Path.{placed, root};
+ghost use Rattle.formula.specs.Term.{term};
+ghost use Rattle.machine.specs.Check.{fault};
+ghost use Rattle.machine.specs.Compile.{filled, lowered-or, own-context};
+ghost use Rattle.layout.specs.Image.{image};
+ghost use Rattle.derivative.specs.Differentiate.{derivative};
+ghost use Rattle.derivative.specs.Derive.{by-state, continued, derive, fitted, generated-context};
+ghost use Rattle.differentiate.specs.Written.{Job};
+ghost use Rattle.derive.specs.Outcome.{Derivable, Derives, Formed, Leaves, Lowers};
+use compile::prepare;
+use compile::write;
+use differentiate::write_derivative;
+use paths::write_root;
+use paths::zero_from;
+use survey::By;
+use survey::survey_formula;
+use survey::with_primal;
+
+// A tree of so many nodes and its program stand in their slices, or derive refused by a number.
+pub enum Answer {
+    Derived(usize),
+    Refused(u8),
+}
+
+// A refusal at `root` that is not compile's: "the later ones leave it all zero".
+fn refuse_at_root(path: &mut [u8], tree: &mut [u8])
+    requires { ⌜ 4 ≤ length (now path) ⌝ }
+    ensures { λ _. ⌜ (now (path .exit) ≡ placed (some root) (now (path .entry))) × (now (tree .exit) ≡ zeros (length (now (tree .entry)))) ⌝ }
+{
+    write_root(path);
+    zero_from(tree, 0);
+}
+
+// Writes the derivative tree, then the program of that tree in generated mode.
+fn write_both(
+    formula: &[u8],
+    kinds: &[u8],
+    by: By,
+    table: &[usize],
+    path: &mut [u8],
+    tree: &mut [u8],
+    program: &mut [u8],
+) -> usize
+    requires { ⌜ (8192 ≤ length (now path)) × Job (by .symbol) (by .state) (now formula) (now table) 32 (now tree) × ((f : Formula) × (ss : List Symbol) × (d : Formula) × Derives (now formula) (now kinds) (by .symbol) (by .state) (length (now program)) f ss d) ⌝ }
+    ensures { λ r. ⌜ ((f : Formula) (ss : List Symbol) (d : Formula) → Derives (now (formula .entry)) (now (kinds .entry)) (by .symbol) (by .state) (length (now (program .entry))) f ss d → (r ≡ size d) × (now (path .exit) ≡ now (path .entry)) × (now (tree .exit) ≡ filled (encode d) (now (tree .entry))) × (now (program .exit) ≡ filled (image (generated-context ss) d) (now (program .entry)))) ⌝ }
+{
+    let n = write_derivative(formula, 32, by, table, tree);
+    zero_from(tree, n);
+    write(&tree[..n], program, path, kinds, true, 128);
+    n / 16
+}
+
+// Of a formula that compiles to a Number: "8 at `root` from the rules, 4 at `root` if the finished tree is too large, 1 if the
+// tree slice, then the program slice, is too short for it."
+fn derive_number(
+    formula: &[u8],
+    kinds: &[u8],
+    by: By,
+    table: &mut [usize],
+    path: &mut [u8],
+    tree: &mut [u8],
+    program: &mut [u8],
+) -> Answer
+    requires { ⌜ (2048 ≤ length (now table)) × (8192 ≤ length (now path)) × ((f : Formula) × (ss : List Symbol) × Derivable (now formula) (now kinds) (by .symbol) (by .state) f ss) ⌝ }
+    ensures { λ r. ⌜ ((f : Formula) (ss : List Symbol) → Derivable (now (formula .entry)) (now (kinds .entry)) (by .symbol) (by .state) f ss → Leaves (fitted (length (now (tree .entry))) (length (now (program .entry))) ss (derivative (by .symbol) (by-state ss (by .symbol)) f)) r (now (path .entry)) (now (path .exit)) (now (tree .entry)) (now (tree .exit)) (now (program .entry)) (now (program .exit))) ⌝ }
+{
+    let found = survey_formula(formula, 32, by, table);
+    if !found.fine {
+        refuse_at_root(path, tree);
+        return Answer::Refused(8);
+    }
+    let own = found.own;
+    let diff = found.diff;
+    let whole = with_primal(own, diff);
+    if whole.nodes > 16384 {
+        refuse_at_root(path, tree);
+        return Answer::Refused(4);
+    }
+    if whole.levels > 128 {
+        refuse_at_root(path, tree);
+        return Answer::Refused(4);
+    }
+    if tree.len() / 16 < whole.nodes {
+        zero_from(tree, 0);
+        return Answer::Refused(1);
+    }
+    if program.len() / 240 < whole.nodes {
+        zero_from(tree, 0);
+        return Answer::Refused(1);
+    }
+    Answer::Derived(write_both(formula, kinds, by, table, path, tree, program))
+}
+
+// The refusal of a formula's first fault, or 0 and whether the formula is Boolean.
+struct Lowered {
+    refusal: u8,
+    boolean: bool,
+}
+
+// Lowers the formula itself into memory that is not the caller's: "Every refusal leaves the program slice unchanged."
+fn lower_into(formula: &[u8], kinds: &[u8], path: &mut [u8], own: &mut [u8]) -> Lowered
+    requires { ⌜ (61440 ≤ length (now own)) × (8192 ≤ length (now path)) × ((f : Formula) × (ss : List Symbol) × Formed (now formula) (now kinds) f ss) ⌝ }
+    ensures { λ r. ⌜ ((f : Formula) (ss : List Symbol) → Formed (now (formula .entry)) (now (kinds .entry)) f ss → Lowers f (fault (own-context ss) (term f) root) r (now (path .entry)) (now (path .exit))) ⌝ }
+{
+    let n = write(
+        formula,
+        &mut own[..15 * formula.len()],
+        path,
+        kinds,
+        false,
+        32,
+    );
+    Lowered {
+        refusal: n,
+        boolean: own[20] == 1,
+    }
+}
+
+fn lower_own(formula: &[u8], kinds: &[u8], path: &mut [u8]) -> Lowered
+    requires { ⌜ (8192 ≤ length (now path)) × ((f : Formula) × (ss : List Symbol) × Formed (now formula) (now kinds) f ss) ⌝ }
+    ensures { λ r. ⌜ ((f : Formula) (ss : List Symbol) → Formed (now (formula .entry)) (now (kinds .entry)) f ss → Lowers f (fault (own-context ss) (term f) root) r (now (path .entry)) (now (path .exit))) ⌝ }
+{
+    let mut own = [0u8; 61440];
+    lower_into(formula, kinds, path, &mut own)
+}
+
+// Of a formula within the limits: compile's faults, "then 7 at `root` if it is Boolean (added), 6 at `root` for a symbol number
+// not in the table".
+fn derive_formula(
+    formula: &[u8],
+    kinds: &[u8],
+    symbol: usize,
+    path: &mut [u8],
+    tree: &mut [u8],
+    program: &mut [u8],
+) -> Answer
+    requires { ⌜ (8192 ≤ length (now path)) × ((f : Formula) × (ss : List Symbol) × Formed (now formula) (now kinds) f ss) ⌝ }
+    ensures { λ r. ⌜ ((f : Formula) (ss : List Symbol) → Formed (now (formula .entry)) (now (kinds .entry)) f ss → Leaves (continued (length (now (tree .entry))) (length (now (program .entry))) symbol (lowered-or f ss (fault (own-context ss) (term f) root))) r (now (path .entry)) (now (path .exit)) (now (tree .entry)) (now (tree .exit)) (now (program .entry)) (now (program .exit))) ⌝ }
+{
+    let lowered = lower_own(formula, kinds, path);
+    if lowered.refusal != 0 {
+        return Answer::Refused(lowered.refusal);
+    }
+    if lowered.boolean {
+        refuse_at_root(path, tree);
+        return Answer::Refused(7);
+    }
+    if symbol >= kinds.len() {
+        refuse_at_root(path, tree);
+        return Answer::Refused(6);
+    }
+    let by = By {
+        symbol: symbol,
+        state: kinds[symbol] == 1,
+    };
+    let mut table = [0usize; 2048];
+    derive_number(formula, kinds, by, &mut table, path, tree, program)
+}
+
+// "Derive (reference `derivative_prepared`). Compile's refusals for the formula itself come first".
+pub fn derive(
+    formula: &[u8],
+    names: &[u8],
+    symbol: usize,
+    path: &mut [u8],
+    tree: &mut [u8],
+    program: &mut [u8],
+) -> Answer
+    ensures { λ r. ⌜ Leaves (derive (now (formula .entry)) (now (names .entry)) symbol (length (now (path .entry))) (length (now (tree .entry))) (length (now (program .entry)))) r (now (path .entry)) (now (path .exit)) (now (tree .entry)) (now (tree .exit)) (now (program .entry)) (now (program .exit)) ⌝ }
+{
+    let prepared = prepare(formula, names, path, program.len());
+    if prepared.refusal != 0 {
+        return Answer::Refused(prepared.refusal);
+    }
+    let kinds = prepared.kinds;
+    derive_formula(
+        formula,
+        &kinds[..prepared.count],
+        symbol,
+        path,
+        tree,
+        program,
+    )
+}
