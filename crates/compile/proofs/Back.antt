@@ -30,7 +30,7 @@ use Rattle.reader.proofs.Bytes.{Bytes}
 use Rattle.reader.proofs.Encode.{writable-tree}
 use Rattle.reader.proofs.Heads.{and-first, and-second}
 use Rattle.reader.proofs.Scan.{formula-in}
-use Rattle.names.proofs.Told.{names-few}
+use Rattle.names.proofs.Told.{kinds-length, names-few}
 
 -- ---- what was accepted
 
@@ -52,10 +52,6 @@ long-parts false o s f ss e = read-parts o s f ss e
 pub accepted-parts : (b l : List ℕ) (p q : ℕ) (f : Formula) (ss : List Symbol) → compile b l p q ≡ accepted f ss → (formula-of b ≡ some f) × (symbols-of l ≡ some ss)
 unfolding compile
 accepted-parts b l p q f ss e = long-parts (ltb p path-room || ltb q (program-room (length b))) (formula-of b) (symbols-of l) f ss e
-
-pub kinds-long : (ss : List Symbol) → length (kinds ss) ≡ length ss
-kinds-long [] = refl
-kinds-long (s ∷ ss) = ap suc (kinds-long ss)
 
 -- ---- nodes that can be written have literals of 8 bytes
 
@@ -87,7 +83,7 @@ module _ (b l : List ℕ) (bytes : Bytes b) (p q : ℕ) (f : Formula) (ss : List
   low = leb-true (depth f) 32 (and-second (leb (size f) 256) (leb (depth f) 32) (accepted-formula b l p q f ss e .limit))
 
   pub known : length (kinds ss) ≤ 256
-  known = omega (arith, kinds-long ss, names-few l ss (accepted-parts b l p q f ss e .1))
+  known = omega (arith, kinds-length ss, names-few l ss (accepted-parts b l p q f ss e .1))
 
   pub formula-writable : writable f ≡ true
   formula-writable =

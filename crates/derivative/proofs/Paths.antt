@@ -15,6 +15,7 @@ use Rattle.machine.proofs.Size.{longest-path, longest-paths}
 use Rattle.derivative.specs.Differentiate.{derivative}
 use Rattle.derivative.proofs.Sound.{chained, chains, all-chains}
 use Rattle.derivative.proofs.Compiles.{count-terms, derivative-compiles}
+use Rattle.machine.proofs.Size.{leaf-path}
 
 -- ---- a path has fewer steps than levels and arguments of And and Or together
 
@@ -34,10 +35,6 @@ branch-path (a and end) = omega arith
 branch-path (a and b and end) = omega arith
 branch-path (a and b and c and end) = omega arith
 branch-path (a and b and c and d and ds) = omega arith
-
-leaf-path : (t : Term) (ts : Terms) → longest-path t ≡ 0 → longest-path (leaf-term t ts) ≡ 0
-leaf-path t end e = e
-leaf-path t (u and us) e = refl
 
 head-path : (h : Head) (ts : Formulas) → longest-paths (terms ts) ≤ depths ts + all-chains ts
     → longest-path (term-from h (terms ts)) ≤ depths ts + (chained h (count ts) + all-chains ts)

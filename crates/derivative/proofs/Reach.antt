@@ -18,6 +18,7 @@ use Rattle.derivative.specs.Rules.{Rule, extremum-rule, call-rule, opera
 use Rattle.derivative.specs.Differentiate.{formulas, first-depends, second-literal, and-then, applied, the-rule, differentiate, differentiate-all}
 use Rattle.derivative.proofs.Faultless.{never, both, kind-is, Faultless, AllFaultless, faultless}
 use Rattle.derivative.proofs.Compiles.{count-terms}
+use Rattle.formula.proofs.Tests.{or-none}
 
 -- ---- the rules' own 8
 
@@ -95,10 +96,6 @@ abbrev mutual
 
 -- ---- a part without the symbol
 
-or-false : (a b : Bool) → (a || b) ≡ false → (a ≡ false) × (b ≡ false)
-or-false true b e = never (sym e)
-or-false false b e = (refl, e)
-
 or-comm : (a b : Bool) → (a || b) ≡ (b || a)
 or-comm true true = refl
 or-comm true false = refl
@@ -112,12 +109,12 @@ or-true false = refl
 module _ (s : ℕ) where
   mutual
     free-supported : (f : Formula) → depends s f ≡ false → unsupported s f ≡ false
-    free-supported (node h ts) e = rw (e, free-all-supported ts (or-false (is-symbol s h) (any-depends s ts) e .1))
+    free-supported (node h ts) e = rw (e, free-all-supported ts (or-none (is-symbol s h) (any-depends s ts) e .1))
 
     free-all-supported : (ts : Formulas) → any-depends s ts ≡ false → any-unsupported s ts ≡ false
     free-all-supported last e = refl
     free-all-supported (next t ts) e =
-        let g = or-false (depends s t) (any-depends s ts) e in
+        let g = or-none (depends s t) (any-depends s ts) e in
         rw (free-supported t (g .0), free-all-supported ts (g .1))
 
 -- ---- an operation that gives a Number
@@ -279,7 +276,7 @@ module _ (C : Context) where
         ≡ ((has && no-rule s h ts) || any-unsupported s ts)
     node-missing true h ts e ih arms c k =
         applied-none (differentiate-all s by-state ts) (the-rule s by-state h ts) (node h ts) (to-list ts) ∙ head-missing h ts ih arms c k e
-    node-missing false h ts e ih arms c k = sym (free-all-supported s ts (or-false (is-symbol s h) (any-depends s ts) e .1))
+    node-missing false h ts e ih arms c k = sym (free-all-supported s ts (or-none (is-symbol s h) (any-depends s ts) e .1))
 
     mutual
       differentiate-missing : (f : Formula) → Faultless C (term f) → kind (term f) ≡ Number → is-none (differentiate s by-state f) ≡ unsupported s f

@@ -15,6 +15,7 @@ use Rattle.survey.specs.Table.{tree, Owned, IsChild}
 use Rattle.survey.proofs.Rows.{own-row, child-is, child-none}
 use Rattle.survey.proofs.Trees.{tree-ends}
 use Rattle.differentiate.specs.Written.{literal-bytes}
+pub use Rattle.reader.proofs.Encode.{node-length}
 
 pub node-is : (k o n : ℕ) → n < 256 → k ∷ o ∷ n ∷ 0 ∷ 0 ∷ 0 ∷ 0 ∷ 0 ∷ 0 ∷ 0 ∷ 0 ∷ 0 ∷ 0 ∷ 0 ∷ 0 ∷ 0 ∷ [] ≡ node-bytes (inner-fields k o n)
 unfolding node-bytes
@@ -23,10 +24,6 @@ node-is k o n h =
     let z : n / 256 % 256 ≡ 0 = omega arith in
     sym (ap (λ (x : ℕ). k ∷ o ∷ x ∷ n / 256 % 256 ∷ 0 ∷ 0 ∷ 0 ∷ 0 ∷ 0 ∷ 0 ∷ 0 ∷ 0 ∷ 0 ∷ 0 ∷ 0 ∷ 0 ∷ []) a
     ∙ ap (λ (x : ℕ). k ∷ o ∷ n ∷ x ∷ 0 ∷ 0 ∷ 0 ∷ 0 ∷ 0 ∷ 0 ∷ 0 ∷ 0 ∷ 0 ∷ 0 ∷ 0 ∷ 0 ∷ []) z)
-
-pub node-length : (F : Fields) → length (node-bytes F) ≡ 16
-unfolding node-bytes
-node-length F = refl
 
 pub literal-length : (b : ℕ) → length (literal-bytes b) ≡ 16
 literal-length b = encode-length (node (number b) last)

@@ -194,58 +194,35 @@ fn write_rule(
     requires { ⌜ Task (by .symbol) (by .state) (now f) (now table) k depth (encode (part (by .symbol) (by .state) (tree (now f) k) levels q i)) (now out) ⌝ }
     ensures { λ r. ⌜ Writes (encode (part (by .symbol) (by .state) (tree (now (f .entry)) k) levels q i)) (now (out .entry)) (now (out .exit)) r ⌝ }
 {
-    if levels == 0 {
-        return put_literal(0, out);
-    }
-    if i >= 128 {
+    if levels == 0 || i >= 128 {
         return put_literal(0, out);
     }
     let c = wide(code(q, i));
     let kind = c / 16;
-    if kind == 0 {
-        return put_literal(0, out);
-    }
-    if kind == 1 {
-        return put_child(f, k, c % 16, table, out);
-    }
-    if kind == 2 {
-        return write_diff(f, k, c % 16, depth, by, table, out);
-    }
-    if kind == 3 {
-        return put_tree(f, k, table, out);
-    }
-    if kind == 11 {
-        return write_extremum(f, k, depth, by, table, out);
-    }
     if kind >= 12 {
         return put_literal(literal_bits(c % 16, f, k, table), out);
     }
-    if kind == 6 {
-        if is_zero(diff_attributes(f, k, c % 16, by, table)) {
-            return put_literal(0, out);
+    match kind {
+        0 => put_literal(0, out),
+        1 => put_child(f, k, c % 16, table, out),
+        2 => write_diff(f, k, c % 16, depth, by, table, out),
+        3 => put_tree(f, k, table, out),
+        6 => {
+            if is_zero(diff_attributes(f, k, c % 16, by, table)) {
+                return put_literal(0, out);
+            }
+            write_rule(q, i + 1, levels - 1, f, k, depth, by, table, out)
         }
-        return write_rule(q, i + 1, levels - 1, f, k, depth, by, table, out);
+        9 => write_sum(q, i + 1, levels - 1, f, k, depth, by, table, out),
+        10 => write_product(q, i + 1, levels - 1, f, k, depth, by, table, out),
+        11 => write_extremum(f, k, depth, by, table, out),
+        _ => {
+            let o = c % 16;
+            let n = parts_of(kind, o);
+            let d = levels - 1;
+            write_node(kind, o, n, q, i + 1, d, f, k, depth, by, table, out)
+        }
     }
-    if kind == 9 {
-        return write_sum(q, i + 1, levels - 1, f, k, depth, by, table, out);
-    }
-    if kind == 10 {
-        return write_product(q, i + 1, levels - 1, f, k, depth, by, table, out);
-    }
-    write_node(
-        kind,
-        c % 16,
-        parts_of(kind, c % 16),
-        q,
-        i + 1,
-        levels - 1,
-        f,
-        k,
-        depth,
-        by,
-        table,
-        out,
-    )
 }
 
 // Two parts, added: "Only a literal zero (of either sign) beside Add .. are simplified."

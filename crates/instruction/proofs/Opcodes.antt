@@ -22,13 +22,10 @@ use Rattle.instruction.specs.Effects.{effect-at, extremum-at, operation-
 use Rattle.instruction.specs.declared.Effect.{Effect}
 use Rattle.instruction.specs.declared.Effect.the-variants.{Work, Jump}
 use Rattle.instruction.proofs.Leaves.{getD-past}
+use Rattle.work.proofs.Answers.{given}
 
--- a value that is given takes no notice of what is kept
-given : (v : Float) (kept : List Float) → Value v ≡ shown (advance (give v) kept)
-given v [] = refl
-given v (x ∷ xs) = refl
-
-lt-or-ge : (m n : ℕ) → (m < n) ⊎ (n ≤ m)
+-- which of the two
+pub lt-or-ge : (m n : ℕ) → (m < n) ⊎ (n ≤ m)
 lt-or-ge m zero = inr (omega arith)
 lt-or-ge zero (suc n) = inl (omega arith)
 lt-or-ge (suc m) (suc n) = ⊎-elim (λ h. inl (omega arith)) (λ h. inr (omega arith)) (lt-or-ge m n)

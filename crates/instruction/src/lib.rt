@@ -7,10 +7,10 @@ ghost use Rattle.arithmetic.specs.Extremum.{held};
 ghost use Rattle.work.specs.View.{kept-values};
 ghost use Rattle.instruction.specs.Effects.{beyond, effect-at, extremum-at, operation-at};
 ghost use Rattle.instruction.specs.Progressing.{Progressed, machine-effect};
-use program::long;
-use program::word;
 use reader::byte;
 use reader::half;
+use reader::long;
+use reader::word;
 use work::Kept;
 use work::Outcome;
 

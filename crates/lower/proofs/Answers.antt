@@ -84,6 +84,22 @@ pub arm-ready : {L : Layout} {p : List ℕ} {s : Site} {c : Cursor} (b : List �
     → Ready L p s c (instruction-count (arm b d j left y)) (path-count (arm b d j left y)) (entry-count (arm b d j left y))
 arm-ready {L} {p} {s} {c} b d j left x y e R = subst (λ (z : ℕ). Ready L p s c (instruction-count (arm b d j left z)) (path-count (arm b d j left z)) (entry-count (arm b d j left z))) e R
 
+-- an arm by another name of its cursor
+pub arm-from : (L : Layout) (C : Context) (b : List ℕ) (d : ℕ) (j : Bool) (left : ℕ) (P : Path) (k : ℕ) (p p′ : List ℕ) (r : Low) (x y : Cursor) → x ≡ y
+    → Says (term-piece C (arm b d j left (x .node)) P k x (past b d left (x .node))) L x p p′ r
+    → Says (term-piece C (arm b d j left (y .node)) P k y (past b d left (y .node))) L y p p′ r
+arm-from L C b d j left P k p p′ r x y e S =
+    subst (λ (z : Cursor). Says (term-piece C (arm b d j left (z .node)) P k z (past b d left (z .node))) L z p p′ r) e S
+
+pub ready-to : {L : Layout} {p : List ℕ} {s : Site} (b : List ℕ) (d : ℕ) (j : Bool) (left : ℕ) (x y : Cursor) → x ≡ y
+    → Ready L p s y (instruction-count (arm b d j left (y .node))) (path-count (arm b d j left (y .node))) (entry-count (arm b d j left (y .node)))
+    → Ready L p s x (instruction-count (arm b d j left (x .node))) (path-count (arm b d j left (x .node))) (entry-count (arm b d j left (x .node)))
+ready-to {L} {p} {s} b d j left x y e R =
+    subst (λ (z : Cursor). Ready L p s z (instruction-count (arm b d j left (z .node))) (path-count (arm b d j left (z .node))) (entry-count (arm b d j left (z .node)))) (sym e) R
+
+pub well-to : (b : List ℕ) (d left : ℕ) (x y : Cursor) → x ≡ y → all-well-formed (kids b d left (y .node)) ≡ true → all-well-formed (kids b d left (x .node)) ≡ true
+well-to b d left x y e w = subst (λ (z : Cursor). all-well-formed (kids b d left (z .node)) ≡ true) (sym e) w
+
 -- ---- a conditional's three children
 pub three-past : (b : List ℕ) (d at : ℕ) → past b d 1 (past b d 1 (past b d 1 at)) ≡ past b d 3 at
 three-past b d at = operands-past b d 2 (past b d 1 at) (λ z. omega arith) ∙ operands-past b d 3 at (λ z. omega arith)

@@ -1,6 +1,6 @@
 -- What lowering the arms of a condition answers.
 use mathlib.Core.Path.{_≡_, refl, sym, ap, ap₂, _∙_, subst}
-use mathlib.Core.Bool.{Bool, true, false, not, _&&_, _||_}
+use mathlib.Core.Bool.{Bool, true, false, cond, not, _&&_, _||_}
 use mathlib.Core.List.{List, _++_}
 use mathlib.Core.Option.{none, some}
 use Prim.Native.Nat.{ℕ, _+_, _-_, _*_, _≤_}
@@ -16,7 +16,7 @@ use Rattle.layout.proofs.Lengths.{length-below, length-lists, length-rows}
 use Rattle.paths.specs.Over.{over}
 use Rattle.paths.proofs.Over.{over-length}
 use Rattle.lower.specs.Bytes.{Chunk, laid, written}
-use Rattle.lower.specs.Piece.{Piece, Says, Sound, branch-piece, is-boolean, kind-if, place, term-piece}
+use Rattle.lower.specs.Piece.{Piece, Says, Sound, arms-answer, arms-bytes, branch-piece, is-boolean, kind-if, place, term-piece}
 use Rattle.lower.specs.Ready.{Ready}
 use Rattle.lower.specs.declared.Layout.{Layout}
 use Rattle.lower.specs.declared.Cursor.{Cursor}
@@ -337,3 +337,16 @@ module _ {L : Layout} {p : List ℕ} {s : Site} {c : Cursor} (ks : Context) (g :
                       lists = Y .chunk .lists ++ Z .chunk .lists;
                     } ≡ W .chunk
                     all-chunk = unfold branch-piece term-piece in rw (y-a, z-a, z-code, same-place, is-reg, is-code, is-path, is-entry)
+
+            -- both, by whether the arms are of one kind
+            module _ (p₆ : List ℕ) (r : Low) where
+              arms-joined : (b′ : Bool) → b ≡ b′
+                  → r ≡ cond b′ (Done (record { a = e .reg; b = 0; c = 0; boolean = vy .boolean; dynamic = v .dynamic || vy .dynamic || vz .dynamic }) (record { node = h .node; reg = h .reg; code = h .code + 1; path = h .path; entry = h .entry })) (Faulty 7 k)
+                  → p₆ ≡ cond b′ (over (over p₄ (32 + 24 * (e .code + 1)) (row 4 0 (e .reg + 1) 0 0 (h .code + 1) k)) (32 + 24 * h .code) (row 2 0 (e .reg) (vz .a) 0 0 k)) p₄
+                  → Says W L c p p₆ r
+              arms-joined true t er ep = both-done _ p₆ r _ t refl ep refl er
+              arms-joined false t er ep =
+                  subst (λ (x : List ℕ). Says W L c p x r) (sym ep) (subst (λ (x : Low). Says W L c p p₄ x) (sym er) (unlike t))
+
+              pub both-joined : r ≡ arms-answer k v vy vz e h → p₆ ≡ arms-bytes k vy vz e h p₄ → Says W L c p p₆ r
+              both-joined er ep = arms-joined (same-kind (kind-if (vy .boolean)) (kind-if (vz .boolean))) eb er ep

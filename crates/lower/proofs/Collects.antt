@@ -18,7 +18,7 @@ use Rattle.paths.specs.Over.{over}
 use Rattle.paths.specs.Table.{Linked, path-in-table}
 use Rattle.paths.proofs.Over.{over-before, over-nil}
 use Rattle.lower.specs.Bytes.{Chunk, laid, written}
-use Rattle.lower.specs.Piece.{Lists, Lists-at, Piece, Sound, is-boolean, kind-if, listed, operands-piece, operands-value, place, term-piece}
+use Rattle.lower.specs.Piece.{without-operands, Lists, Lists-at, Piece, Sound, is-boolean, kind-if, listed, operands-piece, operands-value, place, term-piece}
 use Rattle.lower.specs.Ready.{Ready}
 use Rattle.lower.specs.declared.Layout.{Layout}
 use Rattle.lower.specs.declared.Cursor.{Cursor}
@@ -114,11 +114,14 @@ module _ (L : Layout) (i : ℕ) (C : Context) (w : Bool) (P : Path) (k n : ℕ) 
   end-listed false = end-bytes
   end-listed true = end-bytes ∙ sym (over-nil (written L c p (O .chunk)) (L .lists + 4 * (O .next .entry + i)))
 
-  pub none-left : (b : Bool) (ts : Terms) → ts ≡ end → Lists L b ts i (operands-piece C w ts P i k c n) c p p (Done nothing c)
-  none-left b ts e =
+  none-done : (b : Bool) (ts : Terms) → ts ≡ end → Lists L b ts i (operands-piece C w ts P i k c n) c p p (Done nothing c)
+  none-done b ts e =
       subst (λ (x : Terms). Lists L b x i (operands-piece C w x P i k c n) c p p (Done nothing c)) (sym e)
       (lists-done L b end i O c p p (Done nothing c) end-fault (ap₂ (λ (x : Value) (y : Cursor). Done x y) end-value end-next) (end-listed b)
       (subst (λ (x : Cursor). Sound L p (x .path)) end-next s))
+
+  pub none-left : (b : Bool) (ts : Terms) (r : Low) → r ≡ without-operands c → ts ≡ end → Lists L b ts i (operands-piece C w ts P i k c n) c p p r
+  none-left b ts r er e = subst (λ (x : Low). Lists L b ts i (operands-piece C w ts P i k c n) c p p x) (sym er) (none-done b ts e)
 
 -- ---- one child, and then the rest
 

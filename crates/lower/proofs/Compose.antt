@@ -5,16 +5,15 @@ use mathlib.Core.Option.{Option, none, some}
 use Prim.Native.Nat.{ℕ, zero, suc, _+_, _-_, _*_, _^_, _≤_, _<_}
 use native.Mathlib.Omega.{arith}
 use lib.ListN.{length, length-append}
-use borrow.Author.Tests.{ne-eqb}
 use Rattle.formula.specs.Text.{little-endian}
-use Rattle.formula.specs.Path.{Path, _▸_, argument, step-text}
+use Rattle.formula.specs.Path.{Path, _▸_, step-text}
 use Rattle.formula.specs.Term.{Term, Terms, _and_, apply, branch, end, literal, miscounted, symbol, truth}
 use Rattle.machine.specs.Check.{Context, Fault, fault}
 use Rattle.machine.specs.Lower.{instruction-count, instruction-counts, register-count, register-counts}
-use Rattle.machine.proofs.Size.{step-short}
 use Rattle.layout.specs.Opcode.{step-of}
 use Rattle.layout.specs.Image.{below, entry-count, lists, path-count, path-record, rows}
 use Rattle.layout.proofs.Lengths.{length-below, length-lists, length-rows}
+use Rattle.paths.proofs.Decimal.{step-length-le}
 use Rattle.paths.specs.Over.{over}
 use Rattle.paths.specs.Table.{length-in, linked}
 use Rattle.paths.proofs.Over.{over-length, over-nil}
@@ -120,17 +119,6 @@ refused-up L c p p₁ r n k A W F e up =
 
 -- ---- a node's own record
 
-step-argument : (i : ℕ) → step-of (suc (suc (suc i))) ≡ argument i
-step-argument i =
-    rw (ne-eqb (suc (suc (suc i))) 0 (λ z. omega arith), ne-eqb (suc (suc (suc i))) 1 (λ z. omega arith), ne-eqb (suc (suc (suc i))) 2 (λ z. omega arith))
-    (ap argument (omega arith))
-
-pub step-at-most : (step : ℕ) → step < 65539 → length (step-text (step-of step)) ≤ 17
-step-at-most zero h = omega arith
-step-at-most (suc zero) h = omega arith
-step-at-most (suc (suc zero)) h = omega arith
-step-at-most (suc (suc (suc i))) h = step-short (step-of (suc (suc (suc i)))) i (step-argument i) (omega arith)
-
 module _ {L : Layout} {p : List ℕ} {s : Site} {c : Cursor} {I Q E : ℕ} (R : Ready L p s c I Q E) (one : 1 ≤ Q) (step : ℕ) (hs : step < 65539) where
   abbrev long : ℕ
   long = s .length + length (step-text (step-of step))
@@ -157,7 +145,7 @@ module _ {L : Layout} {p : List ℕ} {s : Site} {c : Cursor} {I Q E : ℕ} (R : 
   few = omega (arith, R .few)
 
   short : long < 4294967296
-  short = omega (arith, step-at-most step hs, R .short, R .site, R .few)
+  short = omega (arith, step-length-le step hs, R .short, R .site, R .few)
 
   is-long : long ≡ length-in p (L .paths) (s .path) + length (step-text (step-of step))
   is-long = ap (λ (z : ℕ). z + length (step-text (step-of step))) (R .long)
@@ -181,7 +169,7 @@ module _ {L : Layout} {p : List ℕ} {s : Site} {c : Cursor} {I Q E : ℕ} (R : 
         registers = R .registers;
         site = omega arith;
         long = sym (is-length (L .paths) p (c .path) (s .path) step long h₁ (R .site) few (omega arith) short (R .sound) is-long);
-        short = omega (arith, R .short, step-at-most step hs, R .site);
+        short = omega (arith, R .short, step-length-le step hs, R .site);
         sound = entered-sound;
       }
 

@@ -166,6 +166,29 @@ branch-piece C v y z p k c node =
       next = record { node = node; reg = r₃; code = n₃ + 1; path = q₂ + path-count z; entry = e₂ + entry-count z };
     }
 
+-- so many registers and instructions further
+abbrev pub further : Cursor → ℕ → Cursor
+further c n = record { node = c .node; reg = c .reg + n; code = c .code + n; path = c .path; entry = c .entry }
+
+-- the end of both arms, lowered to the values y and z up to e and g: two arms of one kind are one value
+abbrev pub arms-answer : ℕ → Value → Value → Value → Cursor → Cursor → Low
+arms-answer k v y z e g =
+    cond (same-kind (kind-if (y .boolean)) (kind-if (z .boolean)))
+    (Done (record { a = e .reg; b = 0; c = 0; boolean = y .boolean; dynamic = v .dynamic || y .dynamic || z .dynamic })
+    (record { node = g .node; reg = g .reg; code = g .code + 1; path = g .path; entry = g .entry }))
+    (Faulty 7 k)
+
+-- a jump after the first arm's copy, to behind the second's
+abbrev pub arms-bytes : ℕ → Value → Value → Cursor → Cursor → List ℕ → List ℕ
+arms-bytes k y z e g p =
+    cond (same-kind (kind-if (y .boolean)) (kind-if (z .boolean)))
+    (over (over p (32 + 24 * (e .code + 1)) (row 4 0 (e .reg + 1) 0 0 (g .code + 1) k)) (32 + 24 * g .code) (row 2 0 (e .reg) (z .a) 0 0 k))
+    p
+
+-- no child left
+abbrev pub without-operands : Cursor → Low
+without-operands c = Done (record { a = 0; b = 0; c = 0; boolean = true; dynamic = false }) c
+
 -- ---- the children of an operation, from the i-th on; the entries of its list stand after those of the children
 abbrev pub operands-value : Context → Bool → Terms → ℕ → Value
 operands-value C want ts r =

@@ -15,7 +15,7 @@ ghost use Rattle.paths.specs.Over.{over};
 ghost use Rattle.reader.specs.Read.{written};
 ghost use Rattle.formula.specs.Operator.{same-kind};
 ghost use Rattle.formula.specs.Path.{_▸_};
-ghost use Rattle.lower.specs.Piece.{Says, kind-if, Lists, arm, branch-piece, context-of, finish-piece, kids, leaf, own-piece, operands-piece, past, place, term-piece, inner-count};
+ghost use Rattle.lower.specs.Piece.{Says, kind-if, further, arms-answer, arms-bytes, without-operands, Lists, arm, branch-piece, context-of, finish-piece, kids, leaf, own-piece, operands-piece, past, place, term-piece, inner-count};
 ghost use Rattle.lower.specs.Ready.{Ready};
 ghost use Rattle.lower.specs.Leaf.{Loads};
 ghost use lib.Dec.{ltb};
@@ -567,6 +567,49 @@ fn link(
     branch(b, p, kinds, l, s, v, conjunction, 0, left - 1, d, e)
 }
 
+// So many registers and instructions further.
+fn ahead(c: Cursor, n: usize) -> Cursor
+    requires { ⌜ (c .reg + n < 2 ^ 64) × (c .code + n < 2 ^ 64) ⌝ }
+    ensures { λ r. ⌜ r ≡ further c n ⌝ }
+{
+    Cursor {
+        node: c.node,
+        reg: c.reg + n,
+        code: c.code + n,
+        path: c.path,
+        entry: c.entry,
+    }
+}
+
+// The end of both arms: the jump over the second one, its copy, and what they come to.
+fn join(p: &mut [u8], k: usize, v: Value, y: Value, z: Value, e: Cursor, g: Cursor) -> Low
+    requires { ⌜ (80 + 24 * e .code ≤ length (now p)) × (56 + 24 * g .code ≤ length (now p)) × (e .reg + 1 < 2 ^ 64) ⌝ }
+    ensures { λ r. ⌜ (r ≡ arms-answer k v y z e g) × (now (p .exit) ≡ arms-bytes k y z e g (now (p .entry))) ⌝ }
+{
+    let alike = same(y.boolean, z.boolean);
+    if alike {
+        put_row(p, e.code + 1, 4, 0, e.reg + 1, 0, 0, g.code + 1, k);
+        put_row(p, g.code, 2, 0, e.reg, z.a, 0, 0, k);
+        return Low::Done(
+            Value {
+                a: e.reg,
+                b: 0,
+                c: 0,
+                boolean: y.boolean,
+                dynamic: any(v.dynamic, y.dynamic, z.dynamic),
+            },
+            Cursor {
+                node: g.node,
+                reg: g.reg,
+                code: g.code + 1,
+                path: g.path,
+                entry: g.entry,
+            },
+        );
+    }
+    Low::Fault(7, k)
+}
+
 // The arms of a condition. A jump is written once its target is known.
 fn branch(
     b: &[u8],
@@ -586,64 +629,42 @@ fn branch(
     ensures { λ r. ⌜ Says (branch-piece (context-of (now (kinds .entry)) (l .generated)) v (arm (now (b .entry)) d conjunction yes (c .node)) (arm (now (b .entry)) d conjunction no (past (now (b .entry)) d yes (c .node))) (place l (now (p .entry)) s) (s .path) c (past (now (b .entry)) d no (past (now (b .entry)) d yes (c .node)))) l c (now (p .entry)) (now (p .exit)) r ⌝ }
 {
     let k = s.path;
-    let n = c.code;
-    let r = c.reg;
     if v.boolean {
         let bad = unsupported(true, v.dynamic, l.generated);
         if bad {
             return Low::Fault(8, k);
         }
-        let first = Cursor {
-            node: c.node,
-            reg: r + 1,
-            code: n + 1,
-            path: c.path,
-            entry: c.entry,
-        };
+        let first = ahead(c, 1);
         let a = lower(b, p, kinds, l, s, 1, conjunction, yes, d, first);
         let Low::Done(y, e) = a else {
             return a;
         };
-        let m = e.code;
-        let t = e.reg;
-        put_row(p, n, 3, 0, r, v.a, 0, m + 2, k);
-        put_row(p, m, 2, 0, t, y.a, 0, 0, k);
-        let second = Cursor {
-            node: e.node,
-            reg: t + 2,
-            code: m + 2,
-            path: e.path,
-            entry: e.entry,
-        };
+        put_row(p, c.code, 3, 0, c.reg, v.a, 0, e.code + 2, k);
+        put_row(p, e.code, 2, 0, e.reg, y.a, 0, 0, k);
+        let second = ahead(e, 2);
         let o = lower(b, p, kinds, l, s, 2, conjunction, no, d, second);
         let Low::Done(z, g) = o else {
             return o;
         };
-        let alike = same(y.boolean, z.boolean);
-        if alike {
-            let end = g.code;
-            put_row(p, m + 1, 4, 0, t + 1, 0, 0, end + 1, k);
-            put_row(p, end, 2, 0, t, z.a, 0, 0, k);
-            return Low::Done(
-                Value {
-                    a: t,
-                    b: 0,
-                    c: 0,
-                    boolean: y.boolean,
-                    dynamic: any(v.dynamic, y.dynamic, z.dynamic),
-                },
-                Cursor {
-                    node: g.node,
-                    reg: g.reg,
-                    code: end + 1,
-                    path: g.path,
-                    entry: g.entry,
-                },
-            );
-        }
-        return Low::Fault(7, k);
+        return join(p, k, v, y, z, e, g);
     }
     Low::Fault(7, k)
+}
+
+// An operation without children, or past its last one.
+fn no_operands(c: Cursor) -> Low
+    ensures { λ r. ⌜ r ≡ without-operands c ⌝ }
+{
+    Low::Done(
+        Value {
+            a: 0,
+            b: 0,
+            c: 0,
+            boolean: true,
+            dynamic: false,
+        },
+        c,
+    )
 }
 
 // The last `left` children of an operation, of which i are done; on the way back their registers go into its list.
@@ -665,16 +686,7 @@ fn operands(
     ensures { λ r. ⌜ Lists l lists (terms (kids (now (b .entry)) d left (c .node))) i (operands-piece (context-of (now (kinds .entry)) (l .generated)) want (terms (kids (now (b .entry)) d left (c .node))) (place l (now (p .entry)) s) i (s .path) c (past (now (b .entry)) d left (c .node))) c (now (p .entry)) (now (p .exit)) r ⌝ }
 {
     if left == 0 {
-        return Low::Done(
-            Value {
-                a: 0,
-                b: 0,
-                c: 0,
-                boolean: true,
-                dynamic: false,
-            },
-            c,
-        );
+        return no_operands(c);
     }
     let a = lower(b, p, kinds, l, s, 3 + i, true, 1, d, c);
     let Low::Done(v, e) = a else {

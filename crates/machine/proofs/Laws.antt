@@ -11,20 +11,9 @@ use Rattle.formula.specs.Term.{Term, Terms, _and_, apply, branch, end, literal,
 use Rattle.machine.specs.Check.{Fault, or-else, unless}
 use Rattle.machine.specs.Program.{Instruction, Op, instruction}
 use Rattle.machine.specs.Lower.{instruction-count, instruction-counts, lowered, lowered-all, register-count, result-register}
+pub use Rattle.formula.proofs.Tests.{and-first as and-l, and-second as and-r, and-both as and-true}
 
 -- ---- tests
-
-pub and-l : (a b : Bool) → (a && b) ≡ true → a ≡ true
-and-l true b e = refl
-and-l false b e = e
-
-pub and-r : (a b : Bool) → (a && b) ≡ true → b ≡ true
-and-r true b e = e
-and-r false b e = cc
-
-pub and-true : (a b : Bool) → a ≡ true → b ≡ true → (a && b) ≡ true
-and-true true b e f = f
-and-true false b e f = e
 
 pub and-false : (a : Bool) → (a && false) ≡ false
 and-false true = refl

@@ -96,7 +96,7 @@ branch-path (a and b and end) = omega arith
 branch-path (a and b and c and end) = omega arith
 branch-path (a and b and c and d and ds) = omega arith
 
-leaf-path : (t : Term) (ts : Terms) → longest-path t ≡ 0 → longest-path (leaf-term t ts) ≡ 0
+pub leaf-path : (t : Term) (ts : Terms) → longest-path t ≡ 0 → longest-path (leaf-term t ts) ≡ 0
 leaf-path t end e = e
 leaf-path t (u and us) e = refl
 

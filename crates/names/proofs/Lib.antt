@@ -4,6 +4,7 @@ pub mod Pieces
 pub mod Filling
 pub mod Letters
 pub mod Entries
+pub mod Marks
 pub mod Listing
 pub mod Told
 pub mod Worked

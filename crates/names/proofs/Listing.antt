@@ -11,12 +11,13 @@ use lib.Dec.{eqb, leb}
 use borrow.Author.Tests.{eqb-true, eqb-false, ne-eqb, eq-eqb, le-leb, lt-leb}
 use Rattle.formula.specs.Text.{same-bytes, all, split, joined, all-some, zeros}
 use Rattle.formula.specs.Names.{Symbol, symbol-of, unlike, none-twice, table, symbols-of, kinds}
-use Rattle.names.specs.Lines.{kind-number, part, Ends, entry, repeats, Listed, names-of}
+use Rattle.names.specs.Lines.{kind-number, part, Ends, entry, repeats, Listed, Marked, mark, names-of}
 use Rattle.names.specs.declared.Entry.{Entry}
 use Rattle.names.specs.declared.Entry.the-variants.{Named, NoEntry}
 use Rattle.names.specs.declared.Names.{Names}
 use Rattle.names.proofs.Splits.{no-true, and-both, and-first, and-second, free, free-from, split-end, split-next, prefixed, prefixed-start, prefixed-more, prefixed-none, prefixed-some}
 use Rattle.names.proofs.Entries.{formed, part-front}
+use Rattle.formula.proofs.Tests.{or-none}
 
 abbrev pub part-symbol : List ℕ → Option Symbol
 part-symbol p = symbol-of (split 58 p)
@@ -156,10 +157,6 @@ unlike-snoc x [] s u e = and-both (not (same-bytes x (s .name))) true (ap not e)
 unlike-snoc x (t ∷ ss) s u e =
     let a = not (same-bytes x (t .name)) in
     and-both a (unlike x (ss ++ (s ∷ []))) (and-first a (unlike x ss) u) (unlike-snoc x ss s (and-second a (unlike x ss) u) e)
-
-or-none : (a b : Bool) → (a || b) ≡ false → (a ≡ false) × (b ≡ false)
-or-none true b e = absurd (no-true (sym e))
-or-none false b e = (refl, e)
 
 once-snoc : (ss : List Symbol) (s : Symbol) → none-twice ss ≡ true → any-same (names-in ss) (s .name) ≡ false → none-twice (ss ++ (s ∷ [])) ≡ true
 unfolding any-same
@@ -391,6 +388,21 @@ module _ (line starts lengths ks : List ℕ) (count at end : ℕ) (g : Listing l
                 ∙ ap (λ (m : ℕ). take m (drop (getD starts i 0) line)) (sym (length-other i l))
                 ∙ ap (λ (m : ℕ). take (getD (set lengths count n) i 0) (drop m line)) (sym (start-other i l)));
           }
+
+      pub marked-more : (marks : List ℕ) (m : ℕ) → length marks ≡ 256 → Marked line starts lengths marks count → m ≡ mark (take n (drop at line))
+          → Marked line (set starts count at) (set lengths count n) (set marks count m) (count + 1)
+      marked-more marks m l h em j =
+          stored-by (eqb j count)
+          (λ (i : ℕ). getD (set marks count m) i 0 ≡ mark (take (getD (set lengths count n) i 0) (drop (getD (set starts count at) i 0) line))) j count refl
+          (getD-set-same marks count m 0 (omega (arith, g .few))
+          ∙ em
+          ∙ ap (λ (i : ℕ). mark (take i (drop at line))) (sym length-is)
+          ∙ ap (λ (i : ℕ). mark (take (getD (set lengths count n) count 0) (drop i line))) (sym start-is))
+          (λ i b.
+          getD-set-other marks count i m 0 (λ z. omega arith)
+          ∙ h i b
+          ∙ ap (λ (x : ℕ). mark (take x (drop (getD starts i 0) line))) (sym (length-other i b))
+          ∙ ap (λ (x : ℕ). mark (take (getD (set lengths count n) i 0) (drop x line))) (sym (start-other i b)))
 
 -- ---- the names before, from the last one down
 

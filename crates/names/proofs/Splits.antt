@@ -9,20 +9,7 @@ use lib.ListN.{length, getD, take}
 use lib.Dec.{eqb}
 use borrow.Author.Tests.{eqb-false, ne-eqb, eq-eqb}
 use Rattle.formula.specs.Text.{all, glue, parted, split, joined}
-
-pub no-true : false ≡ true → ⊥
-no-true e = let z : _≡_ {A = ℕ} 0 1 = cc in omega arith
-
-pub and-first : (a b : Bool) → (a && b) ≡ true → a ≡ true
-and-first true b e = refl
-and-first false b e = e
-
-pub and-second : (a b : Bool) → (a && b) ≡ true → b ≡ true
-and-second true b e = e
-and-second false b e = absurd (no-true e)
-
-pub and-both : (a b : Bool) → a ≡ true → b ≡ true → (a && b) ≡ true
-and-both a b p q = rw (p, q)
+pub use Rattle.formula.proofs.Tests.{no-true, and-first, and-second, and-both}
 
 not-true : (a : Bool) → not a ≡ true → a ≡ false
 not-true true e = sym e

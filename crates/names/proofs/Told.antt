@@ -44,7 +44,7 @@ numbers-length : (ks : List SymbolKind) → length (map kind-number ks) ≡ leng
 numbers-length [] = refl
 numbers-length (k ∷ ks) = ap suc (numbers-length ks)
 
-kinds-length : (ss : List Symbol) → length (kinds ss) ≡ length ss
+pub kinds-length : (ss : List Symbol) → length (kinds ss) ≡ length ss
 kinds-length [] = refl
 kinds-length (s ∷ ss) = ap suc (kinds-length ss)
 

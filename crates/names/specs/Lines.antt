@@ -3,7 +3,7 @@ use mathlib.Core.Path.{_≡_}
 use mathlib.Core.Bool.{Bool, true, false, cond, _||_}
 use mathlib.Core.List.{List, [], _∷_, _++_, map}
 use mathlib.Core.Option.{Option, none, some}
-use Prim.Native.Nat.{ℕ, zero, suc, _+_, _-_, _≤_, _<_}
+use Prim.Native.Nat.{ℕ, zero, suc, _+_, _-_, _*_, _%_, _≤_, _<_}
 use lib.ListN.{length, getD, take, drop}
 use lib.Dec.{eqb}
 use Rattle.formula.specs.Text.{same-bytes, split, joined, all-some, zeros}
@@ -95,6 +95,18 @@ repeats line starts lengths name (suc k) =
 -- the first k names stand in the line
 abbrev pub Listed : List ℕ → List ℕ → List ℕ → ℕ → Type 0
 Listed line starts lengths count = (k : ℕ) → k < count → getD starts k 0 + getD lengths k 0 ≤ length line
+
+-- a number that equal names share: their bytes, one after another
+abbrev pub mark-from : ℕ → List ℕ → ℕ
+mark-from h [] = h
+mark-from h (x ∷ xs) = mark-from ((h * 16777619 + x) % 4294967296) xs
+
+abbrev pub mark : List ℕ → ℕ
+mark xs = mark-from 0 xs
+
+-- the marks of the first k names stand in a list
+abbrev pub Marked : List ℕ → List ℕ → List ℕ → List ℕ → ℕ → Type 0
+Marked line starts lengths marks count = (k : ℕ) → k < count → getD marks k 0 ≡ mark (take (getD lengths k 0) (drop (getD starts k 0) line))
 
 -- the table of a name line, or of none: refusal 3
 abbrev pub names-of : Option (List Symbol) → Names

@@ -6,7 +6,7 @@ ghost use lib.ListN.{length, take, drop, set};
 ghost use Rattle.formula.specs.Text.{same-bytes, split, zeros};
 ghost use Rattle.formula.specs.Names.{is-letter, is-digit, is-name, kind-of, symbol-of, symbols-of};
 ghost use Rattle.formula.specs.Values.{digit-of, value-of, values-of, hex as hex-text};
-ghost use Rattle.names.specs.Lines.{place, bits, Piece-read, answer, filled, kind-place, part, Ends, entry, repeats, Listed, names-of};
+ghost use Rattle.names.specs.Lines.{place, bits, Piece-read, answer, filled, kind-place, part, Ends, entry, repeats, Listed, Marked, mark, names-of};
 
 // ---- Lines of values: "each value is 16 lower-case hexadecimal digits, the bits of an f64, joined by commas."
 
@@ -290,22 +290,49 @@ fn same_name(line: &[u8], a: usize, m: usize, b: usize, n: usize) -> bool
     false
 }
 
-// Whether one of the names before is the n bytes at a byte.
+// A number that equal names share, and others seldom: so most names are told apart by their numbers.
+fn mark_of(line: &[u8], at: usize, n: usize) -> usize
+    requires { ⌜ at + n ≤ length (now line) ⌝ }
+    ensures { λ r. ⌜ r ≡ mark (take n (drop at (now (line .entry)))) ⌝ }
+{
+    let mut h = 0;
+    let mut i = 0;
+    while i < n {
+        h = (h * 16777619 + line[at + i] as usize) % 4294967296;
+        i += 1;
+    }
+    h
+}
+
+// Whether two names with these marks are the same.
+fn same_marked(line: &[u8], a: usize, m: usize, x: usize, b: usize, n: usize, y: usize) -> bool
+    requires { ⌜ (a + m ≤ length (now line)) × (b + n ≤ length (now line)) × (x ≡ mark (take m (drop a (now line)))) × (y ≡ mark (take n (drop b (now line)))) ⌝ }
+    ensures { λ r. ⌜ r ≡ same-bytes (take m (drop a (now (line .entry)))) (take n (drop b (now (line .entry)))) ⌝ }
+{
+    if x == y {
+        return same_name(line, a, m, b, n);
+    }
+    false
+}
+
+// Whether one of the names before is the n bytes at a byte, whose mark is x.
 fn is_repeated(
     line: &[u8],
     starts: &[usize; 256],
     lengths: &[usize; 256],
+    marks: &[usize; 256],
     count: usize,
     at: usize,
     n: usize,
+    x: usize,
 ) -> bool
-    requires { ⌜ (count ≤ 256) × (at + n ≤ length (now line)) × Listed (now line) (now starts) (now lengths) count ⌝ }
+    requires { ⌜ (count ≤ 256) × (at + n ≤ length (now line)) × Listed (now line) (now starts) (now lengths) count × Marked (now line) (now starts) (now lengths) (now marks) count × (x ≡ mark (take n (drop at (now line)))) ⌝ }
     ensures { λ r. ⌜ r ≡ repeats (now (line .entry)) (now (starts .entry)) (now (lengths .entry)) (take n (drop at (now (line .entry)))) count ⌝ }
 {
     let mut k = count;
     while k > 0 {
         k -= 1;
-        let same = same_name(line, starts[k], lengths[k], at, n);
+        let same = same_marked(line, starts[k], lengths[k], marks[k], at, n, x);
         if same {
             return true;
         }
@@ -337,6 +364,7 @@ pub fn read_names(line: &[u8]) -> Names
 {
     let mut starts = [0usize; 256];
     let mut lengths = [0usize; 256];
+    let mut marks = [0usize; 256];
     let mut kinds = [0u8; 256];
     if line.len() == 0 {
         return Names {
@@ -356,12 +384,14 @@ pub fn read_names(line: &[u8]) -> Names
         if count == 256 {
             return no_names();
         }
-        let again = is_repeated(line, &starts, &lengths, count, at, n);
+        let x = mark_of(line, at, n);
+        let again = is_repeated(line, &starts, &lengths, &marks, count, at, n, x);
         if again {
             return no_names();
         }
         starts[count] = at;
         lengths[count] = n;
+        marks[count] = x;
         kinds[count] = kind;
         count += 1;
         if end == line.len() {

@@ -8,7 +8,8 @@ use borrow.Author.Tests.{lt-ltb, le-ltb, ltb-false, ne-eqb}
 use lib.ListN.{length, length-append, set}
 use lib.Dec.{ltb}
 use Rattle.formula.specs.Text.{ascii, decimal, decimal-in}
-use Rattle.formula.specs.Path.{step-text}
+use Rattle.formula.specs.Path.{argument, step-text}
+use Rattle.machine.proofs.Size.{step-short}
 use Rattle.layout.specs.Opcode.{step-of}
 use Rattle.paths.specs.Over.{over}
 use Rattle.paths.proofs.Over.{over-before, over-one}
@@ -66,6 +67,18 @@ pub argument-length : (w : ℕ) → 3 ≤ w → length (step-text (step-of w)) �
 argument-length w h =
     ap length (argument-text w h)
     ∙ omega (arith, length-append (ascii ".arguments[") (decimal (w - 3) ++ ascii "]"), length-append (decimal (w - 3)) (ascii "]"))
+
+step-argument : (i : ℕ) → step-of (suc (suc (suc i))) ≡ argument i
+step-argument i =
+    rw (ne-eqb (suc (suc (suc i))) 0 (λ z. omega arith), ne-eqb (suc (suc (suc i))) 1 (λ z. omega arith), ne-eqb (suc (suc (suc i))) 2 (λ z. omega arith))
+    (ap argument (omega arith))
+
+-- the step of an argument below 65,536 has at most 17 bytes
+pub step-length-le : (step : ℕ) → step < 65539 → length (step-text (step-of step)) ≤ 17
+step-length-le zero h = omega arith
+step-length-le (suc zero) h = omega arith
+step-length-le (suc (suc zero)) h = omega arith
+step-length-le (suc (suc (suc i))) h = step-short (step-of (suc (suc (suc i)))) i (step-argument i) (omega arith)
 
 -- its last part was written first
 pub argument-written : (w : ℕ) (out o1 o2 o3 : List ℕ) (end close number begin : ℕ) → 3 ≤ w → end ≤ length out

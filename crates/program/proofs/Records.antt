@@ -21,6 +21,7 @@ use Rattle.program.specs.declared.Header.{Header}
 use Rattle.program.specs.Fields.{header-of}
 use Rattle.program.specs.Check.{root-record-ok}
 use Rattle.program.proofs.Tests.{and-assoc}
+use Rattle.layout.proofs.Frames.{record-is-ok}
 
 module _ (b : List ℕ) where
   -- where the records begin
@@ -80,11 +81,6 @@ module _ (b : List ℕ) where
   unfolding records-left
   records-end k h = let e : path-total b - k ≡ 0 = omega arith in rw e
 
-  one-ok : (c k j : ℕ) → records-ok b c k ≡ true → k ≤ j → j < k + c → record-ok b j ≡ true
-  one-ok zero k j e l h = absurd (omega arith)
-  one-ok (suc c) k j e l h =
-      ⊎-elim (λ z. ap (record-ok b) (sym z) ∙ and-l _ _ e) (λ z. one-ok c (suc k) j (and-r (record-ok b k) _ e) (omega arith) (omega arith)) (eq-or-lt-of-le l)
-
   -- ---- the table that the paths' text is written from
 
   parent-same : (k : ℕ) → parent-in b records k ≡ parent-at b k
@@ -117,7 +113,7 @@ module _ (b : List ℕ) where
       (rw (ne-eqb (suc k) 0 (λ z. omega arith)) at e)
 
   pub all-linked : records-ok b (path-total b) 0 ≡ true → (k : ℕ) → k < path-total b → Linked b records k
-  all-linked ok k h = λ j i. linked-is j (one-ok (path-total b) 0 j ok (omega arith) (omega arith))
+  all-linked ok k h = λ j i. linked-is j (record-is-ok b (path-total b) 0 j ok (omega arith) (omega arith))
 
   pub text-length : records-ok b (path-total b) 0 ≡ true → (k : ℕ) → k < path-total b → length (text (path-of b k)) ≡ length-at b k
   text-length ok k h = ap (λ (p : Path). length (text p)) (sym (path-same k)) ∙ path-length b records k (all-linked ok k h) ∙ length-same k

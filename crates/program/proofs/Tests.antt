@@ -5,16 +5,13 @@ use mathlib.Core.Logic.{⊎-elim}
 use Prim.Native.Nat.{ℕ, zero, suc, _+_, _≤_, _<_}
 use native.Mathlib.Nat.{eq-or-lt-of-le}
 use native.Mathlib.Omega.{arith}
+pub use Rattle.formula.proofs.Tests.{and-one}
 
 pub both : {x a r b : Bool} → x ≡ a → x ≡ true → r ≡ b → r ≡ (a && b)
 both {b} e t f = f ∙ sym (ap (λ y. y && b) (sym e ∙ t))
 
 pub stop : {x a : Bool} (b : Bool) → x ≡ a → x ≡ false → x ≡ (a && b)
 stop b e f = f ∙ sym (ap (λ y. y && b) (sym e ∙ f))
-
-pub and-one : (b : Bool) → (b && true) ≡ b
-and-one true = refl
-and-one false = refl
 
 pub and-assoc : (a b c : Bool) → ((a && b) && c) ≡ (a && (b && c))
 and-assoc true b c = refl

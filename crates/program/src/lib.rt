@@ -7,7 +7,7 @@ ghost use mathlib.Core.Option.{some};
 ghost use Prim.Native.Nat.{_<_, _≤_};
 ghost use lib.Dec.{leb, ltb};
 ghost use lib.ListN.{length};
-ghost use Rattle.formula.specs.Text.{long-at, word-at};
+ghost use Rattle.formula.specs.Text.{word-at};
 ghost use Rattle.formula.specs.Path.{placed};
 ghost use Rattle.machine.specs.Program.{all-below, op-allowed, valid};
 ghost use Rattle.layout.specs.Decode.{code-count, entries-from, length-at, op-at, path-of, path-total, program-at, raw-program, record-ok, records-ok, uses-b, uses-c, uses-list, zero-unless};
@@ -16,32 +16,11 @@ ghost use Rattle.program.specs.Check.{Fits-header, Fits-row, header-ok, 
 use reader::byte;
 use reader::half;
 
-// The numbers of 4 and 8 bytes that `reader` gives, with one test where all bytes are there.
-fn wide(x: u8) -> usize
-    ensures { λ r. ⌜ (r ≡ x) × (r < 256) ⌝ }
-{
-    x as usize
-}
-
+// A number of 4 bytes, as `reader` gives it.
 pub fn word(p: &[u8], at: usize) -> usize
     ensures { λ r. ⌜ (r ≡ word-at (now (p .entry)) at) × (r < 4294967296) ⌝ }
 {
-    if at < p.len() {
-        if 4 <= p.len() - at {
-            return wide(p[at])
-                + 256 * wide(p[at + 1])
-                + 65536 * wide(p[at + 2])
-                + 16777216 * wide(p[at + 3]);
-        }
-    }
     reader::word(p, at)
-}
-
-pub fn long(p: &[u8], at: usize) -> u64
-    requires { ⌜ at < 1099511627776 ⌝ }
-    ensures { λ r. ⌜ r ≡ long-at (now (p .entry)) at ⌝ }
-{
-    word(p, at) as u64 + 4294967296 * (word(p, at + 4) as u64)
 }
 
 // The numbers of the header.

@@ -18,10 +18,11 @@ use Rattle.reader.proofs.Heads.{no-true, and-first, and-second, unary-i
 use Rattle.reader.proofs.Trees.{node-of, count-children, depth-le-size}
 use Rattle.reader.proofs.Bytes.{Shows, shows-self, shows-first, shows-second, Fit, fields-shown, Bytes, node-again, fields-fit}
 use Rattle.reader.proofs.Scan.{whole}
+use Rattle.formula.proofs.Tests.{and-both}
 
 -- ---- lengths
 
-node-length : (f : Fields) → length (node-bytes f) ≡ 16
+pub node-length : (f : Fields) → length (node-bytes f) ≡ 16
 unfolding node-bytes
 node-length f = refl
 
@@ -140,19 +141,16 @@ writable-node ifelse n w = refl
 writable-node conditional n w = refl
 writable-node malformed n w = w
 
-both-true : (a b : Bool) → a ≡ true → b ≡ true → (a && b) ≡ true
-both-true a b p q = rw (p, q)
-
 mutual
   pub writable-well-formed : (f : Formula) → writable f ≡ true → well-formed f ≡ true
   writable-well-formed (node h ts) w =
-      both-true (is-node h) (all-well-formed ts) (writable-node h (count ts) (and-first (writable-head h (count ts)) (all-writable ts) w))
+      and-both (is-node h) (all-well-formed ts) (writable-node h (count ts) (and-first (writable-head h (count ts)) (all-writable ts) w))
       (writable-all-well-formed ts (and-second (writable-head h (count ts)) (all-writable ts) w))
 
   pub writable-all-well-formed : (ts : Formulas) → all-writable ts ≡ true → all-well-formed ts ≡ true
   writable-all-well-formed last w = refl
   writable-all-well-formed (next t ts) w =
-      both-true (well-formed t) (all-well-formed ts) (writable-well-formed t (and-first (writable t) (all-writable ts) w))
+      and-both (well-formed t) (all-well-formed ts) (writable-well-formed t (and-first (writable t) (all-writable ts) w))
       (writable-all-well-formed ts (and-second (writable t) (all-writable ts) w))
 
 -- ---- written and read
@@ -219,7 +217,7 @@ formula-encode f w =
     let n = encode-length f in
     let e : tree-at b 0 ≡ f = tree-shown f (length b) b 0 w (omega (arith, depth-le-size f)) (shows-self b) in
     let c : (well-formed f && eqb (16 * size f) (length b)) ≡ true =
-    both-true (well-formed f) (eqb (16 * size f) (length b)) (writable-well-formed f w) (eq-eqb (16 * size f) (length b) (sym n)) in
+    and-both (well-formed f) (eqb (16 * size f) (length b)) (writable-well-formed f w) (eq-eqb (16 * size f) (length b) (sym n)) in
     ap (λ (t : Formula). cond (well-formed t && eqb (16 * size t) (length b)) (some t) none) e ∙ ap (λ (x : Bool). cond x (some f) none) c
 
 -- ---- read and written
@@ -253,7 +251,7 @@ head-read : (h : Head) (n : ℕ) → Fit (fields-of h n) → head-of (fields-of 
 head-read (number b) n t e i =
     let f = fields-of (number b) n in
     let l : (eqb n 0 && true) ≡ true = sym (number-is f refl) ∙ ap (λ (o : Option Head). is-some o) e in
-    both-true (eqb n 0) (ltb b 18446744073709551616) (and-first (eqb n 0) true l) (lt-ltb b 18446744073709551616 (t .value))
+    and-both (eqb n 0) (ltb b 18446744073709551616) (and-first (eqb n 0) true l) (lt-ltb b 18446744073709551616 (t .value))
 head-read (truth b) n t e i =
     let f = fields-of (truth b) n in
     let l : (eqb n 0 && true && ltb (cond b 1 0) 2) ≡ true = sym (truth-is f refl) ∙ ap (λ (o : Option Head). is-some o) e in
@@ -261,7 +259,7 @@ head-read (truth b) n t e i =
 head-read (symbol k) n t e i =
     let f = fields-of (symbol k) n in
     let l : (eqb n 0 && true) ≡ true = sym (symbol-is f refl) ∙ ap (λ (o : Option Head). is-some o) e in
-    both-true (eqb n 0) (ltb k 4294967296) (and-first (eqb n 0) true l) (lt-ltb k 4294967296 (t .symbol-number))
+    and-both (eqb n 0) (ltb k 4294967296) (and-first (eqb n 0) true l) (lt-ltb k 4294967296 (t .symbol-number))
 head-read (operation o) n t e i = operation-read o n t (ap (λ (o : Option Head). is-some o) e)
 head-read (junction And) n t e i = lt-ltb n 65536 (t .children)
 head-read (junction Or) n t e i = lt-ltb n 65536 (t .children)
@@ -276,7 +274,7 @@ children-read : (t : ℕ → Formula) → ((x : ℕ) → well-formed (t x) ≡ t
 children-read t h zero at w = refl
 children-read t h (suc k) at w =
     let us = children-at t k (at + 16 * size (t at)) in
-    both-true (writable (t at)) (all-writable us) (h at (and-first (well-formed (t at)) (all-well-formed us) w))
+    and-both (writable (t at)) (all-writable us) (h at (and-first (well-formed (t at)) (all-well-formed us) w))
     (children-read t h k (at + 16 * size (t at)) (and-second (well-formed (t at)) (all-well-formed us) w))
 
 -- a tree that was read can be written
@@ -291,7 +289,7 @@ writable-tree b h (suc d) at w =
     let back : head-of (fields-of (m .head) k) ≡ some (m .head) = ap (λ (f : Fields). head-of f) (m .headed .back) ∙ m .headed .fields in
     ap writable (m .tree)
     ∙ ap (λ (n : ℕ). writable-head (m .head) n && all-writable ts) (count-children (λ a. tree-in d b a) k (at + 16))
-    ∙ both-true (writable-head (m .head) k) (all-writable ts) (head-read (m .head) k fit back (m .headed .is))
+    ∙ and-both (writable-head (m .head) k) (all-writable ts) (head-read (m .head) k fit back (m .headed .is))
     (children-read (λ a. tree-in d b a) (λ x. writable-tree b h d x) k (at + 16) (m .children))
 
 -- a subtree's bytes are its encoding

@@ -11,6 +11,7 @@ use borrow.Author.Tests.{lt-ltb, le-ltb, ltb-true, ltb-false, eqb-true}
 use Rattle.formula.specs.Formula.{Head, number, truth, symbol, operation, junction, ifelse, conditional, malformed, is-node}
 use Rattle.formula.specs.Node.{Fields, heads, head-of, when, inner-head, unaries, binaries, compares, booleans, calls, fields-of, inner-fields}
 use Rattle.reader.specs.Read.{is-some}
+pub use Rattle.formula.proofs.Tests.{no-true, and-first, and-second}
 
 some-when : (c : Bool) (h : Head) → is-some (when c (some h)) ≡ c
 some-when true h = refl
@@ -115,17 +116,6 @@ other-kind (suc (suc (suc (suc (suc (suc (suc (suc zero)))))))) a b c d e f g h 
 other-kind (suc (suc (suc (suc (suc (suc (suc (suc (suc k))))))))) a b c d e f g h i = omega arith
 
 -- ---- a node's fields are those of its head
-
-pub no-true : false ≡ true → ⊥
-no-true e = let z : _≡_ {A = ℕ} 0 1 = cc in omega arith
-
-pub and-first : (a b : Bool) → (a && b) ≡ true → a ≡ true
-and-first true b e = refl
-and-first false b e = e
-
-pub and-second : (a b : Bool) → (a && b) ≡ true → b ≡ true
-and-second true b e = e
-and-second false b e = absurd (no-true e)
 
 when-true : (c : Bool) (o : Option Head) (h : Head) → when c o ≡ some h → c ≡ true
 when-true true o h e = refl

@@ -14,7 +14,8 @@ fn wide(x: u8) -> usize
     x as usize
 }
 
-// The little-endian number of 1, 2, 4 or 8 bytes from a place on; there is 0 past the end.
+// The little-endian number of 1, 2, 4 or 8 bytes from a place on; there is 0 past the end. A number of 4 bytes that are all
+// there takes one test.
 pub fn byte(b: &[u8], at: usize) -> u8
     ensures { λ r. ⌜ r ≡ byte-at (now (b .entry)) at ⌝ }
 {
@@ -37,6 +38,12 @@ pub fn word(b: &[u8], at: usize) -> usize
     ensures { λ r. ⌜ (r ≡ word-at (now (b .entry)) at) × (r < 2 ^ 32) ⌝ }
 {
     if at < b.len() {
+        if 4 <= b.len() - at {
+            return wide(b[at])
+                + 256 * wide(b[at + 1])
+                + 65536 * wide(b[at + 2])
+                + 16777216 * wide(b[at + 3]);
+        }
         return half(b, at) + 65536 * half(b, at + 2);
     }
     0
@@ -198,7 +205,8 @@ fn extent_of(b: &[u8], at: usize, levels: usize) -> Extent
     Extent::To(end)
 }
 
-// Whether the bytes are a formula of at most so many nodes and levels. The nodes are counted first, so that long bytes are not gone into.
+// Whether the bytes are a formula of at most so many nodes and levels. The nodes are counted first, so that long bytes are
+// not gone into.
 pub fn within_limits(b: &[u8], nodes: usize, levels: usize) -> bool
     ensures { λ r. ⌜ r ≡ limited nodes levels (formula-of (now (b .entry))) ⌝ }
 {

@@ -1,7 +1,8 @@
--- "Sqrt is the nearest f64 to the exact root, proved over whole numbers; of -0 it is -0": for any width, p digits in a significand and values below 2 ^ (em + 1).
--- In units of the smallest positive value the radicand a / c is n / c, a square of units. A value of the format is j units, where j has at most p digits with
--- zeros after them (`Short`). The result's v is nearer to the root than j is where the root lies on v's side of half way between them: 4 n < (v + j)² c for a
--- j above v, and the other way round for one below. No root of a value lies half way, so v is nearer than any other value.
+-- "Sqrt is the nearest f64 to the exact root, proved over whole numbers; of -0 it is -0": for any width, p digits in a significand and values below
+-- 2 ^ (em + 1). In units of the smallest positive value the radicand a / c is n / c, a square of units. A value of the format is j units, where j has
+-- at most p digits with zeros after them (`Short`). The result's v is nearer to the root than j is where the root lies on v's side of half way
+-- between them: 4 n < (v + j)² c for a j above v, and the other way round for one below. No root of a value lies half way, so v is nearer than any
+-- other value.
 use mathlib.Core.Path.{_≡_, refl, sym, ap, ap₂, _∙_, subst}
 use mathlib.Core.Logic.{_⊎_, inl, inr}
 use mathlib.Core.Bool.{Bool, true, false, cond}

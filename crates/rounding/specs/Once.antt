@@ -1,7 +1,7 @@
--- "Each operation rounds once." It is so by definition: an operation of `lib.Ieee` works its result out exactly, as a fraction of whole numbers, and hands it to
--- `round`, which alone knows the format. Nothing is fused: a product that is then added to is `add F (mul F x y) z`, two operations and two roundings.
--- The remainder needs no rounding (`Remainder.rem-value`), nor do Floor and Ceil (`Value.floor-exact`, `Value.ceil-exact`), and a root is rounded from its exact
--- square (`NearestRoot`).
+-- "Each operation rounds once." It is so by definition: an operation of `lib.Ieee` works its result out exactly, as a fraction of whole numbers, and
+-- hands it to `round`, which alone knows the format. Nothing is fused: a product that is then added to is `add F (mul F x y) z`, two operations and
+-- two roundings. The remainder needs no rounding (`Remainder.rem-value`), nor do Floor and Ceil (`Value.floor-exact`, `Value.ceil-exact`), and a root
+-- is rounded from its exact square (`NearestRoot`).
 use mathlib.Core.Path.{_≡_, refl}
 use mathlib.Core.Bool.{Bool, _&&_, Bool·beq, cond}
 use Prim.Native.Nat.{ℕ, suc, _+_, _-_, _*_}

@@ -13,7 +13,8 @@ use Rattle.formula.specs.Formula.{Head}
 use Rattle.formula.specs.Node.{head-of}
 use Rattle.derivative.specs.Differentiate.{literal-head}
 use Rattle.reader.specs.Read.{is-some}
-use Rattle.rules.specs.Notation.{parts, past-all, code-at, codes, end-at, look, binaries, calls, others, coded-head}
+use Rattle.rules.specs.Notation.{parts, past-all, coded, operands, operand-codes, operators, operator-codes, code-of, letter-at, code-at, end-at, coded-head}
+use Rattle.machine.proofs.Laws.{and-l, and-r}
 
 pub parts-rest : (k o : ℕ) → (k ≡ 4 → ⊥) → (k ≡ 5 → ⊥) → (k ≡ 6 → ⊥) → (k ≡ 7 → ⊥) → (k ≡ 8 → ⊥) → (k ≡ 9 → ⊥) → (k ≡ 10 → ⊥) → 0 ≡ parts k o
 parts-rest zero o h4 h5 h6 h7 h8 h9 h10 = refl
@@ -70,49 +71,30 @@ writes k = getD (false ∷ false ∷ false ∷ false ∷ true ∷ true ∷ false
 abbrev pub valid : ℕ → Bool
 valid c = cond (writes (c / 16)) (plain (coded-head (c / 16) (c % 16))) true
 
-abbrev valid-rules : List (ℕ × List ℕ) → Bool
-valid-rules [] = true
-valid-rules (e ∷ es) = all valid (e .1) && valid-rules es
+cond-valid : (b : Bool) (c d : ℕ) → valid c ≡ true → valid d ≡ true → valid (cond b c d) ≡ true
+cond-valid true c d p q = p
+cond-valid false c d p q = q
 
-and-l : (a b : Bool) → a && b ≡ true → a ≡ true
-and-l true b e = refl
-and-l false b e = e
+coded-valid : (ls cs : List ℕ) (other x : ℕ) → all valid cs ≡ true → valid other ≡ true → valid (coded ls cs other x) ≡ true
+coded-valid [] cs other x e o = o
+coded-valid (l ∷ ls) [] other x e o = o
+coded-valid (l ∷ ls) (c ∷ cs) other x e o =
+    cond-valid (eqb x l) c (coded ls cs other x) (and-l (valid c) (all valid cs) e) (coded-valid ls cs other x (and-r (valid c) (all valid cs) e) o)
 
-and-r : (a b : Bool) → a && b ≡ true → b ≡ true
-and-r true b e = e
-and-r false b e = absurd (let z : _≡_ {A = ℕ} 0 1 = cc in omega arith)
-
-all-at : (cs : List ℕ) (i : ℕ) → all valid cs ≡ true → valid (getD cs i 0) ≡ true
+operands-valid : all valid operand-codes ≡ true
 unfolding head-of
-all-at [] i e = refl
-all-at (x ∷ cs) zero e = and-l (valid x) (all valid cs) e
-all-at (x ∷ cs) (suc i) e = all-at cs i (and-r (valid x) (all valid cs) e)
+operands-valid = refl
 
-cond-valid : (b : Bool) (xs ys : List ℕ) → all valid xs ≡ true → all valid ys ≡ true → all valid (cond b xs ys) ≡ true
-cond-valid true xs ys p q = p
-cond-valid false xs ys p q = q
-
-look-valid : (es : List (ℕ × List ℕ)) (q : ℕ) → valid-rules es ≡ true → all valid (look es q) ≡ true
-look-valid [] q e = refl
-look-valid (x ∷ es) q e =
-    cond-valid (eqb q (x .0)) (x .1) (look es q) (and-l (all valid (x .1)) (valid-rules es) e)
-    (look-valid es q (and-r (all valid (x .1)) (valid-rules es) e))
-
-binaries-valid : valid-rules binaries ≡ true
+operators-valid : all valid operator-codes ≡ true
 unfolding head-of
-binaries-valid = refl
+operators-valid = refl
 
-calls-valid : valid-rules calls ≡ true
+none-valid : valid 0 ≡ true
 unfolding head-of
-calls-valid = refl
-
-others-valid : valid-rules others ≡ true
-unfolding head-of
-others-valid = refl
+none-valid = refl
 
 pub codes-valid : (q i : ℕ) → valid (code-at q i) ≡ true
-unfolding codes code-at
+unfolding code-of code-at
 codes-valid q i =
-    all-at (codes q) i
-    (cond-valid (eqb (q / 16) 4) (look binaries q) (cond (eqb (q / 16) 7) (look calls q) (look others q)) (look-valid binaries q binaries-valid)
-    (cond-valid (eqb (q / 16) 7) (look calls q) (look others q) (look-valid calls q calls-valid) (look-valid others q others-valid)))
+    coded-valid operands operand-codes (coded operators operator-codes 0 (letter-at q i)) (letter-at q i) operands-valid
+    (coded-valid operators operator-codes 0 (letter-at q i) operators-valid none-valid)

@@ -8,7 +8,7 @@ use Rattle.formula.specs.Operator.{Operation, unary, binary, compare, call, Pos
 use Rattle.formula.specs.Formula.{Head, number, truth, symbol, operation, junction, ifelse, conditional, malformed}
 use Rattle.formula.specs.Node.{fields-of, head-of}
 use Rattle.derivative.specs.Rules.{Rule, rule-of, less-one, one-bits, zero-bits, mul, lit, power, child, diff}
-use Rattle.rules.specs.Notation.{codes, code-at, end-at, rule-at, rule-numbered, rule-number, or-zero}
+use Rattle.rules.specs.Notation.{letters, letter-at, code-of, code-at, end-at, rule-at, rule-numbered, rule-number, or-zero}
 
 -- the rule that a node's kind and operator choose
 abbrev pub chosen : Bool → Bool → ℕ → Option ℕ → Head → Option Rule
@@ -17,13 +17,13 @@ chosen by-state moving count e h =
 
 power-right : (c d : Bool) (n m count : ℕ) → less-one n ≡ m → one-bits m ≡ c → zero-bits m ≡ d
     → rule-numbered n count (cond c 0x47 (cond d 0x48 0x46)) ≡ some (mul (mul (lit n) (power (child 0) m)) (diff 0))
-unfolding codes code-at end-at rule-at rule-numbered head-of
+unfolding letters letter-at code-of code-at end-at rule-at rule-numbered head-of
 power-right true d n m count e p q = rw p
 power-right false true n m count e p q = rw (p, q)
 power-right false false n m count e p q = rw (p, q, e)
 
 pub chosen-right : (by-state moving : Bool) (count : ℕ) (e : Option ℕ) (h : Head) → chosen by-state moving count e h ≡ rule-of by-state moving count e h
-unfolding codes code-at end-at rule-at rule-numbered rule-number head-of
+unfolding letters letter-at code-of code-at end-at rule-at rule-numbered rule-number head-of
 chosen-right s m n e (number b) = refl
 chosen-right s m n e (truth b) = refl
 chosen-right s m n e (symbol i) = refl

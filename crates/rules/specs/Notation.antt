@@ -1,10 +1,12 @@
--- The rules of `derivative.rs` in prefix (Polish) notation, a byte for each code: its upper half is what it does, its lower half which one.
+-- The rules of `derivative.rs` in prefix (Polish) notation, a letter for each code. A code is a byte: its upper half is what it does,
+-- its lower half which one.
 use mathlib.Core.Bool.{Bool, true, false, cond, not, _&&_}
 use mathlib.Core.List.{List, [], _∷_}
 use mathlib.Core.Option.{Option, none, some}
 use Prim.Native.Nat.{ℕ, zero, suc, _+_, _-_, _*_, _/_, _%_}
 use lib.ListN.{getD}
 use lib.Dec.{eqb, ltb}
+use Rattle.formula.specs.Text.{ascii}
 use Rattle.arithmetic.specs.Constant.{ln-ten-bits}
 use Rattle.formula.specs.Formula.{Head}
 use Rattle.formula.specs.Node.{head-of, inner-fields}
@@ -114,138 +116,69 @@ N = 0xc9
 abbrev pub N-LESS-ONE : ℕ
 N-LESS-ONE = 0xca
 
+-- ---- the letters
+
+-- what stands beside a letter
+abbrev pub coded : List ℕ → List ℕ → ℕ → ℕ → ℕ
+coded [] cs other x = other
+coded (l ∷ ls) [] other x = other
+coded (l ∷ ls) (c ∷ cs) other x = cond (eqb x l) c (coded ls cs other x)
+
+-- children, derivatives, the node itself, and literals
+abbrev pub operands : List ℕ
+operands = ascii "abcxyzw0123ht-eTnm"
+
+abbrev pub operand-codes : List ℕ
+operand-codes = A ∷ B ∷ C ∷ DA ∷ DB ∷ DC ∷ WHOLE ∷ ZERO ∷ ONE ∷ TWO ∷ THREE ∷ HALF ∷ THREE-HALVES ∷ MINUS-ONE ∷ TINY ∷ LN-TEN ∷ N ∷ N-LESS-ONE ∷ []
+
+abbrev pub operators : List ℕ
+operators = ascii "+*/^<>=?LSCFHMXY"
+
+abbrev pub operator-codes : List ℕ
+operator-codes = ADD ∷ MUL ∷ DIV ∷ POW ∷ LT ∷ GT ∷ EQ ∷ IF ∷ LOG ∷ SIN ∷ COS ∷ FLOOR ∷ HILL ∷ EXTREMUM ∷ UNLESS-DA ∷ UNLESS-DB ∷ []
+
+unfoldable pub code-of : ℕ → ℕ
+code-of x = coded operands operand-codes (coded operators operator-codes 0 x) x
+
 -- ---- the rules, by the kind and the operator of the node
 
 abbrev pub others : List (ℕ × List ℕ)
-others = (
-  0x20,
-  ONE ∷ [],
-)
-    ∷ (
-      0x30,
-      DA ∷ [],
-    )
-    ∷ (
-      0x31,
-      MUL ∷ MINUS-ONE ∷ DA ∷ [],
-    )
-    ∷ (
-      0x80,
-      IF ∷ A ∷ DB ∷ DC ∷ [],
-    )
-    ∷ (
-      0x8d,
-      IF ∷ GT ∷ A ∷ ZERO ∷ ADD ∷ MUL ∷ MUL ∷ MUL ∷ DIV ∷ HILL ∷ A ∷ B ∷ C ∷ A ∷ HILL ∷ C ∷ B ∷ A ∷ B ∷ DA ∷ ADD ∷ MUL ∷ MUL ∷ MUL ∷ WHOLE ∷
-          HILL ∷ C ∷ B ∷ A ∷ ADD ∷ LOG ∷ A ∷ MUL ∷ MINUS-ONE ∷ LOG ∷ C ∷ DB ∷ MUL ∷ MINUS-ONE ∷ MUL ∷ MUL ∷ MUL ∷ DIV ∷ WHOLE ∷ C ∷ HILL ∷ C ∷
-          B ∷ A ∷ B ∷ DC ∷ IF ∷ LT ∷ A ∷ ZERO ∷ ZERO ∷ UNLESS-DA ∷ IF ∷ GT ∷ B ∷ ONE ∷ ZERO ∷ IF ∷ EQ ∷ B ∷ ONE ∷ DIV ∷ DA ∷ C ∷ MUL ∷ MUL ∷
-          MUL ∷ DIV ∷ HILL ∷ MUL ∷ TINY ∷ C ∷ B ∷ C ∷ MUL ∷ TINY ∷ C ∷ HILL ∷ C ∷ B ∷ MUL ∷ TINY ∷ C ∷ B ∷ DA ∷ [],
-    )
+others = (0x20, ascii "1")
+    ∷ (0x30, ascii "x")
+    ∷ (0x31, ascii "*-x")
+    ∷ (0x80, ascii "?ayz")
+    ∷ (0x8d, ascii "?>a0+***/HabcaHcbabx+***wHcba+La*-Lcy*-***/wcHcbabz?<a00X?>b10?=b1/xc***/H*ecbc*ecHcb*ecbx")
     ∷
     []
 
 abbrev pub binaries : List (ℕ × List ℕ)
-binaries = (
-  0x40,
-  ADD ∷ DA ∷ DB ∷ [],
-)
-    ∷ (
-      0x41,
-      ADD ∷ DA ∷ MUL ∷ MINUS-ONE ∷ DB ∷ [],
-    )
-    ∷ (
-      0x42,
-      ADD ∷ MUL ∷ DA ∷ B ∷ MUL ∷ A ∷ DB ∷ [],
-    )
-    ∷ (
-      0x43,
-      DIV ∷ ADD ∷ MUL ∷ DA ∷ B ∷ MUL ∷ MINUS-ONE ∷ MUL ∷ A ∷ DB ∷ POW ∷ B ∷ TWO ∷ [],
-    )
-    ∷ (
-      0x44,
-      ADD ∷ UNLESS-DA ∷ IF ∷ EQ ∷ B ∷ ZERO ∷ ZERO ∷ IF ∷ EQ ∷ B ∷ ONE ∷ DA ∷ MUL ∷ MUL ∷ B ∷ POW ∷ A ∷ ADD ∷ B ∷ MUL ∷ MINUS-ONE ∷ ONE ∷
-          DA ∷ UNLESS-DB ∷ IF ∷ EQ ∷ A ∷ ZERO ∷ ZERO ∷ MUL ∷ MUL ∷ WHOLE ∷ LOG ∷ A ∷ DB ∷ [],
-    )
-    ∷ (
-      0x45,
-      ADD ∷ DIV ∷ ZERO ∷ WHOLE ∷ ADD ∷ DA ∷ MUL ∷ MINUS-ONE ∷ MUL ∷ FLOOR ∷ DIV ∷ A ∷ B ∷ DB ∷ [],
-    )
-    ∷ (
-      0x46,
-      MUL ∷ MUL ∷ N ∷ POW ∷ A ∷ N-LESS-ONE ∷ DA ∷ [],
-    )
-    ∷ (
-      0x47,
-      MUL ∷ MUL ∷ N ∷ A ∷ DA ∷ [],
-    )
-    ∷ (
-      0x48,
-      MUL ∷ MUL ∷ N ∷ ONE ∷ DA ∷ [],
-    )
+binaries = (0x40, ascii "+xy")
+    ∷ (0x41, ascii "+x*-y")
+    ∷ (0x42, ascii "+*xb*ay")
+    ∷ (0x43, ascii "/+*xb*-*ay^b2")
+    ∷ (0x44, ascii "+X?=b00?=b1x**b^a+b*-1xY?=a00**wLay")
+    ∷ (0x45, ascii "+/0w+x*-*F/aby")
+    ∷ (0x46, ascii "**n^amx")
+    ∷ (0x47, ascii "**nax")
+    ∷ (0x48, ascii "**n1x")
     ∷
     []
 
 abbrev pub calls : List (ℕ × List ℕ)
-calls = (
-  0x70,
-  MUL ∷ WHOLE ∷ DA ∷ [],
-)
-    ∷ (
-      0x71,
-      MUL ∷ DIV ∷ ONE ∷ A ∷ DA ∷ [],
-    )
-    ∷ (
-      0x72,
-      MUL ∷ DIV ∷ ONE ∷ MUL ∷ A ∷ LN-TEN ∷ DA ∷ [],
-    )
-    ∷ (
-      0x73,
-      MUL ∷ DIV ∷ ONE ∷ MUL ∷ TWO ∷ WHOLE ∷ DA ∷ [],
-    )
-    ∷ (
-      0x74,
-      MUL ∷ COS ∷ A ∷ DA ∷ [],
-    )
-    ∷ (
-      0x75,
-      MUL ∷ MUL ∷ MINUS-ONE ∷ SIN ∷ A ∷ DA ∷ [],
-    )
-    ∷ (
-      0x76,
-      MUL ∷ DIV ∷ ONE ∷ POW ∷ COS ∷ A ∷ TWO ∷ DA ∷ [],
-    )
-    ∷ (
-      0x77,
-      MUL ∷ ADD ∷ ONE ∷ MUL ∷ MINUS-ONE ∷ POW ∷ WHOLE ∷ TWO ∷ DA ∷ [],
-    )
-    ∷ (
-      0x78,
-      IF ∷ GT ∷ A ∷ ZERO ∷ DA ∷ IF ∷ LT ∷ A ∷ ZERO ∷ MUL ∷ MINUS-ONE ∷ DA ∷ ZERO ∷ [],
-    )
-    ∷ (
-      0x7b,
-      EXTREMUM ∷ [],
-    )
-    ∷ (
-      0x7c,
-      EXTREMUM ∷ [],
-    )
-    ∷ (
-      0x7d,
-      IF ∷ GT ∷ A ∷ ZERO ∷ ADD ∷ MUL ∷ MUL ∷ MUL ∷ DIV ∷ HILL ∷ A ∷ B ∷ C ∷ A ∷ HILL ∷ C ∷ B ∷ A ∷ B ∷ DA ∷ ADD ∷ MUL ∷ MUL ∷ MUL ∷ WHOLE ∷
-          HILL ∷ C ∷ B ∷ A ∷ ADD ∷ LOG ∷ A ∷ MUL ∷ MINUS-ONE ∷ LOG ∷ C ∷ DB ∷ MUL ∷ MINUS-ONE ∷ MUL ∷ MUL ∷ MUL ∷ DIV ∷ WHOLE ∷ C ∷ HILL ∷ C ∷
-          B ∷ A ∷ B ∷ DC ∷ IF ∷ LT ∷ A ∷ ZERO ∷ ZERO ∷ UNLESS-DA ∷ IF ∷ GT ∷ B ∷ ONE ∷ ZERO ∷ DIV ∷ ONE ∷ ZERO ∷ [],
-    )
-    ∷ (
-      0x7e,
-      IF ∷ A ∷ DB ∷ DC ∷ [],
-    )
-    ∷ (
-      0x7f,
-      IF ∷ GT ∷ WHOLE ∷ ZERO ∷ MUL ∷ WHOLE ∷ ADD ∷ ADD ∷ MUL ∷ ADD ∷ MUL ∷ MINUS-ONE ∷ DIV ∷ THREE-HALVES ∷ A ∷ MUL ∷ HALF ∷ ADD ∷ DIV ∷
-          C ∷ POW ∷ A ∷ TWO ∷ MUL ∷ MINUS-ONE ∷ DIV ∷ C ∷ POW ∷ B ∷ TWO ∷ DA ∷ MUL ∷ DIV ∷ MUL ∷ C ∷ ADD ∷ A ∷ MUL ∷ MINUS-ONE ∷ B ∷ POW ∷ B ∷
-          THREE ∷ DB ∷ MUL ∷ ADD ∷ DIV ∷ HALF ∷ C ∷ MUL ∷ MINUS-ONE ∷ DIV ∷ POW ∷ ADD ∷ A ∷ MUL ∷ MINUS-ONE ∷ B ∷ TWO ∷ MUL ∷ TWO ∷ MUL ∷ POW ∷
-          B ∷ TWO ∷ A ∷ DC ∷ ZERO ∷ [],
-    )
+calls = (0x70, ascii "*wx")
+    ∷ (0x71, ascii "*/1ax")
+    ∷ (0x72, ascii "*/1*aTx")
+    ∷ (0x73, ascii "*/1*2wx")
+    ∷ (0x74, ascii "*Cax")
+    ∷ (0x75, ascii "**-Sax")
+    ∷ (0x76, ascii "*/1^Ca2x")
+    ∷ (0x77, ascii "*+1*-^w2x")
+    ∷ (0x78, ascii "?>a0x?<a0*-x0")
+    ∷ (0x7b, ascii "M")
+    ∷ (0x7c, ascii "M")
+    ∷ (0x7d, ascii "?>a0+***/HabcaHcbabx+***wHcba+La*-Lcy*-***/wcHcbabz?<a00X?>b10/10")
+    ∷ (0x7e, ascii "?ayz")
+    ∷ (0x7f, ascii "?>w0*w++*+*-/ta*h+/c^a2*-/c^b2x*/*c+a*-b^b3y*+/hc*-/^+a*-b2*2*^b2az0")
     ∷
     []
 
@@ -253,13 +186,17 @@ abbrev pub look : List (ℕ × List ℕ) → ℕ → List ℕ
 look [] q = []
 look (e ∷ es) q = cond (eqb q (e .0)) (e .1) (look es q)
 
--- the codes of a rule; a node without a rule has none
-unfoldable pub codes : ℕ → List ℕ
-codes q = cond (eqb (q / 16) 4) (look binaries q) (cond (eqb (q / 16) 7) (look calls q) (look others q))
+-- the letters of a rule; a node without a rule has none
+unfoldable pub letters : ℕ → List ℕ
+letters q = cond (eqb (q / 16) 4) (look binaries q) (cond (eqb (q / 16) 7) (look calls q) (look others q))
+
+unfoldable pub letter-at : ℕ → ℕ → ℕ
+unfolding letters
+letter-at q i = getD (letters q) i 0
 
 unfoldable pub code-at : ℕ → ℕ → ℕ
-unfolding codes
-code-at q i = getD (codes q) i 0
+unfolding letter-at code-of
+code-at q i = code-of (letter-at q i)
 
 -- ---- reading
 

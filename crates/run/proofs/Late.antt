@@ -31,6 +31,8 @@ use Rattle.instruction.specs.declared.Effect.{Effect}
 use Rattle.instruction.specs.declared.Effect.the-variants.{Jump, Work}
 use Rattle.instruction.proofs.Done.{done, done-is}
 use Rattle.run.specs.Calls.{putting, stale-at, supplying, unasked, unfit-at}
+use Rattle.instruction.proofs.Opcodes.{lt-or-ge}
+use lib.Seq.{take-all}
 
 -- ---- 5
 
@@ -98,18 +100,6 @@ module _ (inputs : List Float) (b : List ℕ) where
   op-room (copy i) n kept regs q e = never e
   op-room (jump-if-false i t) n kept regs q e = never e
   op-room (jump t) n kept regs q e = never e
-
--- which of the two
-lt-or-ge : (m n : ℕ) → (m < n) ⊎ (n ≤ m)
-lt-or-ge m zero = inr (omega arith)
-lt-or-ge zero (suc n) = inl (omega arith)
-lt-or-ge (suc m) (suc n) = ⊎-elim (λ h. inl (omega arith)) (λ h. inr (omega arith)) (lt-or-ge m n)
-
-take-all : (n : ℕ) (xs : List Float) → length xs ≤ n → take n xs ≡ xs
-take-all zero [] h = refl
-take-all zero (x ∷ xs) h = absurd (omega arith)
-take-all (suc n) [] h = refl
-take-all (suc n) (x ∷ xs) h = ap (λ ys. x ∷ ys) (take-all n xs (omega arith))
 
 module _ (inputs : List Float) (b : List ℕ) (regs : List Float) (at : ℕ) (kept : List Float) where
   pub stale-past : (q : Option Question) (g : Option Float) → code-count b ≤ at → true ≡ stale-at inputs b regs at kept q g

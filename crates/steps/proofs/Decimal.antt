@@ -6,36 +6,16 @@ use Prim.Native.Nat.{ℕ, zero, suc, _+_, _-_, _*_, _/_, _%_, _≤_, _<_}
 use native.Mathlib.Omega.{arith}
 use lib.ListN.{length, set, length-append}
 use lib.Dec.{ltb}
-use borrow.Author.Tests.{ltb-true, ltb-false, lt-ltb, le-ltb}
-use Rattle.formula.specs.Text.{ascii, decimal-in, decimal}
-use Rattle.formula.specs.Path.{Step, step-text, argument, condition, then-arm, else-arm}
-use Rattle.steps.specs.Steps.{step-of, number-of, over}
-use Rattle.steps.proofs.Over.{over-over, over-one, over-length}
+use borrow.Author.Tests.{ltb-true, ltb-false, ne-eqb}
+use Rattle.formula.specs.Text.{ascii, decimal}
+use Rattle.formula.specs.Path.{Step, step-text, argument}
+use Rattle.layout.specs.Opcode.{step-of}
+use Rattle.paths.specs.Over.{over}
+use Rattle.paths.proofs.Over.{over-over, over-one, over-length}
+use Rattle.paths.proofs.Decimal.{argument-length}
+pub use Rattle.paths.proofs.Decimal.{decimal-small, decimal-large as decimal-more, length-small, length-large as length-more, step-length-le}
 
 -- ---- digits
-
--- turns enough are enough
-turns : (t u : ℕ) (s : Bool) (n : ℕ) → ltb n 10 ≡ s → n < t → n < u → decimal-in t s n ≡ decimal-in u s n
-turns zero u s n e h k = absurd (omega arith)
-turns (suc t) zero s n e h k = absurd (omega arith)
-turns (suc t) (suc u) true n e h k = refl
-turns (suc t) (suc u) false n e h k =
-    let l = ltb-false n 10 e in
-    ap (λ (ds : List ℕ). ds ++ ((48 + n % 10) ∷ [])) (turns t u (ltb (n / 10) 10) (n / 10) refl (omega arith) (omega arith))
-
-pub decimal-small : (n : ℕ) → n < 10 → decimal n ≡ (48 + n) ∷ []
-decimal-small n h = ap (λ (s : Bool). decimal-in (suc n) s n) (lt-ltb n 10 h)
-
-pub decimal-more : (n : ℕ) → 10 ≤ n → decimal n ≡ decimal (n / 10) ++ ((48 + n % 10) ∷ [])
-decimal-more n h =
-    ap (λ (s : Bool). decimal-in (suc n) s n) (le-ltb n 10 h)
-    ∙ ap (λ (ds : List ℕ). ds ++ ((48 + n % 10) ∷ [])) (turns n (suc (n / 10)) (ltb (n / 10) 10) (n / 10) refl (omega arith) (omega arith))
-
-pub length-small : (n : ℕ) → n < 10 → length (decimal n) ≡ 1
-length-small n h = ap length (decimal-small n h)
-
-pub length-more : (n : ℕ) → 10 ≤ n → length (decimal n) ≡ length (decimal (n / 10)) + 1
-length-more n h = ap length (decimal-more n h) ∙ length-append (decimal (n / 10)) ((48 + n % 10) ∷ [])
 
 abbrev pub power-of-ten : ℕ → ℕ
 power-of-ten zero = 1
@@ -80,40 +60,18 @@ put-more out mid at end n h l e q =
 -- ---- steps
 
 pub argument-step : (n : ℕ) → (n ≡ 0 → ⊥) → (n ≡ 1 → ⊥) → (n ≡ 2 → ⊥) → step-of n ≡ argument (n - 3)
-argument-step zero a b c = absurd (a refl)
-argument-step (suc zero) a b c = absurd (b refl)
-argument-step (suc (suc zero)) a b c = absurd (c refl)
-argument-step (suc (suc (suc i))) a b c = let e : i ≡ suc (suc (suc i)) - 3 = omega arith in ap (λ (j : ℕ). argument j) e
-
-argument-length : (i : ℕ) → length (step-text (argument i)) ≡ length (decimal i) + 12
-argument-length i =
-    omega (arith, length-append (ascii ".arguments[" ++ decimal i) (ascii "]"), length-append (ascii ".arguments[") (decimal i))
+argument-step n a b c = rw (ne-eqb n 0 a, ne-eqb n 1 b, ne-eqb n 2 c)
 
 pub step-argument-length : (n : ℕ) → (n ≡ 0 → ⊥) → (n ≡ 1 → ⊥) → (n ≡ 2 → ⊥) → length (step-text (step-of n)) ≡ length (decimal (n - 3)) + 12
-step-argument-length n a b c = ap (λ (s : Step). length (step-text s)) (argument-step n a b c) ∙ argument-length (n - 3)
+step-argument-length n a b c = omega (arith, argument-length n (omega (arith, a, b, c)))
 
--- the step of an argument below 65,536 has at most 17 bytes
-pub step-length-le : (n : ℕ) → n < 65539 → length (step-text (step-of n)) ≤ 17
-step-length-le zero h = omega arith
-step-length-le (suc zero) h = omega arith
-step-length-le (suc (suc zero)) h = omega arith
-step-length-le (suc (suc (suc i))) h =
-    omega (arith, argument-length i, decimal-length-le 5 i (omega arith) (omega arith))
-
--- and that of any number of 32 bits at most 22
+-- the step of any number of 32 bits has at most 22 bytes
 pub step-length-any : (n : ℕ) → n < 4294967296 → length (step-text (step-of n)) ≤ 22
 step-length-any zero h = omega arith
 step-length-any (suc zero) h = omega arith
 step-length-any (suc (suc zero)) h = omega arith
 step-length-any (suc (suc (suc i))) h =
-    omega (arith, argument-length i, decimal-length-le 10 i (omega arith) (omega arith))
-
--- a step is known by its number
-pub step-of-number : (s : Step) → step-of (number-of s) ≡ s
-step-of-number (argument i) = refl
-step-of-number condition = refl
-step-of-number then-arm = refl
-step-of-number else-arm = refl
+    omega (arith, argument-length (suc (suc (suc i))) (omega arith), decimal-length-le 10 (suc (suc (suc i)) - 3) (omega arith) (omega arith))
 
 -- a step of fixed text
 module _ (out : List ℕ) (at n k : ℕ) (e : n ≡ k) where

@@ -3,7 +3,8 @@ ghost use Prim.Native.Nat.{_+_, _≤_};
 ghost use lib.ListN.{length};
 ghost use Rattle.formula.specs.Text.{decimal};
 ghost use Rattle.formula.specs.Path.{step-text};
-ghost use Rattle.steps.specs.Steps.{step-of, over};
+ghost use Rattle.layout.specs.Opcode.{step-of};
+ghost use Rattle.paths.specs.Over.{over};
 
 // How many digits a number has.
 pub fn decimal_length(n: u64) -> usize

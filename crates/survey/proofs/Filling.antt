@@ -24,6 +24,7 @@ use Rattle.reader.proofs.Trees.{size-pos}
 use Rattle.survey.specs.Derived.{children-of, head-of-tree, derived, ruled}
 use Rattle.survey.specs.Table.{tree, trees, Own, Surveyed, Owned, Ready, Room, Filled, PutOwn, PutDiff, diff-in, optional}
 use Rattle.survey.proofs.Trees.{Opened, opened, trees-next, trees-none, tree-ends}
+use Rattle.formula.proofs.Tests.{and-one}
 
 -- ---- a symbol
 
@@ -239,10 +240,6 @@ or-false : (a : Bool) → (a || false) ≡ a
 or-false true = refl
 or-false false = refl
 
-and-true : (a : Bool) → (a && true) ≡ a
-and-true true = refl
-and-true false = refl
-
 module _ (s : ℕ) (b : Bool) (f T₀ : List ℕ) (k d : ℕ) (room : Room f T₀ k d) where
   -- where so many children are left, the first at `next`
   pub record Going (T : List ℕ) (has fine : Bool) (levels at left : ℕ) : Type 0 where
@@ -356,7 +353,7 @@ module _ (s : ℕ) (b : Bool) (f T₀ : List ℕ) (k d : ℕ) (room : Room f T�
       symbol-is = sym (g .has-is ∙ ap (λ (ts : Formulas). has || any-depends s ts) none-left ∙ or-false has)
 
       pub all-fine : fine ≡ is-some (differentiate-all s b (children-of (tree f k)))
-      all-fine = sym (g .fine-all ∙ ap (λ (ts : Formulas). fine && is-some (differentiate-all s b ts)) none-left ∙ and-true fine)
+      all-fine = sym (g .fine-all ∙ ap (λ (ts : Formulas). fine && is-some (differentiate-all s b ts)) none-left ∙ and-one fine)
 
       pub own-room : 8 * k + 8 ≤ length T
       own-room = omega (arith, room .long, g .same-length, size-pos (tree f k))

@@ -327,62 +327,41 @@ pub fn rule_attributes(
     requires { ⌜ Ready (by .symbol) (by .state) (now f) (now table) k ⌝ }
     ensures { λ r. ⌜ reading r ≡ worked (by .symbol) (by .state) (tree (now (f .entry)) k) levels q i ⌝ }
 {
-    if levels == 0 {
-        return of_literal(0);
-    }
-    if i >= 128 {
+    if levels == 0 || i >= 128 {
         return of_literal(0);
     }
     let c = wide(code(q, i));
     let kind = c / 16;
-    if kind == 0 {
-        return of_literal(0);
-    }
-    if kind == 1 {
-        return child_attributes(f, k, c % 16, table);
-    }
-    if kind == 2 {
-        return diff_attributes(f, k, c % 16, by, table);
-    }
-    if kind == 3 {
-        return own(f, k, table);
-    }
-    if kind == 11 {
-        return extremum(f, k, by, table);
-    }
     if kind >= 12 {
         return of_literal(literal_bits(c % 16, f, k, table));
     }
-    if kind == 6 {
-        if is_zero(diff_attributes(f, k, c % 16, by, table)) {
-            return of_literal(0);
+    match kind {
+        0 => of_literal(0),
+        1 => child_attributes(f, k, c % 16, table),
+        2 => diff_attributes(f, k, c % 16, by, table),
+        3 => own(f, k, table),
+        6 => {
+            if is_zero(diff_attributes(f, k, c % 16, by, table)) {
+                return of_literal(0);
+            }
+            rule_attributes(q, i + 1, levels - 1, f, k, by, table)
         }
-        return rule_attributes(q, i + 1, levels - 1, f, k, by, table);
+        9 => {
+            let a = rule_attributes(q, i + 1, levels - 1, f, k, by, table);
+            let j = end_of(q, i + 1, levels - 1);
+            add(a, rule_attributes(q, j, levels - 1, f, k, by, table))
+        }
+        10 => {
+            let a = rule_attributes(q, i + 1, levels - 1, f, k, by, table);
+            let j = end_of(q, i + 1, levels - 1);
+            mul(a, rule_attributes(q, j, levels - 1, f, k, by, table))
+        }
+        11 => extremum(f, k, by, table),
+        _ => {
+            let n = parts_of(kind, c % 16);
+            node(rules_attributes(q, i + 1, n, levels - 1, f, k, by, table))
+        }
     }
-    if kind == 9 {
-        let a = rule_attributes(q, i + 1, levels - 1, f, k, by, table);
-        return add(
-            a,
-            rule_attributes(q, end_of(q, i + 1, levels - 1), levels - 1, f, k, by, table),
-        );
-    }
-    if kind == 10 {
-        let a = rule_attributes(q, i + 1, levels - 1, f, k, by, table);
-        return mul(
-            a,
-            rule_attributes(q, end_of(q, i + 1, levels - 1), levels - 1, f, k, by, table),
-        );
-    }
-    node(rules_attributes(
-        q,
-        i + 1,
-        parts_of(kind, c % 16),
-        levels - 1,
-        f,
-        k,
-        by,
-        table,
-    ))
 }
 
 // Of so many parts one after another.

@@ -10,6 +10,7 @@ use Rattle.meaning.specs.Work.{give, undefined, advance}
 use Rattle.work.specs.View.{shown, places, kept-values}
 use Rattle.work.specs.declared.Kept.{Kept}
 use Rattle.work.specs.declared.Outcome.the-variants.{Value, Undefined}
+pub use lib.Seq.{take-all}
 
 -- work that asks nothing more takes no notice of what is kept
 pub given : (v : Float) (kept : List Float) → Value v ≡ shown (advance (give v) kept)
@@ -26,12 +27,6 @@ took zero n xs h = refl
 took (suc k) zero xs h = absurd (omega arith)
 took (suc k) (suc n) [] h = refl
 took (suc k) (suc n) (x ∷ xs) h = ap (λ ys. x ∷ ys) (took k n xs (omega arith))
-
-pub take-all : (n : ℕ) (xs : List Float) → length xs ≤ n → take n xs ≡ xs
-take-all zero [] h = refl
-take-all zero (x ∷ xs) h = absurd (omega arith)
-take-all (suc n) [] h = refl
-take-all (suc n) (x ∷ xs) h = ap (λ ys. x ∷ ys) (take-all n xs (omega arith))
 
 -- nine or more are kept where the count is none of 0 to 8
 pub nine : (n : ℕ) → (n ≡ 0 → ⊥) → (n ≡ 1 → ⊥) → (n ≡ 2 → ⊥) → (n ≡ 3 → ⊥) → (n ≡ 4 → ⊥) → (n ≡ 5 → ⊥) → (n ≡ 6 → ⊥) → (n ≡ 7 → ⊥) → (n ≡ 8 → ⊥) → 9 ≤ n

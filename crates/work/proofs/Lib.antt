@@ -1,4 +1,4 @@
-mod Answers
+pub mod Answers
 mod Numbers
 pub mod Arguments
 pub mod Questions

@@ -1,26 +1,28 @@
 use Rattle.names.proofs.read_names.Statement.{statement}
 use Rattle.names.proofs.read_names.Tie as tie
-use mathlib.Core.Path.{refl, _∙_}
+use mathlib.Core.Path.{_≡_, refl, _∙_}
 use Prim.Native.Nat.{_-_}
+use Rattle.names.specs.Lines.{Marked}
 use native.Mathlib.Omega.{arith}
 use borrow.Author.Needs.{needs}
-use lib.ListN.{length}
-use Rattle.names.proofs.Listing.{Listing, found, listing-start, listing-empty, no-entry, too-many, repeated, listing-done, listing-more}
+use lib.ListN.{length, length-set}
+use Rattle.names.proofs.Listing.{Listing, found, listing-start, listing-empty, no-entry, too-many, repeated, listing-done, listing-more, marked-more}
 
 abbrev Inv-loop : tie.InvT-loop
-Inv-loop line starts₀ lengths₀ kinds₀ count₀ at₀ starts lengths kinds count at = Listing line starts lengths kinds count at
+Inv-loop line starts₀ lengths₀ marks₀ kinds₀ count₀ at₀ starts lengths marks kinds count at =
+    Listing line starts lengths kinds count at × (length marks ≡ 256) × Marked line starts lengths marks count
 
 abbrev μ-loop : tie.MeasureT-loop
-μ-loop line starts₀ lengths₀ kinds₀ count₀ at₀ starts lengths kinds count at = length line - at
+μ-loop line starts₀ lengths₀ marks₀ kinds₀ count₀ at₀ starts lengths marks kinds count at = length line - at
 
 returns : tie.Need-returns Inv-loop μ-loop
 returns c = listing-empty (c .before .before .args .line .now) _ (c .if1 .taken) refl
 
 loop-holds : tie.Need-loop-holds Inv-loop μ-loop
-loop-holds c = listing-start (c .before .before .args .line .now) _ _ _ (c .if1 .left) refl refl refl
+loop-holds c = (listing-start (c .before .before .args .line .now) _ _ _ (c .if1 .left) refl refl refl, refl, λ k l. absurd (omega arith))
 
 entry-end-requires : tie.Need-entry-end-requires Inv-loop μ-loop
-entry-end-requires c κs = c .loop .inv .inside
+entry-end-requires c κs = c .loop .inv .0 .inside
 
 entry-at-requires : tie.Need-entry-at-requires Inv-loop μ-loop
 entry-at-requires c κs = (c .entry-end .ensures .from, c .entry-end .ensures .inside)
@@ -35,52 +37,61 @@ no-names-requires : tie.Need-no-names-requires Inv-loop μ-loop
 no-names-requires c κs = tt
 
 returns-2 : tie.Need-returns-2 Inv-loop μ-loop
-returns-2 c = c .no-names .ensures ∙ no-entry (c .before .before .before .before .before .before .before .before .args .line .now) (c .before .before .before .before .before .loop .starts) (c .before .before .before .before .before .loop .lengths) (c .before .before .before .before .before .loop .kinds) (c .before .before .before .before .before .loop .count) (c .before .before .before .before .before .loop .at) (c .before .before .before .before .entry-end .result) (c .before .before .before .before .before .loop .inv) (c .before .before .before .before .entry-end .ensures) (c .before .before .before .entry-at .result) (c .before .before .before .entry-at .ensures) (c .before .enum-told .given .1)
+returns-2 c = c .no-names .ensures ∙ no-entry (c .before .before .before .before .before .before .before .before .args .line .now) (c .before .before .before .before .before .loop .starts) (c .before .before .before .before .before .loop .lengths) (c .before .before .before .before .before .loop .kinds) (c .before .before .before .before .before .loop .count) (c .before .before .before .before .before .loop .at) (c .before .before .before .before .entry-end .result) (c .before .before .before .before .before .loop .inv .0) (c .before .before .before .before .entry-end .ensures) (c .before .before .before .entry-at .result) (c .before .before .before .entry-at .ensures) (c .before .enum-told .given .1)
 
 no-names-requires-2 : tie.Need-no-names-requires-2 Inv-loop μ-loop
 no-names-requires-2 c κs = tt
 
 returns-3 : tie.Need-returns-3 Inv-loop μ-loop
-returns-3 c = c .no-names2 .ensures ∙ too-many (c .before .before .before .before .before .before .before .before .before .before .args .line .now) (c .before .before .before .before .before .before .before .loop .starts) (c .before .before .before .before .before .before .before .loop .lengths) (c .before .before .before .before .before .before .before .loop .kinds) (c .before .before .before .before .before .before .before .loop .count) (c .before .before .before .before .before .before .before .loop .at) (c .before .before .before .before .before .before .entry-end .result) (c .before .before .before .before .before .before .before .loop .inv) (c .before .before .before .before .before .before .entry-end .ensures) (c .before .before .before .found .given .0 .0) (c .before .before .before .found .given .0 .1 .0) (found (c .before .before .before .before .before .before .before .before .before .before .args .line .now) (c .before .before .before .before .before .before .before .loop .at) (c .before .before .before .before .before .before .entry-end .result) (c .before .before .before .found .given .0 .0) (c .before .before .before .found .given .0 .1 .0) (c .before .before .before .before .before .entry-at .result) (c .before .before .before .before .before .before .entry-end .ensures) (c .before .before .before .before .before .entry-at .ensures) (c .before .before .before .found .given .1)) (c .before .if2 .taken)
+returns-3 c = c .no-names2 .ensures ∙ too-many (c .before .before .before .before .before .before .before .before .before .before .args .line .now) (c .before .before .before .before .before .before .before .loop .starts) (c .before .before .before .before .before .before .before .loop .lengths) (c .before .before .before .before .before .before .before .loop .kinds) (c .before .before .before .before .before .before .before .loop .count) (c .before .before .before .before .before .before .before .loop .at) (c .before .before .before .before .before .before .entry-end .result) (c .before .before .before .before .before .before .before .loop .inv .0) (c .before .before .before .before .before .before .entry-end .ensures) (c .before .before .before .found .given .0 .0) (c .before .before .before .found .given .0 .1 .0) (found (c .before .before .before .before .before .before .before .before .before .before .args .line .now) (c .before .before .before .before .before .before .before .loop .at) (c .before .before .before .before .before .before .entry-end .result) (c .before .before .before .found .given .0 .0) (c .before .before .before .found .given .0 .1 .0) (c .before .before .before .before .before .entry-at .result) (c .before .before .before .before .before .before .entry-end .ensures) (c .before .before .before .before .before .entry-at .ensures) (c .before .before .before .found .given .1)) (c .before .if2 .taken)
+
+mark-of-requires : tie.Need-mark-of-requires Inv-loop μ-loop
+mark-of-requires c κs = found (c .before .before .before .before .before .before .before .before .before .args .line .now) (c .before .before .before .before .before .before .loop .at) (c .before .before .before .before .before .entry-end .result) (c .before .before .found .given .0 .0) (c .before .before .found .given .0 .1 .0) (c .before .before .before .before .entry-at .result) (c .before .before .before .before .before .entry-end .ensures) (c .before .before .before .before .entry-at .ensures) (c .before .before .found .given .1) .inside
 
 is-repeated-requires : tie.Need-is-repeated-requires Inv-loop μ-loop
-is-repeated-requires c κs = (c .before .before .before .before .before .before .before .before .loop .inv .few, found (c .before .before .before .before .before .before .before .before .before .before .before .args .line .now) (c .before .before .before .before .before .before .before .before .loop .at) (c .before .before .before .before .before .before .before .entry-end .result) (c .before .before .before .before .found .given .0 .0) (c .before .before .before .before .found .given .0 .1 .0) (c .before .before .before .before .before .before .entry-at .result) (c .before .before .before .before .before .before .before .entry-end .ensures) (c .before .before .before .before .before .before .entry-at .ensures) (c .before .before .before .before .found .given .1) .inside, c .before .before .before .before .before .before .before .before .loop .inv .listed)
+is-repeated-requires c κs = (c .before .before .before .before .before .before .before .before .before .before .loop .inv .0 .few, found (c .before .before .before .before .before .before .before .before .before .before .before .before .before .args .line .now) (c .before .before .before .before .before .before .before .before .before .before .loop .at) (c .before .before .before .before .before .before .before .before .before .entry-end .result) (c .before .before .before .before .before .before .found .given .0 .0) (c .before .before .before .before .before .before .found .given .0 .1 .0) (c .before .before .before .before .before .before .before .before .entry-at .result) (c .before .before .before .before .before .before .before .before .before .entry-end .ensures) (c .before .before .before .before .before .before .before .before .entry-at .ensures) (c .before .before .before .before .before .before .found .given .1) .inside, c .before .before .before .before .before .before .before .before .before .before .loop .inv .0 .listed, c .before .before .before .before .before .before .before .before .before .before .loop .inv .2, c .before .before .before .mark-of .ensures)
 
 no-names-requires-3 : tie.Need-no-names-requires-3 Inv-loop μ-loop
 no-names-requires-3 c κs = tt
 
 returns-4 : tie.Need-returns-4 Inv-loop μ-loop
-returns-4 c = c .no-names3 .ensures ∙ repeated (c .before .before .before .before .before .before .before .before .before .before .before .before .before .before .args .line .now) (c .before .before .before .before .before .before .before .before .before .before .before .loop .starts) (c .before .before .before .before .before .before .before .before .before .before .before .loop .lengths) (c .before .before .before .before .before .before .before .before .before .before .before .loop .kinds) (c .before .before .before .before .before .before .before .before .before .before .before .loop .count) (c .before .before .before .before .before .before .before .before .before .before .before .loop .at) (c .before .before .before .before .before .before .before .before .before .before .entry-end .result) (c .before .before .before .before .before .before .before .before .before .before .before .loop .inv) (c .before .before .before .before .before .before .before .before .before .before .entry-end .ensures) (c .before .before .before .before .before .before .before .found .given .0 .0) (c .before .before .before .before .before .before .before .found .given .0 .1 .0) (found (c .before .before .before .before .before .before .before .before .before .before .before .before .before .before .args .line .now) (c .before .before .before .before .before .before .before .before .before .before .before .loop .at) (c .before .before .before .before .before .before .before .before .before .before .entry-end .result) (c .before .before .before .before .before .before .before .found .given .0 .0) (c .before .before .before .before .before .before .before .found .given .0 .1 .0) (c .before .before .before .before .before .before .before .before .before .entry-at .result) (c .before .before .before .before .before .before .before .before .before .before .entry-end .ensures) (c .before .before .before .before .before .before .before .before .before .entry-at .ensures) (c .before .before .before .before .before .before .before .found .given .1)) (c .before .before .is-repeated .result) (c .before .before .is-repeated .ensures) (c .before .if3 .taken)
+returns-4 c = c .no-names3 .ensures ∙ repeated (c .before .before .before .before .before .before .before .before .before .before .before .before .before .before .before .before .args .line .now) (c .before .before .before .before .before .before .before .before .before .before .before .before .before .loop .starts) (c .before .before .before .before .before .before .before .before .before .before .before .before .before .loop .lengths) (c .before .before .before .before .before .before .before .before .before .before .before .before .before .loop .kinds) (c .before .before .before .before .before .before .before .before .before .before .before .before .before .loop .count) (c .before .before .before .before .before .before .before .before .before .before .before .before .before .loop .at) (c .before .before .before .before .before .before .before .before .before .before .before .before .entry-end .result) (c .before .before .before .before .before .before .before .before .before .before .before .before .before .loop .inv .0) (c .before .before .before .before .before .before .before .before .before .before .before .before .entry-end .ensures) (c .before .before .before .before .before .before .before .before .before .found .given .0 .0) (c .before .before .before .before .before .before .before .before .before .found .given .0 .1 .0) (found (c .before .before .before .before .before .before .before .before .before .before .before .before .before .before .before .before .args .line .now) (c .before .before .before .before .before .before .before .before .before .before .before .before .before .loop .at) (c .before .before .before .before .before .before .before .before .before .before .before .before .entry-end .result) (c .before .before .before .before .before .before .before .before .before .found .given .0 .0) (c .before .before .before .before .before .before .before .before .before .found .given .0 .1 .0) (c .before .before .before .before .before .before .before .before .before .before .before .entry-at .result) (c .before .before .before .before .before .before .before .before .before .before .before .before .entry-end .ensures) (c .before .before .before .before .before .before .before .before .before .before .before .entry-at .ensures) (c .before .before .before .before .before .before .before .before .before .found .given .1)) (c .before .before .is-repeated .result) (c .before .before .is-repeated .ensures) (c .before .if3 .taken)
 
 mul-starts : tie.Need-mul-starts Inv-loop μ-loop
-mul-starts c = omega (arith, c .before .before .before .before .before .before .before .before .before .before .loop .inv .few)
+mul-starts c = omega (arith, c .before .before .before .before .before .before .before .before .before .before .before .before .loop .inv .0 .few)
 
 array-write-starts : tie.Need-array-write-starts Inv-loop μ-loop
-array-write-starts c = omega (arith, c .before .before .before .before .before .before .before .before .before .before .loop .inv .few, c .before .before .before .before .if2 .left)
+array-write-starts c = omega (arith, c .before .before .before .before .before .before .before .before .before .before .before .before .loop .inv .0 .few, c .before .before .before .before .before .before .if2 .left)
 
 mul-lengths : tie.Need-mul-lengths Inv-loop μ-loop
-mul-lengths c = omega (arith, c .before .before .before .before .before .before .before .before .before .before .loop .inv .few)
+mul-lengths c = omega (arith, c .before .before .before .before .before .before .before .before .before .before .before .before .loop .inv .0 .few)
 
 array-write-lengths : tie.Need-array-write-lengths Inv-loop μ-loop
-array-write-lengths c = omega (arith, c .before .before .before .before .before .before .before .before .before .before .loop .inv .few, c .before .before .before .before .if2 .left)
+array-write-lengths c = omega (arith, c .before .before .before .before .before .before .before .before .before .before .before .before .loop .inv .0 .few, c .before .before .before .before .before .before .if2 .left)
+
+mul-marks : tie.Need-mul-marks Inv-loop μ-loop
+mul-marks c = omega (arith, c .before .before .before .before .before .before .before .before .before .before .before .before .loop .inv .0 .few)
+
+array-write-marks : tie.Need-array-write-marks Inv-loop μ-loop
+array-write-marks c = omega (arith, c .before .before .before .before .before .before .before .before .before .before .before .before .loop .inv .0 .few, c .before .before .before .before .before .before .if2 .left)
 
 array-write-kinds : tie.Need-array-write-kinds Inv-loop μ-loop
-array-write-kinds c = omega (arith, c .before .before .before .before .before .before .before .before .before .before .loop .inv .few, c .before .before .before .before .if2 .left)
+array-write-kinds c = omega (arith, c .before .before .before .before .before .before .before .before .before .before .before .before .loop .inv .0 .few, c .before .before .before .before .before .before .if2 .left)
 
 add-count : tie.Need-add-count Inv-loop μ-loop
-add-count c = omega (arith, c .before .before .before .before .before .before .before .before .before .before .loop .inv .few)
+add-count c = omega (arith, c .before .before .before .before .before .before .before .before .before .before .before .before .loop .inv .0 .few)
 
 returns-5 : tie.Need-returns-5 Inv-loop μ-loop
-returns-5 c = listing-done (c .before .before .before .before .before .before .before .before .before .before .before .before .before .before .args .line .now) (c .before .before .before .before .before .before .before .before .before .before .before .loop .starts) (c .before .before .before .before .before .before .before .before .before .before .before .loop .lengths) (c .before .before .before .before .before .before .before .before .before .before .before .loop .kinds) (c .before .before .before .before .before .before .before .before .before .before .before .loop .count) (c .before .before .before .before .before .before .before .before .before .before .before .loop .at) (c .before .before .before .before .before .before .before .before .before .before .entry-end .result) (c .before .before .before .before .before .before .before .before .before .before .before .loop .inv) (c .before .before .before .before .before .before .before .before .before .before .entry-end .ensures) (c .before .before .before .before .before .before .before .found .given .0 .0) (c .before .before .before .before .before .before .before .found .given .0 .1 .0) (found (c .before .before .before .before .before .before .before .before .before .before .before .before .before .before .args .line .now) (c .before .before .before .before .before .before .before .before .before .before .before .loop .at) (c .before .before .before .before .before .before .before .before .before .before .entry-end .result) (c .before .before .before .before .before .before .before .found .given .0 .0) (c .before .before .before .before .before .before .before .found .given .0 .1 .0) (c .before .before .before .before .before .before .before .before .before .entry-at .result) (c .before .before .before .before .before .before .before .before .before .before .entry-end .ensures) (c .before .before .before .before .before .before .before .before .before .entry-at .ensures) (c .before .before .before .before .before .before .before .found .given .1)) (c .before .before .is-repeated .result) (c .before .before .is-repeated .ensures) (c .before .if3 .left) (c .before .before .before .before .before .if2 .left) (c .if4 .taken)
+returns-5 c = listing-done (c .before .before .before .before .before .before .before .before .before .before .before .before .before .before .before .before .args .line .now) (c .before .before .before .before .before .before .before .before .before .before .before .before .before .loop .starts) (c .before .before .before .before .before .before .before .before .before .before .before .before .before .loop .lengths) (c .before .before .before .before .before .before .before .before .before .before .before .before .before .loop .kinds) (c .before .before .before .before .before .before .before .before .before .before .before .before .before .loop .count) (c .before .before .before .before .before .before .before .before .before .before .before .before .before .loop .at) (c .before .before .before .before .before .before .before .before .before .before .before .before .entry-end .result) (c .before .before .before .before .before .before .before .before .before .before .before .before .before .loop .inv .0) (c .before .before .before .before .before .before .before .before .before .before .before .before .entry-end .ensures) (c .before .before .before .before .before .before .before .before .before .found .given .0 .0) (c .before .before .before .before .before .before .before .before .before .found .given .0 .1 .0) (found (c .before .before .before .before .before .before .before .before .before .before .before .before .before .before .before .before .args .line .now) (c .before .before .before .before .before .before .before .before .before .before .before .before .before .loop .at) (c .before .before .before .before .before .before .before .before .before .before .before .before .entry-end .result) (c .before .before .before .before .before .before .before .before .before .found .given .0 .0) (c .before .before .before .before .before .before .before .before .before .found .given .0 .1 .0) (c .before .before .before .before .before .before .before .before .before .before .before .entry-at .result) (c .before .before .before .before .before .before .before .before .before .before .before .before .entry-end .ensures) (c .before .before .before .before .before .before .before .before .before .before .before .entry-at .ensures) (c .before .before .before .before .before .before .before .before .before .found .given .1)) (c .before .before .is-repeated .result) (c .before .before .is-repeated .ensures) (c .before .if3 .left) (c .before .before .before .before .before .before .before .if2 .left) (c .if4 .taken)
 
 add-at : tie.Need-add-at Inv-loop μ-loop
-add-at c = omega (arith, c .before .before .before .before .before .before .before .before .before .before .entry-end .ensures .inside, c .before .before .before .before .before .before .before .before .before .before .before .before .before .before .good .0 .0)
+add-at c = omega (arith, c .before .before .before .before .before .before .before .before .before .before .before .before .entry-end .ensures .inside, c .before .before .before .before .before .before .before .before .before .before .before .before .before .before .before .before .good .0 .0)
 
 loop-less : tie.Need-loop-less Inv-loop μ-loop
-loop-less c = let u = c .before .before .before .before .before .before .before .before .before .before .entry-end .ensures in omega (arith, u .from, u .inside, c .if4 .left)
+loop-less c = let u = c .before .before .before .before .before .before .before .before .before .before .before .before .entry-end .ensures in omega (arith, u .from, u .inside, c .if4 .left)
 
 loop-again : tie.Need-loop-again Inv-loop μ-loop
-loop-again c = listing-more (c .before .before .before .before .before .before .before .before .before .before .before .before .before .before .args .line .now) (c .before .before .before .before .before .before .before .before .before .before .before .loop .starts) (c .before .before .before .before .before .before .before .before .before .before .before .loop .lengths) (c .before .before .before .before .before .before .before .before .before .before .before .loop .kinds) (c .before .before .before .before .before .before .before .before .before .before .before .loop .count) (c .before .before .before .before .before .before .before .before .before .before .before .loop .at) (c .before .before .before .before .before .before .before .before .before .before .entry-end .result) (c .before .before .before .before .before .before .before .before .before .before .before .loop .inv) (c .before .before .before .before .before .before .before .before .before .before .entry-end .ensures) (c .before .before .before .before .before .before .before .found .given .0 .0) (c .before .before .before .before .before .before .before .found .given .0 .1 .0) (found (c .before .before .before .before .before .before .before .before .before .before .before .before .before .before .args .line .now) (c .before .before .before .before .before .before .before .before .before .before .before .loop .at) (c .before .before .before .before .before .before .before .before .before .before .entry-end .result) (c .before .before .before .before .before .before .before .found .given .0 .0) (c .before .before .before .before .before .before .before .found .given .0 .1 .0) (c .before .before .before .before .before .before .before .before .before .entry-at .result) (c .before .before .before .before .before .before .before .before .before .before .entry-end .ensures) (c .before .before .before .before .before .before .before .before .before .entry-at .ensures) (c .before .before .before .before .before .before .before .found .given .1)) (c .before .before .is-repeated .result) (c .before .before .is-repeated .ensures) (c .before .if3 .left) (c .before .before .before .before .before .if2 .left) (c .if4 .left)
+loop-again c = (listing-more (c .before .before .before .before .before .before .before .before .before .before .before .before .before .before .before .before .args .line .now) (c .before .before .before .before .before .before .before .before .before .before .before .before .before .loop .starts) (c .before .before .before .before .before .before .before .before .before .before .before .before .before .loop .lengths) (c .before .before .before .before .before .before .before .before .before .before .before .before .before .loop .kinds) (c .before .before .before .before .before .before .before .before .before .before .before .before .before .loop .count) (c .before .before .before .before .before .before .before .before .before .before .before .before .before .loop .at) (c .before .before .before .before .before .before .before .before .before .before .before .before .entry-end .result) (c .before .before .before .before .before .before .before .before .before .before .before .before .before .loop .inv .0) (c .before .before .before .before .before .before .before .before .before .before .before .before .entry-end .ensures) (c .before .before .before .before .before .before .before .before .before .found .given .0 .0) (c .before .before .before .before .before .before .before .before .before .found .given .0 .1 .0) (found (c .before .before .before .before .before .before .before .before .before .before .before .before .before .before .before .before .args .line .now) (c .before .before .before .before .before .before .before .before .before .before .before .before .before .loop .at) (c .before .before .before .before .before .before .before .before .before .before .before .before .entry-end .result) (c .before .before .before .before .before .before .before .before .before .found .given .0 .0) (c .before .before .before .before .before .before .before .before .before .found .given .0 .1 .0) (c .before .before .before .before .before .before .before .before .before .before .before .entry-at .result) (c .before .before .before .before .before .before .before .before .before .before .before .before .entry-end .ensures) (c .before .before .before .before .before .before .before .before .before .before .before .entry-at .ensures) (c .before .before .before .before .before .before .before .before .before .found .given .1)) (c .before .before .is-repeated .result) (c .before .before .is-repeated .ensures) (c .before .if3 .left) (c .before .before .before .before .before .before .before .if2 .left) (c .if4 .left), length-set (c .before .before .before .before .before .before .before .before .before .before .before .before .before .loop .marks) (c .before .before .before .before .before .before .before .before .before .before .before .before .before .loop .count) (c .before .before .before .before .before .before .mark-of .result) ∙ c .before .before .before .before .before .before .before .before .before .before .before .before .before .loop .inv .1, marked-more (c .before .before .before .before .before .before .before .before .before .before .before .before .before .before .before .before .args .line .now) (c .before .before .before .before .before .before .before .before .before .before .before .before .before .loop .starts) (c .before .before .before .before .before .before .before .before .before .before .before .before .before .loop .lengths) (c .before .before .before .before .before .before .before .before .before .before .before .before .before .loop .kinds) (c .before .before .before .before .before .before .before .before .before .before .before .before .before .loop .count) (c .before .before .before .before .before .before .before .before .before .before .before .before .before .loop .at) (c .before .before .before .before .before .before .before .before .before .before .before .before .entry-end .result) (c .before .before .before .before .before .before .before .before .before .before .before .before .before .loop .inv .0) (c .before .before .before .before .before .before .before .before .before .before .before .before .entry-end .ensures) (c .before .before .before .before .before .before .before .before .before .found .given .0 .0) (c .before .before .before .before .before .before .before .before .before .found .given .0 .1 .0) (found (c .before .before .before .before .before .before .before .before .before .before .before .before .before .before .before .before .args .line .now) (c .before .before .before .before .before .before .before .before .before .before .before .before .before .loop .at) (c .before .before .before .before .before .before .before .before .before .before .before .before .entry-end .result) (c .before .before .before .before .before .before .before .before .before .found .given .0 .0) (c .before .before .before .before .before .before .before .before .before .found .given .0 .1 .0) (c .before .before .before .before .before .before .before .before .before .before .before .entry-at .result) (c .before .before .before .before .before .before .before .before .before .before .before .before .entry-end .ensures) (c .before .before .before .before .before .before .before .before .before .before .before .entry-at .ensures) (c .before .before .before .before .before .before .before .before .before .found .given .1)) (c .before .before .is-repeated .result) (c .before .before .is-repeated .ensures) (c .before .if3 .left) (c .before .before .before .before .before .before .before .if2 .left) (c .before .before .before .before .before .before .before .before .before .before .before .before .before .loop .marks) (c .before .before .before .before .before .before .mark-of .result) (c .before .before .before .before .before .before .before .before .before .before .before .before .before .loop .inv .1) (c .before .before .before .before .before .before .before .before .before .before .before .before .before .loop .inv .2) (c .before .before .before .before .before .before .mark-of .ensures))
 
 pub read-names-spec : {M : Type 1} → statement M
 read-names-spec =
@@ -98,6 +109,7 @@ read-names-spec =
     returns-2
     no-names-requires-2
     returns-3
+    mark-of-requires
     is-repeated-requires
     no-names-requires-3
     returns-4
@@ -105,6 +117,8 @@ read-names-spec =
     array-write-starts
     mul-lengths
     array-write-lengths
+    mul-marks
+    array-write-marks
     array-write-kinds
     add-count
     returns-5

@@ -19,13 +19,13 @@ add-result : tie.Need-add-result
 add-result c = omega (arith, c .decimal-length .ensures, decimal-length-le 20 (c .before .before .args .step - 3) (omega arith) (omega arith))
 
 returns : tie.Need-returns
-returns c = search needs
+returns c = rw (c .match .keys1)
 
 returns-2 : tie.Need-returns-2
-returns-2 c = search needs
+returns-2 c = rw (c .match .keys2)
 
 returns-3 : tie.Need-returns-3
-returns-3 c = search needs
+returns-3 c = rw (c .match .keys3)
 
 returns-4 : tie.Need-returns-4
 returns-4 c = ap (λ (x : ℕ). x + 12) (c .decimal-length .ensures) ∙ sym (step-argument-length (c .before .before .args .step) (c .before .match .rest .0 .0 .1) (c .before .match .rest .0 .1) (c .before .match .rest .1))

@@ -1,0 +1,63 @@
+use mathlib.Core.Path.{sym, ap, _∙_}
+use mathlib.Core.List.{List}
+use Prim.Native.Nat.{ℕ, _+_, _*_}
+use native.Mathlib.Omega.{arith}
+use Rattle.layout.specs.Image.{row}
+use Rattle.paths.specs.Over.{over}
+use borrow.Author.Needs.{needs}
+use Rattle.lower.proofs.join.Statement.{statement}
+use Rattle.lower.proofs.join.Tie as tie
+use Rattle.lower.proofs.join.Reads as reads
+use Rattle.lower.proofs.join.Lts as lts
+use Rattle.lower.proofs.any.Reads as any-reads
+use Rattle.lower.proofs.put_row.Reads as put-row-reads
+use Rattle.lower.proofs.same.Reads as same-reads
+
+same-requires : tie.Need-same-requires
+same-requires c κs = search needs
+
+add-put-row : tie.Need-add-put-row
+add-put-row c = search needs
+
+add-put-row-2 : tie.Need-add-put-row-2
+add-put-row-2 c = search needs
+
+add-put-row-3 : tie.Need-add-put-row-3
+add-put-row-3 c = search needs
+
+put-row-requires : tie.Need-put-row-requires
+put-row-requires c κs = search needs
+
+put-row-requires-2 : tie.Need-put-row-requires-2
+put-row-requires-2 c κs = search needs
+
+any-requires : tie.Need-any-requires
+any-requires c κs = search needs
+
+add-t15 : tie.Need-add-t15
+add-t15 c = omega (arith, c .before .before .before .before .before .before .before .before .before .before .before .before .before .before .before .before .pre .1, c .before .before .before .before .before .before .before .before .before .before .before .before .before .before .before .before .good .0 .0)
+
+same-length : tie.Need-same-length
+same-length c = search needs
+
+returns : tie.Need-returns
+returns c = (rw (sym (c .before .before .before .before .before .before .before .before .before .before .before .before .before .before .same .ensures) ∙ c .before .before .before .before .before .before .before .before .before .before .before .before .before .if1 .taken, c .before .any .ensures), rw (sym (c .before .before .before .before .before .before .before .before .before .before .before .before .before .before .same .ensures) ∙ c .before .before .before .before .before .before .before .before .before .before .before .before .before .if1 .taken) (c .before .before .before .before .put-row2 .ensures ∙ ap (λ (x : List ℕ). over x (32 + 24 * c .before .before .before .before .before .before .before .before .before .before .before .before .before .before .before .before .args .g .code) (row 2 0 (c .before .before .before .before .before .before .before .before .before .before .before .before .before .before .before .before .args .e .reg) (c .before .before .before .before .before .before .before .before .before .before .before .before .before .before .before .before .args .z .a) 0 0 (c .before .before .before .before .before .before .before .before .before .before .before .before .before .before .before .before .args .k))) (c .before .before .before .before .before .before .before .before .put-row .ensures)))
+
+returns-2 : tie.Need-returns-2
+returns-2 c = (rw (sym (c .before .same .ensures) ∙ c .if1 .left), rw (sym (c .before .same .ensures) ∙ c .if1 .left))
+
+pub join-spec : {M : Type 1} → statement M
+join-spec =
+    tie.close
+    (tie.spec
+    same-requires
+    add-put-row
+    add-put-row-2
+    add-put-row-3
+    put-row-requires
+    put-row-requires-2
+    any-requires
+    add-t15
+    same-length
+    returns
+    returns-2)

@@ -1,0 +1,124 @@
+use borrow.Author.Tests.{ne-eqb}
+use borrow.Author.Needs.{needs}
+use Rattle.rules.proofs.binary_letter.Statement.{statement}
+use Rattle.rules.proofs.binary_letter.Tie as tie
+use Rattle.rules.proofs.binary_letter.Reads as reads
+use Rattle.rules.proofs.binary_letter.Lts as lts
+use Rattle.reader.proofs.byte.Reads as byte-reads
+
+slice-aggregate-byte : tie.Need-slice-aggregate-byte
+slice-aggregate-byte c = search needs
+
+byte-requires : tie.Need-byte-requires
+byte-requires c κs = search needs
+
+slice-aggregate-byte-2 : tie.Need-slice-aggregate-byte-2
+slice-aggregate-byte-2 c = search needs
+
+byte-requires-2 : tie.Need-byte-requires-2
+byte-requires-2 c κs = search needs
+
+slice-aggregate-byte-3 : tie.Need-slice-aggregate-byte-3
+slice-aggregate-byte-3 c = search needs
+
+byte-requires-3 : tie.Need-byte-requires-3
+byte-requires-3 c κs = search needs
+
+slice-aggregate-byte-4 : tie.Need-slice-aggregate-byte-4
+slice-aggregate-byte-4 c = search needs
+
+byte-requires-4 : tie.Need-byte-requires-4
+byte-requires-4 c κs = search needs
+
+slice-aggregate-byte-5 : tie.Need-slice-aggregate-byte-5
+slice-aggregate-byte-5 c = search needs
+
+byte-requires-5 : tie.Need-byte-requires-5
+byte-requires-5 c κs = search needs
+
+slice-aggregate-byte-6 : tie.Need-slice-aggregate-byte-6
+slice-aggregate-byte-6 c = search needs
+
+byte-requires-6 : tie.Need-byte-requires-6
+byte-requires-6 c κs = search needs
+
+slice-aggregate-byte-7 : tie.Need-slice-aggregate-byte-7
+slice-aggregate-byte-7 c = search needs
+
+byte-requires-7 : tie.Need-byte-requires-7
+byte-requires-7 c κs = search needs
+
+slice-aggregate-byte-8 : tie.Need-slice-aggregate-byte-8
+slice-aggregate-byte-8 c = search needs
+
+byte-requires-8 : tie.Need-byte-requires-8
+byte-requires-8 c κs = search needs
+
+slice-aggregate-byte-9 : tie.Need-slice-aggregate-byte-9
+slice-aggregate-byte-9 c = search needs
+
+byte-requires-9 : tie.Need-byte-requires-9
+byte-requires-9 c κs = search needs
+
+returns : tie.Need-returns
+returns c = rw (c .before .before .match .keys1) (c .byte .ensures)
+
+returns-2 : tie.Need-returns-2
+returns-2 c = rw (c .before .before .match .keys2) (c .byte2 .ensures)
+
+returns-3 : tie.Need-returns-3
+returns-3 c = rw (c .before .before .match .keys3) (c .byte3 .ensures)
+
+returns-4 : tie.Need-returns-4
+returns-4 c = rw (c .before .before .match .keys4) (c .byte4 .ensures)
+
+returns-5 : tie.Need-returns-5
+returns-5 c = rw (c .before .before .match .keys5) (c .byte5 .ensures)
+
+returns-6 : tie.Need-returns-6
+returns-6 c = rw (c .before .before .match .keys6) (c .byte6 .ensures)
+
+returns-7 : tie.Need-returns-7
+returns-7 c = rw (c .before .before .match .keys7) (c .byte7 .ensures)
+
+returns-8 : tie.Need-returns-8
+returns-8 c = rw (c .before .before .match .keys8) (c .byte8 .ensures)
+
+returns-9 : tie.Need-returns-9
+returns-9 c = rw (c .before .before .match .keys9) (c .byte9 .ensures)
+
+returns-10 : tie.Need-returns-10
+returns-10 c = rw (ne-eqb (c .before .args .q) 0x40 (c .match .rest .0 .0 .0 .0 .0 .0 .0 .0 .1), ne-eqb (c .before .args .q) 0x41 (c .match .rest .0 .0 .0 .0 .0 .0 .0 .1), ne-eqb (c .before .args .q) 0x42 (c .match .rest .0 .0 .0 .0 .0 .0 .1), ne-eqb (c .before .args .q) 0x43 (c .match .rest .0 .0 .0 .0 .0 .1), ne-eqb (c .before .args .q) 0x44 (c .match .rest .0 .0 .0 .0 .1), ne-eqb (c .before .args .q) 0x45 (c .match .rest .0 .0 .0 .1), ne-eqb (c .before .args .q) 0x46 (c .match .rest .0 .0 .1), ne-eqb (c .before .args .q) 0x47 (c .match .rest .0 .1), ne-eqb (c .before .args .q) 0x48 (c .match .rest .1))
+
+pub binary-letter-spec : {M : Type 1} → statement M
+binary-letter-spec =
+    tie.close
+    (tie.spec
+    slice-aggregate-byte
+    byte-requires
+    slice-aggregate-byte-2
+    byte-requires-2
+    slice-aggregate-byte-3
+    byte-requires-3
+    slice-aggregate-byte-4
+    byte-requires-4
+    slice-aggregate-byte-5
+    byte-requires-5
+    slice-aggregate-byte-6
+    byte-requires-6
+    slice-aggregate-byte-7
+    byte-requires-7
+    slice-aggregate-byte-8
+    byte-requires-8
+    slice-aggregate-byte-9
+    byte-requires-9
+    returns
+    returns-2
+    returns-3
+    returns-4
+    returns-5
+    returns-6
+    returns-7
+    returns-8
+    returns-9
+    returns-10)
