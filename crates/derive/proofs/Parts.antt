@@ -1,11 +1,12 @@
 -- The parts of derive: the formula itself, what its survey found, and what is written.
+use lib.Seq.{length-take-le}
 use mathlib.Core.Path.{_≡_, refl, sym, ap, _∙_, subst}
 use mathlib.Core.Bool.{Bool, true, false, cond, _&&_}
 use mathlib.Core.List.{List, _++_, append-assoc}
 use mathlib.Core.Option.{Option, none, some}
 use Prim.Native.Nat.{ℕ, _+_, _-_, _*_, _%_, _≤_, _<_, min}
 use native.Mathlib.Omega.{arith}
-use lib.ListN.{length, take, getD}
+use lib.ListN.{length, take, getD, length-append, drop}
 use lib.Dec.{eqb, leb}
 use borrow.Author.Tests.{le-leb, lt-leb}
 use Rattle.formula.specs.Text.{zeros}
@@ -20,10 +21,11 @@ use Rattle.machine.specs.Compile.{filled, own-context}
 use Rattle.layout.specs.Image.{image}
 use Rattle.layout.specs.Opcode.{kind-number}
 use Rattle.reader.specs.Read.{is-some}
+use Rattle.reader.proofs.Trees.{size-pos}
 use Rattle.reader.proofs.Scan.{whole}
 use Rattle.lower.specs.Piece.{context-of}
 use Rattle.compile.specs.Outcome.{Fits, fault-place, number-of, slice-after}
-use Rattle.compile.proofs.Entries.{all-fit, few, first-fault, long, near-fault, no-fault, same-fault}
+use Rattle.compile.proofs.Entries.{all-fit, few, first-fault, long, low, near-fault, no-fault, same-fault}
 use Rattle.derivative.specs.Attributes.{Attributes, attributes-of, derivative-attributes, primal-attributes, survey}
 use Rattle.derivative.specs.Differentiate.{and-then, derivative}
 use Rattle.derivative.specs.Derive.{Derived, derive}
@@ -31,7 +33,6 @@ use Rattle.derivative.proofs.Attributes.{derivative-right, map-option}
 use Rattle.survey.specs.Table.{Room, found, reading, tree}
 use Rattle.survey.specs.declared.Attributes as Declared
 use Rattle.survey.specs.declared.Found.{Found}
-use Rattle.differentiate.proofs.Whole.{room-of}
 use Rattle.derive.specs.Outcome.{Formed, Leaves, Lowers}
 use Rattle.derive.specs.declared.Answer.{Answer}
 
@@ -48,6 +49,14 @@ both false v e = absurd (let w : _≡_ {A = ℕ} 0 1 = cc in omega arith)
 module _ (b K : List ℕ) (f : Formula) (ss : List Symbol) (F : Formed b K f ss) where
   pub small : 15 * length b ≤ 61440
   small = omega (arith, few b f (F .formed) (F .limit), long b f (F .formed) (F .limit))
+
+  pub one-node : 16 ≤ length b
+  one-node = omega (arith, size-pos f, long b f (F .formed) (F .limit))
+
+  -- the kind's byte is in the slice lent for the program, of which `part` is the start
+  pub kind-inside : (part own : List ℕ) → length part ≡ length (take (15 * length b) own) → 15 * length b ≤ length own → 20 < length (part ++ drop (15 * length b) own)
+  kind-inside part own e h =
+      omega (arith, one-node, length-append part (drop (15 * length b) own), length-take-le (15 * length b) own h)
 
   pub fits-own : (path program : ℕ) → 8192 ≤ path → 15 * length b ≤ program → Fits b 32 program path
   fits-own = all-fit b f (F .formed) (F .limit)
@@ -112,8 +121,11 @@ module _ (b : List ℕ) (f : Formula) (formed : formula-of b ≡ some f) (limit 
   unfolding tree
   tree-at-is = tree-is
 
-  pub surveyed-room : (T : List ℕ) → 2048 ≤ length T → Room b T 0 32
-  surveyed-room T l = room-of b T (ap (λ (o : Option Formula). is-some o) formed) (ap (within 256 32) tree-at-is ∙ limit) l
+  pub surveyed-room : (T : List ℕ) → length b ≤ 2 * length T → Room b T 0 32
+  unfolding tree
+  surveyed-room T l =
+      let h = whole b (ap (λ (o : Option Formula). is-some o) formed) in
+      record { formed = h .0; deep = omega (arith, ap depth tree-at-is, low b f formed limit); long = omega (arith, h .1) }
 
   module _ (s : ℕ) (st : Bool) (r : Found) (e : found r ≡ survey s st (tree b 0)) where
     surveys : found r ≡ survey s st f

@@ -2,7 +2,7 @@
 ghost use mathlib.Core.Path.{_≡_};
 ghost use mathlib.Core.List.{List};
 ghost use mathlib.Core.Option.{some};
-ghost use Prim.Native.Nat.{_≤_};
+ghost use Prim.Native.Nat.{_*_, _≤_};
 ghost use lib.ListN.{length};
 ghost use Rattle.formula.specs.Text.{zeros};
 ghost use Rattle.formula.specs.Formula.{Formula, size};
@@ -71,7 +71,7 @@ fn derive_number(
     tree: &mut [u8],
     program: &mut [u8],
 ) -> Answer
-    requires { ⌜ (2048 ≤ length (now table)) × (8192 ≤ length (now path)) × ((f : Formula) × (ss : List Symbol) × Derivable (now formula) (now kinds) (by .symbol) (by .state) f ss) ⌝ }
+    requires { ⌜ (length (now formula) ≤ 2 * length (now table)) × (8192 ≤ length (now path)) × ((f : Formula) × (ss : List Symbol) × Derivable (now formula) (now kinds) (by .symbol) (by .state) f ss) ⌝ }
     ensures { λ r. ⌜ ((f : Formula) (ss : List Symbol) → Derivable (now (formula .entry)) (now (kinds .entry)) (by .symbol) (by .state) f ss → Leaves (fitted (length (now (tree .entry))) (length (now (program .entry))) ss (derivative (by .symbol) (by-state ss (by .symbol)) f)) r (now (path .entry)) (now (path .exit)) (now (tree .entry)) (now (tree .exit)) (now (program .entry)) (now (program .exit))) ⌝ }
 {
     let found = survey_formula(formula, 32, by, table);
@@ -109,7 +109,7 @@ struct Lowered {
 
 // Lowers the formula itself into memory that is not the caller's: "Every refusal leaves the program slice unchanged."
 fn lower_into(formula: &[u8], kinds: &[u8], path: &mut [u8], own: &mut [u8]) -> Lowered
-    requires { ⌜ (61440 ≤ length (now own)) × (8192 ≤ length (now path)) × ((f : Formula) × (ss : List Symbol) × Formed (now formula) (now kinds) f ss) ⌝ }
+    requires { ⌜ (15 * length (now formula) ≤ length (now own)) × (8192 ≤ length (now path)) × ((f : Formula) × (ss : List Symbol) × Formed (now formula) (now kinds) f ss) ⌝ }
     ensures { λ r. ⌜ ((f : Formula) (ss : List Symbol) → Formed (now (formula .entry)) (now (kinds .entry)) f ss → Lowers f (fault (own-context ss) (term f) root) r (now (path .entry)) (now (path .exit))) ⌝ }
 {
     let n = write(
@@ -126,10 +126,15 @@ fn lower_into(formula: &[u8], kinds: &[u8], path: &mut [u8], own: &mut [u8]) -> 
     }
 }
 
+// A small formula has a small array, as all of it is cleared.
 fn lower_own(formula: &[u8], kinds: &[u8], path: &mut [u8]) -> Lowered
     requires { ⌜ (8192 ≤ length (now path)) × ((f : Formula) × (ss : List Symbol) × Formed (now formula) (now kinds) f ss) ⌝ }
     ensures { λ r. ⌜ ((f : Formula) (ss : List Symbol) → Formed (now (formula .entry)) (now (kinds .entry)) f ss → Lowers f (fault (own-context ss) (term f) root) r (now (path .entry)) (now (path .exit))) ⌝ }
 {
+    if formula.len() <= 512 {
+        let mut small = [0u8; 7680];
+        return lower_into(formula, kinds, path, &mut small);
+    }
     let mut own = [0u8; 61440];
     lower_into(formula, kinds, path, &mut own)
 }
@@ -163,6 +168,10 @@ fn derive_formula(
         symbol: symbol,
         state: kinds[symbol] == 1,
     };
+    if formula.len() <= 512 {
+        let mut small = [0usize; 256];
+        return derive_number(formula, kinds, by, &mut small, path, tree, program);
+    }
     let mut table = [0usize; 2048];
     derive_number(formula, kinds, by, &mut table, path, tree, program)
 }

@@ -7,39 +7,14 @@ use Prim.Native.Nat.{ℕ, zero, suc, _+_, _-_, _*_, _/_, _%_, _≤_, _<_}
 use native.Mathlib.Omega.{arith}
 use lib.ListN.{length, getD, take, drop, set, length-drop, length-set}
 use lib.Seq.{drop-cons, getD-take, getD-drop, length-take-le, drop-set-lt, getD-set-same, drop-length}
-use lib.Dec.{eqb}
-use borrow.Author.Tests.{eqb-true, eqb-false, ne-eqb, eq-eqb}
+use lib.Dec.{eqb, ltb}
+use borrow.Author.Tests.{eqb-true, eqb-false, ltb-true, ltb-false, ne-eqb, eq-eqb}
 use Rattle.formula.specs.Text.{joined, all-some}
 use Rattle.formula.specs.Values.{hex-digits, found, place-in, digit-of, of-digits, numbered, value-of, digits-in, hex}
 use Rattle.names.specs.Lines.{place, bits}
 use Rattle.names.specs.declared.Value.the-variants.{Bits, NoValue}
 
 -- ---- the table
-
--- the search from a place of the table on
-unfoldable pub looked : ℕ → ℕ → Option ℕ
-looked b i = place-in (drop i hex-digits) i b
-
-pub looked-start : (b : ℕ) → digit-of b ≡ looked b 0
-unfolding looked
-looked-start b = refl
-
-looked-step : (b i : ℕ) → i < 16 → looked b i ≡ found (eqb (getD hex-digits i 0) b) i (looked b (i + 1))
-unfolding looked
-looked-step b i h =
-    let e : suc i ≡ i + 1 = omega arith in
-    ap (λ (ds : List ℕ). place-in ds i b) (drop-cons hex-digits i 0 h)
-    ∙ ap (λ (j : ℕ). found (eqb (getD hex-digits i 0) b) i (place-in (drop j hex-digits) j b)) e
-
-pub looked-hit : (b i : ℕ) → i < 16 → getD hex-digits i 0 ≡ b → looked b i ≡ some i
-looked-hit b i h e = looked-step b i h ∙ ap (λ (t : Bool). found t i (looked b (i + 1))) (eq-eqb (getD hex-digits i 0) b e)
-
-pub looked-miss : (b i : ℕ) → i < 16 → (getD hex-digits i 0 ≡ b → ⊥) → looked b i ≡ looked b (i + 1)
-looked-miss b i h e = looked-step b i h ∙ ap (λ (t : Bool). found t i (looked b (i + 1))) (ne-eqb (getD hex-digits i 0) b e)
-
-pub looked-end : (b i : ℕ) → i ≡ 16 → looked b i ≡ none
-unfolding looked
-looked-end b i e = ap (λ (j : ℕ). place-in (drop j hex-digits) j b) e
 
 below-by : (t : Bool) (i n : ℕ) (o : Option ℕ) → i < n → ((d : ℕ) → o ≡ some d → d < n) → (d : ℕ) → found t i o ≡ some d → d < n
 below-by true i n o h k d e = let q : i ≡ d = cc in omega arith
@@ -66,6 +41,49 @@ digit-is b r e h = place-is (digit-of b) r (digit-below b) e h
 
 pub digit-no : (b r : ℕ) → r ≡ place (digit-of b) → r ≡ 16 → digit-of b ≡ none
 digit-no b r e h = place-no (digit-of b) r (digit-below b) e h
+
+-- ---- the one place that is looked at
+
+abbrev pub place-of-byte : ℕ → ℕ
+place-of-byte b = (b % 16 + 9 * (b / 64)) % 16
+
+-- what is found there
+abbrev place-right : ℕ → Bool
+place-right b = eqb (cond (eqb (getD hex-digits (place-of-byte b) 0) b) (place-of-byte b) 16) (place (digit-of b))
+
+abbrev all-right : ℕ → Bool
+all-right zero = true
+all-right (suc n) = cond (place-right n) (all-right n) false
+
+less : (b n : ℕ) → b < suc n → (b ≡ n → ⊥) → b < n
+less b n l k = less-by (ltb b n) refl
+  where
+    less-by : (t : Bool) → ltb b n ≡ t → b < n
+    less-by true p = ltb-true b n p
+    less-by false p = let m = ltb-false b n p in absurd (k (omega arith))
+
+right-below-by : (t u : Bool) (n b : ℕ) → place-right n ≡ t → eqb b n ≡ u → cond t (all-right n) false ≡ true → b < suc n → (b < n → all-right n ≡ true → place-right b ≡ true)
+    → place-right b ≡ true
+right-below-by false u n b e q h l r = absurd (let z : _≡_ {A = ℕ} 0 1 = cc in omega arith)
+right-below-by true true n b e q h l r = ap place-right (eqb-true b n q) ∙ e
+right-below-by true false n b e q h l r = r (less b n l (eqb-false b n q)) h
+
+right-below : (n b : ℕ) → all-right n ≡ true → b < n → place-right b ≡ true
+right-below zero b h l = absurd (omega arith)
+right-below (suc n) b h l = right-below-by (place-right n) (eqb b n) n b refl refl h l (λ k g. right-below n b g k)
+
+byte-right : (b : ℕ) → b < 256 → place-right b ≡ true
+byte-right b l = right-below 256 b refl l
+
+pub digit-there : (b : ℕ) → b < 256 → getD hex-digits (place-of-byte b) 0 ≡ b → place-of-byte b ≡ place (digit-of b)
+digit-there b l e =
+    sym (ap (λ (t : Bool). cond t (place-of-byte b) 16) (eq-eqb (getD hex-digits (place-of-byte b) 0) b e))
+    ∙ eqb-true (cond (eqb (getD hex-digits (place-of-byte b) 0) b) (place-of-byte b) 16) (place (digit-of b)) (byte-right b l)
+
+pub digit-nowhere : (b : ℕ) → b < 256 → (getD hex-digits (place-of-byte b) 0 ≡ b → ⊥) → 16 ≡ place (digit-of b)
+digit-nowhere b l e =
+    sym (ap (λ (t : Bool). cond t (place-of-byte b) 16) (ne-eqb (getD hex-digits (place-of-byte b) 0) b e))
+    ∙ eqb-true (cond (eqb (getD hex-digits (place-of-byte b) 0) b) (place-of-byte b) 16) (place (digit-of b)) (byte-right b l)
 
 -- ---- a value
 

@@ -13,16 +13,14 @@ ghost use Rattle.names.specs.Lines.{place, bits, Piece-read, answer, fil
 // "Hex digits come from a table of sixteen bytes."
 const DIGITS: [u8; 16] = *b"0123456789abcdef";
 
-// The place of a byte in the table, or 16.
-fn digit(b: u8) -> u64
+// The place of a byte in the table, or 16. A byte can stand at one place only, which is looked at: 0 to 9 for bytes below 64,
+// and 10 to 15 for the letters, whose last four bits count from 1.
+pub fn digit(b: u8) -> u64
     ensures { λ r. ⌜ (r ≡ place (digit-of b)) × (r ≤ 16) ⌝ }
 {
-    let mut i = 0;
-    while i < 16 {
-        if DIGITS[i] == b {
-            return i as u64;
-        }
-        i += 1;
+    let i = ((b % 16 + 9 * (b / 64)) % 16) as usize;
+    if DIGITS[i] == b {
+        return i as u64;
     }
     16
 }

@@ -310,7 +310,8 @@ fn write_place(p: &[u8], answer: Answer, path: &mut [u8])
     }
 }
 
-fn run_reply(
+// A run of bytes that were checked before, with the place of a refusal left to the caller to write.
+pub fn run_reply(
     p: &[u8],
     inputs: &[f64],
     regs: &mut [f64],

@@ -3,7 +3,7 @@ use Prim.Native.Nat.{_*_}
 use native.Mathlib.Omega.{arith}
 use lib.ListN.{length}
 use lib.Seq.{length-take-le}
-use Rattle.derive.proofs.Parts.{fits-own, lowers, small}
+use Rattle.derive.proofs.Parts.{fits-own, kind-inside, lowers, small}
 use borrow.Author.Needs.{needs}
 use Rattle.derive.proofs.lower_into.Statement.{statement}
 use Rattle.derive.proofs.lower_into.Tie as tie
@@ -21,7 +21,7 @@ write-requires : tie.Need-write-requires
 write-requires c κs = fits-own (c .before .before .before .before .before .before .args .formula .now) (c .before .before .before .before .before .before .args .kinds .now) (c .before .before .before .before .before .before .pre .2 .0) (c .before .before .before .before .before .before .pre .2 .1) (c .before .before .before .before .before .before .pre .2 .2) _ _ (c .before .before .before .before .before .before .pre .1) (omega (arith, length-take-le (15 * length (c .before .before .before .before .before .before .args .formula .now)) (c .before .before .before .before .before .before .args .own .now) (omega (arith, small (c .before .before .before .before .before .before .args .formula .now) (c .before .before .before .before .before .before .args .kinds .now) (c .before .before .before .before .before .before .pre .2 .0) (c .before .before .before .before .before .before .pre .2 .1) (c .before .before .before .before .before .before .pre .2 .2), c .before .before .before .before .before .before .pre .0))))
 
 slice-read-t13 : tie.Need-slice-read-t13
-slice-read-t13 c = search needs
+slice-read-t13 c = kind-inside (c .before .before .before .before .before .before .before .before .before .before .before .before .args .formula .now) (c .before .before .before .before .before .before .before .before .before .before .before .before .args .kinds .now) (c .before .before .before .before .before .before .before .before .before .before .before .before .pre .2 .0) (c .before .before .before .before .before .before .before .before .before .before .before .before .pre .2 .1) (c .before .before .before .before .before .before .before .before .before .before .before .before .pre .2 .2) (c .before .before .before .before .before .write .last .1 .0) (c .before .before .before .before .before .before .before .before .before .before .before .before .args .own .now) (c .before .before .before .before .before .write .kept .1 .0) (c .before .before .before .before .before .before .before .before .before .before .before .before .pre .0)
 
 same-length : tie.Need-same-length
 same-length c = search needs

@@ -1,4 +1,5 @@
 use native.Mathlib.Omega.{arith}
+use Rattle.derive.proofs.Parts.{small}
 use borrow.Author.Needs.{needs}
 use Rattle.derive.proofs.lower_own.Statement.{statement}
 use Rattle.derive.proofs.lower_own.Tie as tie
@@ -7,7 +8,7 @@ slice-aggregate-lower-into : tie.Need-slice-aggregate-lower-into
 slice-aggregate-lower-into c = search needs
 
 lower-into-requires : tie.Need-lower-into-requires
-lower-into-requires c κs = (omega arith, c .before .before .before .before .before .pre .0, c .before .before .before .before .before .pre .1)
+lower-into-requires c κs = search needs
 
 same-length : tie.Need-same-length
 same-length c = search needs
@@ -15,6 +16,27 @@ same-length c = search needs
 returns : tie.Need-returns
 returns c = search needs
 
+slice-aggregate-lower-into-2 : tie.Need-slice-aggregate-lower-into-2
+slice-aggregate-lower-into-2 c = search needs
+
+lower-into-requires-2 : tie.Need-lower-into-requires-2
+lower-into-requires-2 c κs = (omega (arith, small (c .before .before .before .before .before .before .args .formula .now) (c .before .before .before .before .before .before .args .kinds .now) (c .before .before .before .before .before .before .pre .1 .0) (c .before .before .before .before .before .before .pre .1 .1) (c .before .before .before .before .before .before .pre .1 .2)), c .before .before .before .before .before .before .pre .0, c .before .before .before .before .before .before .pre .1)
+
+same-length-2 : tie.Need-same-length-2
+same-length-2 c = search needs
+
+returns-2 : tie.Need-returns-2
+returns-2 c = search needs
+
 pub lower-own-spec : {M : Type 1} → statement M
 lower-own-spec =
-    tie.close (tie.spec slice-aggregate-lower-into lower-into-requires same-length returns)
+    tie.close
+    (tie.spec
+    slice-aggregate-lower-into
+    lower-into-requires
+    same-length
+    returns
+    slice-aggregate-lower-into-2
+    lower-into-requires-2
+    same-length-2
+    returns-2)

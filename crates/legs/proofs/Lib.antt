@@ -1,0 +1,2 @@
+-- Laws of feeding blocks.
+pub mod Feeding

@@ -1,0 +1,127 @@
+use lib.Seq.{length-take-le}
+use mathlib.Core.Path.{sym, _∙_}
+use native.Mathlib.Omega.{arith}
+use borrow.Author.Needs.{needs}
+use Rattle.legs.proofs.list.Statement.{statement}
+use Rattle.legs.proofs.list.Tie as tie
+
+start-requires : tie.Need-start-requires
+start-requires c κs = search needs
+
+slice-reshare-prefix-write-all : tie.Need-slice-reshare-prefix-write-all
+slice-reshare-prefix-write-all c = search needs
+
+slice-aggregate-write-all : tie.Need-slice-aggregate-write-all
+slice-aggregate-write-all c = sym (length-take-le (c .before .before .before .start .result .length) (c .before .before .before .start .last .1 .1 .0) (omega (arith, c .before .before .before .start .ensures .1, c .before .before .before .start .kept .1 .1 .0)))
+
+write-all-requires : tie.Need-write-all-requires
+write-all-requires c κs = search needs
+
+same-length : tie.Need-same-length
+same-length c = search needs
+
+returns : tie.Need-returns
+returns c = search needs
+
+feed-all-requires : tie.Need-feed-all-requires
+feed-all-requires c κs = search needs
+
+enum-known-fed : tie.Need-enum-known-fed
+enum-known-fed c = search needs
+
+enum-told : tie.Need-enum-told
+enum-told c = search needs
+
+same-length-2 : tie.Need-same-length-2
+same-length-2 c = search needs
+
+same-length-3 : tie.Need-same-length-3
+same-length-3 c = search needs
+
+same-length-4 : tie.Need-same-length-4
+same-length-4 c = search needs
+
+same-length-5 : tie.Need-same-length-5
+same-length-5 c = search needs
+
+same-length-6 : tie.Need-same-length-6
+same-length-6 c = search needs
+
+same-length-7 : tie.Need-same-length-7
+same-length-7 c = search needs
+
+same-length-8 : tie.Need-same-length-8
+same-length-8 c = search needs
+
+returns-2 : tie.Need-returns-2
+returns-2 c = search needs
+
+finish-requires : tie.Need-finish-requires
+finish-requires c κs = search needs
+
+slice-reshare-prefix-write-all-2 : tie.Need-slice-reshare-prefix-write-all-2
+slice-reshare-prefix-write-all-2 c = search needs
+
+slice-aggregate-write-all-2 : tie.Need-slice-aggregate-write-all-2
+slice-aggregate-write-all-2 c = sym (length-take-le (c .before .before .before .before .before .before .before .before .before .before .before .finish .result) (c .before .before .before .before .before .before .before .before .before .before .before .finish .last .1 .1 .1 .1 .1 .1 .1 .0) (omega (arith, c .before .before .before .before .before .before .before .before .before .before .before .finish .ensures .1, c .before .before .before .before .before .before .before .before .before .before .before .finish .kept .1 .1 .1 .1 .1 .1 .1 .0)))
+
+write-all-requires-2 : tie.Need-write-all-requires-2
+write-all-requires-2 c κs = search needs
+
+same-length-9 : tie.Need-same-length-9
+same-length-9 c = search needs
+
+same-length-10 : tie.Need-same-length-10
+same-length-10 c = search needs
+
+same-length-11 : tie.Need-same-length-11
+same-length-11 c = search needs
+
+same-length-12 : tie.Need-same-length-12
+same-length-12 c = search needs
+
+same-length-13 : tie.Need-same-length-13
+same-length-13 c = search needs
+
+same-length-14 : tie.Need-same-length-14
+same-length-14 c = search needs
+
+same-length-15 : tie.Need-same-length-15
+same-length-15 c = c .before .before .before .before .before .before .before .before .before .before .before .before .finish .kept .1 .1 .1 .1 .1 .1 .1 .0 ∙ (c .before .before .before .before .before .before .before .before .before .before .before .before .before .before .before .before .before .before .before .before .before .before .before .before .before .before .before .before .before .before .before .before .before .before .before .before .feed-all .kept .1 .1 .1 .1 .1 .1 .1 .1 .0 ∙ c .before .before .before .before .before .before .before .before .before .before .before .before .before .before .before .before .before .before .before .before .before .before .before .before .before .before .before .before .before .before .before .before .before .before .before .before .before .before .before .before .before .before .before .before .before .before .before .before .before .start .kept .1 .1 .0)
+
+returns-3 : tie.Need-returns-3
+returns-3 c = search needs
+
+pub list-spec : {M : Type 1} → statement M
+list-spec =
+    tie.close
+    (tie.spec
+    start-requires
+    slice-reshare-prefix-write-all
+    slice-aggregate-write-all
+    write-all-requires
+    same-length
+    returns
+    feed-all-requires
+    enum-known-fed
+    enum-told
+    same-length-2
+    same-length-3
+    same-length-4
+    same-length-5
+    same-length-6
+    same-length-7
+    same-length-8
+    returns-2
+    finish-requires
+    slice-reshare-prefix-write-all-2
+    slice-aggregate-write-all-2
+    write-all-requires-2
+    same-length-9
+    same-length-10
+    same-length-11
+    same-length-12
+    same-length-13
+    same-length-14
+    same-length-15
+    returns-3)

@@ -1,0 +1,3 @@
+-- What `legs` reads.
+pub mod File
+pub mod Fed

@@ -1,0 +1,14 @@
+-- Laws of lines.
+pub mod Pieces
+pub mod Readings
+pub mod Parts
+pub mod Texts
+pub mod Runs
+pub mod Newlines
+pub mod Listings
+pub mod Keeping
+pub mod Places
+pub mod Begins
+pub mod NameLines
+pub mod Stages
+pub mod Compose

@@ -1,0 +1,138 @@
+use Rattle.lines.proofs.Listings.{Listing-on, lt-max, lt-of, on-line, on-read, on-start, so-far-is}
+use Rattle.lines.proofs.Runs.{ready-same}
+use Rattle.layout.specs.Decode.{program-at}
+use lib.ListN.{length}
+use native.Mathlib.Omega.{arith}
+use Prim.Native.Nat.{_+_, _-_}
+use mathlib.Core.Path.{refl, _∙_}
+use Rattle.lines.proofs.list_values.Statement.{statement}
+use Rattle.lines.proofs.list_values.Tie as tie
+
+abbrev Inv-loop : tie.InvT-loop
+Inv-loop p input number values₀ regs₀ out₀ at₀ length₀ n₀ reading₀ values regs out at length n reading = Listing-on p input number reading₀ values₀ regs₀ out₀ values regs out at length n reading
+
+abbrev μ-loop : tie.MeasureT-loop
+μ-loop p input number values₀ regs₀ out₀ at₀ length₀ n₀ reading₀ values regs out at length n reading = lib.ListN.length input - at
+
+loop-holds : tie.Need-loop-holds Inv-loop μ-loop
+loop-holds c = on-start (c .before .before .before .before .before .args .p .now) (c .before .before .before .before .before .args .input .now) (c .before .before .before .before .before .args .number) (c .before .before .before .before .before .args .s) (c .before .before .before .before .before .args .values .now) (c .before .before .before .before .before .args .regs .now) (c .before .before .before .before .before .args .out .now) (c .before .before .before .before .before .fits .number .fits)
+
+read-part-requires : tie.Need-read-part-requires Inv-loop μ-loop
+read-part-requires c κs = c .before .before .loop .inv .inside
+
+so-far-requires : tie.Need-so-far-requires Inv-loop μ-loop
+so-far-requires c κs = tt
+
+same-length : tie.Need-same-length Inv-loop μ-loop
+same-length c = c .before .before .before .before .before .read-part .kept .1 .1 .1 .0 ∙ c .before .before .before .before .before .before .before .before .loop .inv .same-values
+
+same-length-2 : tie.Need-same-length-2 Inv-loop μ-loop
+same-length-2 c = c .before .before .before .before .before .before .before .before .loop .inv .same-regs
+
+same-length-3 : tie.Need-same-length-3 Inv-loop μ-loop
+same-length-3 c = c .before .before .before .before .before .before .before .before .loop .inv .same-out
+
+returns : tie.Need-returns Inv-loop μ-loop
+returns c = so-far-is (program-at (c .before .before .before .before .before .before .before .before .before .before .before .before .before .before .args .p .now)) (c .before .before .before .before .before .before .before .before .before .before .before .before .before .before .args .input .now) (c .before .before .before .before .before .before .before .before .before .before .before .before .before .before .args .number) (c .before .before .before .before .before .before .before .before .before .before .before .before .before .before .args .s) (c .before .before .before .before .before .before .before .before .before .before .before .before .before .before .args .values .now) (c .before .before .before .before .before .read-part .last .1 .1 .1 .0) (c .before .before .before .before .before .before .before .before .before .before .before .before .before .before .args .out .now) (c .before .before .before .before .before .before .before .before .loop .out) (c .so-far .result) (c .before .before .before .before .before .before .before .before .loop .n) (c .before .before .before .before .before .read-part .result .reading) (c .before .before .before .before .before .read-part .result .end) (c .before .before .before .before .before .before .before .before .loop .length) (c .so-far .ensures) (c .before .before .before .before .before .read-part .ensures .0 .1) (c .before .before .before .before .before .before .before .before .loop .inv .short) (c .before .before .before .before .before .before .before .before .loop .inv .same-out) (on-read (c .before .before .before .before .before .before .before .before .before .before .before .before .before .before .args .p .now) (c .before .before .before .before .before .before .before .before .before .before .before .before .before .before .args .input .now) (c .before .before .before .before .before .before .before .before .before .before .before .before .before .before .args .number) (c .before .before .before .before .before .before .before .before .before .before .before .before .before .before .args .s) (c .before .before .before .before .before .before .before .before .before .before .before .before .before .before .args .values .now) (c .before .before .before .before .before .before .before .before .before .before .before .before .before .before .args .regs .now) (c .before .before .before .before .before .before .before .before .before .before .before .before .before .before .args .out .now) (c .before .before .before .before .before .before .before .before .loop .values) (c .before .before .before .before .before .before .before .before .loop .regs) (c .before .before .before .before .before .before .before .before .loop .out) (c .before .before .before .before .before .before .before .before .loop .at) (c .before .before .before .before .before .before .before .before .loop .length) (c .before .before .before .before .before .before .before .before .loop .n) (c .before .before .before .before .before .before .before .before .loop .reading) (c .before .before .before .before .before .before .before .before .loop .inv) (c .before .before .before .before .before .read-part .result .end) (c .before .before .before .before .before .read-part .result .reading) (c .before .before .before .before .before .read-part .last .1 .1 .1 .0) (c .before .before .before .before .before .read-part .ensures .0 .0) (c .before .before .before .before .before .read-part .ensures .0 .2) (c .before .before .before .before .before .read-part .ensures .1))
+
+sub-if2 : tie.Need-sub-if2 Inv-loop μ-loop
+sub-if2 c = c .before .before .before .before .before .before .before .loop .inv .short
+
+so-far-requires-2 : tie.Need-so-far-requires-2 Inv-loop μ-loop
+so-far-requires-2 c κs = tt
+
+same-length-4 : tie.Need-same-length-4 Inv-loop μ-loop
+same-length-4 c = c .before .before .before .before .before .before .read-part .kept .1 .1 .1 .0 ∙ c .before .before .before .before .before .before .before .before .before .loop .inv .same-values
+
+same-length-5 : tie.Need-same-length-5 Inv-loop μ-loop
+same-length-5 c = c .before .before .before .before .before .before .before .before .before .loop .inv .same-regs
+
+same-length-6 : tie.Need-same-length-6 Inv-loop μ-loop
+same-length-6 c = c .before .before .before .before .before .before .before .before .before .loop .inv .same-out
+
+returns-2 : tie.Need-returns-2 Inv-loop μ-loop
+returns-2 c = so-far-is (program-at (c .before .before .before .before .before .before .before .before .before .before .before .before .before .before .before .args .p .now)) (c .before .before .before .before .before .before .before .before .before .before .before .before .before .before .before .args .input .now) (c .before .before .before .before .before .before .before .before .before .before .before .before .before .before .before .args .number) (c .before .before .before .before .before .before .before .before .before .before .before .before .before .before .before .args .s) (c .before .before .before .before .before .before .before .before .before .before .before .before .before .before .before .args .values .now) (c .before .before .before .before .before .before .read-part .last .1 .1 .1 .0) (c .before .before .before .before .before .before .before .before .before .before .before .before .before .before .before .args .out .now) (c .before .before .before .before .before .before .before .before .before .loop .out) (c .so-far2 .result) (c .before .before .before .before .before .before .before .before .before .loop .n) (c .before .before .before .before .before .before .read-part .result .reading) (c .before .before .before .before .before .before .read-part .result .end) (c .before .before .before .before .before .before .before .before .before .loop .length) (c .so-far2 .ensures) (c .before .before .before .before .before .before .read-part .ensures .0 .1) (c .before .before .before .before .before .before .before .before .before .loop .inv .short) (c .before .before .before .before .before .before .before .before .before .loop .inv .same-out) (on-read (c .before .before .before .before .before .before .before .before .before .before .before .before .before .before .before .args .p .now) (c .before .before .before .before .before .before .before .before .before .before .before .before .before .before .before .args .input .now) (c .before .before .before .before .before .before .before .before .before .before .before .before .before .before .before .args .number) (c .before .before .before .before .before .before .before .before .before .before .before .before .before .before .before .args .s) (c .before .before .before .before .before .before .before .before .before .before .before .before .before .before .before .args .values .now) (c .before .before .before .before .before .before .before .before .before .before .before .before .before .before .before .args .regs .now) (c .before .before .before .before .before .before .before .before .before .before .before .before .before .before .before .args .out .now) (c .before .before .before .before .before .before .before .before .before .loop .values) (c .before .before .before .before .before .before .before .before .before .loop .regs) (c .before .before .before .before .before .before .before .before .before .loop .out) (c .before .before .before .before .before .before .before .before .before .loop .at) (c .before .before .before .before .before .before .before .before .before .loop .length) (c .before .before .before .before .before .before .before .before .before .loop .n) (c .before .before .before .before .before .before .before .before .before .loop .reading) (c .before .before .before .before .before .before .before .before .before .loop .inv) (c .before .before .before .before .before .before .read-part .result .end) (c .before .before .before .before .before .before .read-part .result .reading) (c .before .before .before .before .before .before .read-part .last .1 .1 .1 .0) (c .before .before .before .before .before .before .read-part .ensures .0 .0) (c .before .before .before .before .before .before .read-part .ensures .0 .2) (c .before .before .before .before .before .before .read-part .ensures .1))
+
+so-far-requires-3 : tie.Need-so-far-requires-3 Inv-loop μ-loop
+so-far-requires-3 c κs = tt
+
+same-length-7 : tie.Need-same-length-7 Inv-loop μ-loop
+same-length-7 c = c .before .before .before .before .before .before .before .read-part .kept .1 .1 .1 .0 ∙ c .before .before .before .before .before .before .before .before .before .before .loop .inv .same-values
+
+same-length-8 : tie.Need-same-length-8 Inv-loop μ-loop
+same-length-8 c = c .before .before .before .before .before .before .before .before .before .before .loop .inv .same-regs
+
+same-length-9 : tie.Need-same-length-9 Inv-loop μ-loop
+same-length-9 c = c .before .before .before .before .before .before .before .before .before .before .loop .inv .same-out
+
+returns-3 : tie.Need-returns-3 Inv-loop μ-loop
+returns-3 c = so-far-is (program-at (c .before .before .before .before .before .before .before .before .before .before .before .before .before .before .before .before .args .p .now)) (c .before .before .before .before .before .before .before .before .before .before .before .before .before .before .before .before .args .input .now) (c .before .before .before .before .before .before .before .before .before .before .before .before .before .before .before .before .args .number) (c .before .before .before .before .before .before .before .before .before .before .before .before .before .before .before .before .args .s) (c .before .before .before .before .before .before .before .before .before .before .before .before .before .before .before .before .args .values .now) (c .before .before .before .before .before .before .before .read-part .last .1 .1 .1 .0) (c .before .before .before .before .before .before .before .before .before .before .before .before .before .before .before .before .args .out .now) (c .before .before .before .before .before .before .before .before .before .before .loop .out) (c .so-far3 .result) (c .before .before .before .before .before .before .before .before .before .before .loop .n) (c .before .before .before .before .before .before .before .read-part .result .reading) (c .before .before .before .before .before .before .before .read-part .result .end) (c .before .before .before .before .before .before .before .before .before .before .loop .length) (c .so-far3 .ensures) (c .before .before .before .before .before .before .before .read-part .ensures .0 .1) (c .before .before .before .before .before .before .before .before .before .before .loop .inv .short) (c .before .before .before .before .before .before .before .before .before .before .loop .inv .same-out) (on-read (c .before .before .before .before .before .before .before .before .before .before .before .before .before .before .before .before .args .p .now) (c .before .before .before .before .before .before .before .before .before .before .before .before .before .before .before .before .args .input .now) (c .before .before .before .before .before .before .before .before .before .before .before .before .before .before .before .before .args .number) (c .before .before .before .before .before .before .before .before .before .before .before .before .before .before .before .before .args .s) (c .before .before .before .before .before .before .before .before .before .before .before .before .before .before .before .before .args .values .now) (c .before .before .before .before .before .before .before .before .before .before .before .before .before .before .before .before .args .regs .now) (c .before .before .before .before .before .before .before .before .before .before .before .before .before .before .before .before .args .out .now) (c .before .before .before .before .before .before .before .before .before .before .loop .values) (c .before .before .before .before .before .before .before .before .before .before .loop .regs) (c .before .before .before .before .before .before .before .before .before .before .loop .out) (c .before .before .before .before .before .before .before .before .before .before .loop .at) (c .before .before .before .before .before .before .before .before .before .before .loop .length) (c .before .before .before .before .before .before .before .before .before .before .loop .n) (c .before .before .before .before .before .before .before .before .before .before .loop .reading) (c .before .before .before .before .before .before .before .before .before .before .loop .inv) (c .before .before .before .before .before .before .before .read-part .result .end) (c .before .before .before .before .before .before .before .read-part .result .reading) (c .before .before .before .before .before .before .before .read-part .last .1 .1 .1 .0) (c .before .before .before .before .before .before .before .read-part .ensures .0 .0) (c .before .before .before .before .before .before .before .read-part .ensures .0 .2) (c .before .before .before .before .before .before .before .read-part .ensures .1))
+
+put-record-requires : tie.Need-put-record-requires Inv-loop μ-loop
+put-record-requires c κs = (ready-same (c .before .before .before .before .before .before .before .before .before .before .before .before .before .before .before .before .before .before .args .p .now) (length (c .before .before .before .before .before .before .before .before .before .before .before .before .before .before .before .before .before .before .args .values .now)) (length (c .before .before .before .before .before .before .before .before .before .before .before .before .before .before .before .before .before .before .args .regs .now)) (length (c .before .before .before .before .before .before .before .before .before .read-part .last .1 .1 .1 .0)) (length (c .before .before .before .before .before .before .before .before .before .before .before .before .loop .regs)) (c .before .before .before .before .before .before .before .before .before .read-part .kept .1 .1 .1 .0 ∙ c .before .before .before .before .before .before .before .before .before .before .before .before .loop .inv .same-values) (c .before .before .before .before .before .before .before .before .before .before .before .before .loop .inv .same-regs) (c .before .before .before .before .before .before .before .before .before .before .before .before .before .before .before .before .before .before .pre), omega (arith, c .before .before .before .before .if2 .left, c .before .before .before .before .before .before .before .before .before .before .before .before .loop .inv .short))
+
+fresh-requires : tie.Need-fresh-requires Inv-loop μ-loop
+fresh-requires c κs = tt
+
+add-n : tie.Need-add-n Inv-loop μ-loop
+add-n c = record { fits = lt-max (c .before .before .before .before .before .before .before .before .before .before .before .before .before .before .before .before .before .before .before .before .loop .n) (c .before .before .before .before .before .before .before .before .before .before .before .before .before .before .before .before .before .before .before .before .loop .n + 1) (c .before .before .before .before .before .before .before .before .before .before .before .before .before .before .before .before .before .before .before .before .loop .inv .fits) (c .before .before .before .before .before .before .before .before .before .before .before .if3 .left) refl }
+
+add-at : tie.Need-add-at Inv-loop μ-loop
+add-at c = record { fits = omega (arith, c .before .before .before .before .before .before .before .before .before .before .before .before .before .before .before .before .before .read-part .ensures .0 .1, c .before .before .before .before .before .before .before .before .before .before .before .before .before .if1 .left, c .before .before .before .before .before .before .before .before .before .before .before .before .before .before .before .before .before .before .before .before .before .before .before .before .before .before .good .1 .0 .0) }
+
+loop-less : tie.Need-loop-less Inv-loop μ-loop
+loop-less c = omega (arith, c .before .before .before .before .before .before .before .before .before .before .before .before .before .before .before .before .before .read-part .ensures .0 .0, c .before .before .before .before .before .before .before .before .before .before .before .before .before .before .before .before .before .before .before .loop-test .taken)
+
+loop-again : tie.Need-loop-again Inv-loop μ-loop
+loop-again c = on-line (c .before .before .before .before .before .before .before .before .before .before .before .before .before .before .before .before .before .before .before .before .before .before .before .before .before .before .args .p .now) (c .before .before .before .before .before .before .before .before .before .before .before .before .before .before .before .before .before .before .before .before .before .before .before .before .before .before .args .input .now) (c .before .before .before .before .before .before .before .before .before .before .before .before .before .before .before .before .before .before .before .before .before .before .before .before .before .before .args .number) (c .before .before .before .before .before .before .before .before .before .before .before .before .before .before .before .before .before .before .before .before .before .before .before .before .before .before .args .s) (c .before .before .before .before .before .before .before .before .before .before .before .before .before .before .before .before .before .before .before .before .before .before .before .before .before .before .args .values .now) (c .before .before .before .before .before .before .before .before .before .before .before .before .before .before .before .before .before .before .before .before .before .before .before .before .before .before .args .regs .now) (c .before .before .before .before .before .before .before .before .before .before .before .before .before .before .before .before .before .before .before .before .before .before .before .before .before .before .args .out .now) (c .before .before .before .before .before .before .before .before .before .before .before .before .before .before .before .before .before .before .before .before .loop .values) (c .before .before .before .before .before .before .before .before .before .before .before .before .before .before .before .before .before .before .before .before .loop .regs) (c .before .before .before .before .before .before .before .before .before .before .before .before .before .before .before .before .before .before .before .before .loop .out) (c .before .before .before .before .before .before .before .before .before .before .before .before .before .before .before .before .before .before .before .before .loop .at) (c .before .before .before .before .before .before .before .before .before .before .before .before .before .before .before .before .before .before .before .before .loop .length) (c .before .before .before .before .before .before .before .before .before .before .before .before .before .before .before .before .before .before .before .before .loop .n) (c .before .before .before .before .before .before .before .before .before .before .before .before .before .before .before .before .before .before .before .before .loop .reading) (c .before .before .before .before .before .before .before .before .before .before .before .before .before .before .before .before .before .before .before .before .loop .inv) (c .before .before .before .before .before .before .before .before .before .before .before .before .before .before .before .before .before .read-part .result .end) (c .before .before .before .before .before .before .before .before .before .before .before .before .before .before .before .before .before .read-part .result .reading) (c .before .before .before .before .before .before .before .before .before .before .before .before .before .before .before .before .before .read-part .last .1 .1 .1 .0) (c .before .before .before .before .before .before .before .before .before .before .before .before .before .before .before .before .before .read-part .ensures .0 .0) (c .before .before .before .before .before .before .before .before .before .before .before .before .before .before .before .before .before .read-part .ensures .0 .2) (c .before .before .before .before .before .before .before .before .before .before .before .before .before .before .before .before .before .read-part .ensures .1) (lt-of (c .before .before .before .before .before .before .before .before .before .before .before .before .before .before .before .before .before .read-part .result .end) (length (c .before .before .before .before .before .before .before .before .before .before .before .before .before .before .before .before .before .before .before .before .before .before .before .before .before .before .args .input .now)) (c .before .before .before .before .before .before .before .before .before .before .before .before .before .before .before .before .before .read-part .ensures .0 .1) (c .before .before .before .before .before .before .before .before .before .before .before .before .before .if1 .left)) (c .before .before .before .before .before .before .before .before .before .before .before .before .before .before .before .before .before .read-part .ensures .0 .3 (lt-of (c .before .before .before .before .before .before .before .before .before .before .before .before .before .before .before .before .before .read-part .result .end) (length (c .before .before .before .before .before .before .before .before .before .before .before .before .before .before .before .before .before .before .before .before .before .before .before .before .before .before .args .input .now)) (c .before .before .before .before .before .before .before .before .before .before .before .before .before .before .before .before .before .read-part .ensures .0 .1) (c .before .before .before .before .before .before .before .before .before .before .before .before .before .if1 .left))) (c .before .before .before .before .before .before .before .before .before .before .before .before .before .before .before .before .before .read-part .kept .1 .1 .1 .0) (c .before .before .before .before .before .before .before .put-record .last .1 .1 .0) (c .before .before .before .before .before .before .before .put-record .last .1 .1 .1 .0) (c .before .before .before .before .before .before .before .put-record .last .1 .1 .1 .1 .1 .0) (c .before .before .before .before .before .before .before .put-record .result) (c .before .before .before .before .before .before .before .before .before .before .before .before .before .before .before .before .before .before .before .before .loop .n + 1) (c .fresh .result) refl (c .before .before .before .before .before .before .before .before .before .before .before .if3 .left) (c .before .before .before .before .before .before .before .put-record .kept .1 .1 .0) (c .before .before .before .before .before .before .before .put-record .kept .1 .1 .1 .0) (c .before .before .before .before .before .before .before .put-record .ensures .0) (c .before .before .before .before .before .before .before .put-record .kept .1 .1 .1 .1 .1 .0) (omega (arith, c .before .before .before .before .before .before .before .put-record .ensures .1, c .before .before .before .before .before .before .before .before .before .before .before .before .if2 .left, c .before .before .before .before .before .before .before .before .before .before .before .before .before .before .before .before .before .before .before .before .loop .inv .short)) (c .fresh .ensures)
+
+so-far-requires-4 : tie.Need-so-far-requires-4 Inv-loop μ-loop
+so-far-requires-4 c κs = tt
+
+same-length-10 : tie.Need-same-length-10 Inv-loop μ-loop
+same-length-10 c = c .before .before .loop .inv .same-values
+
+same-length-11 : tie.Need-same-length-11 Inv-loop μ-loop
+same-length-11 c = c .before .before .loop .inv .same-regs
+
+same-length-12 : tie.Need-same-length-12 Inv-loop μ-loop
+same-length-12 c = c .before .before .loop .inv .same-out
+
+returns-4 : tie.Need-returns-4 Inv-loop μ-loop
+returns-4 c = so-far-is (program-at (c .before .before .before .before .before .before .before .before .args .p .now)) (c .before .before .before .before .before .before .before .before .args .input .now) (c .before .before .before .before .before .before .before .before .args .number) (c .before .before .before .before .before .before .before .before .args .s) (c .before .before .before .before .before .before .before .before .args .values .now) (c .before .before .loop .values) (c .before .before .before .before .before .before .before .before .args .out .now) (c .before .before .loop .out) (c .so-far4 .result) (c .before .before .loop .n) (c .before .before .loop .reading) (c .before .before .loop .at) (c .before .before .loop .length) (c .so-far4 .ensures) (c .before .before .loop .inv .inside) (c .before .before .loop .inv .short) (c .before .before .loop .inv .same-out) (c .before .before .loop .inv .lists)
+
+pub list-values-spec : {M : Type 1} → statement M
+list-values-spec =
+    tie.close
+    (tie.spec
+    Inv-loop
+    μ-loop
+    loop-holds
+    read-part-requires
+    so-far-requires
+    same-length
+    same-length-2
+    same-length-3
+    returns
+    sub-if2
+    so-far-requires-2
+    same-length-4
+    same-length-5
+    same-length-6
+    returns-2
+    so-far-requires-3
+    same-length-7
+    same-length-8
+    same-length-9
+    returns-3
+    put-record-requires
+    fresh-requires
+    add-n
+    add-at
+    loop-less
+    loop-again
+    so-far-requires-4
+    same-length-10
+    same-length-11
+    same-length-12
+    returns-4)

@@ -1,0 +1,55 @@
+use Rattle.lines.proofs.Runs.{found-malformed, found-many, found-run}
+use Rattle.lines.specs.declared.record.Outcome.{Outcome}
+use Rattle.run.specs.Views.{Writable}
+use lib.Seq.{length-take-le}
+use lib.ListN.{length}
+use mathlib.Core.Path.{sym, subst}
+use native.Mathlib.Omega.{arith}
+use borrow.Author.Needs.{needs}
+use Rattle.lines.proofs.record.answer_of.Statement.{statement}
+use Rattle.lines.proofs.record.answer_of.Tie as tie
+
+enum-told : tie.Need-enum-told
+enum-told c = search needs
+
+refused-requires : tie.Need-refused-requires
+refused-requires c κs = search needs
+
+enum-known-found : tie.Need-enum-known-found
+enum-known-found c = search needs
+
+refused-requires-2 : tie.Need-refused-requires-2
+refused-requires-2 c κs = search needs
+
+returns : tie.Need-returns
+returns c = (found-many (c .before .before .before .before .before .before .before .before .args .p .now) (c .before .before .before .before .before .before .before .before .args .found) (c .before .before .before .before .before .before .before .before .args .values .now) (length (c .before .before .before .before .before .before .before .before .args .regs .now)) (c .before .before .before .before .before .before .before .before .pre) (c .before .before .before .found .given .0 .0) (c .refused2 .result) (c .before .before .before .found .given .1) (c .before .if1 .taken) (c .refused2 .ensures), subst (λ (o : Outcome). Writable (c .before .before .before .before .before .before .before .before .args .p .now) 8192 (o .answer)) (sym (c .refused2 .ensures)) (λ z. omega arith))
+
+slice-aggregate-run-values : tie.Need-slice-aggregate-run-values
+slice-aggregate-run-values c = sym (length-take-le (c .before .before .before .found .given .0 .0) (c .before .before .before .before .before .before .before .before .args .values .now) (c .before .if1 .left))
+
+run-values-requires : tie.Need-run-values-requires
+run-values-requires c κs = (c .before .before .before .before .before .before .before .before .before .pre .sound, c .before .before .before .before .before .before .before .before .before .pre .registers)
+
+returns-2 : tie.Need-returns-2
+returns-2 c = (found-malformed (c .before .before .before .before .before .before .args .p .now) (c .before .before .before .before .before .before .args .found) (c .before .before .before .before .before .before .args .values .now) (c .refused .result) (c .before .enum-told .given .1) (c .refused .ensures), subst (λ (o : Outcome). Writable (c .before .before .before .before .before .before .args .p .now) 8192 (o .answer)) (sym (c .refused .ensures)) (λ z. absurd (omega arith)))
+
+same-length : tie.Need-same-length
+same-length c = search needs
+
+returns-3 : tie.Need-returns-3
+returns-3 c = (found-run (c .before .before .before .before .before .before .before .before .before .before .before .before .args .p .now) (c .before .before .before .before .before .before .before .before .before .before .before .before .args .found) (c .before .before .before .before .before .before .before .before .before .before .before .before .args .values .now) (c .before .before .before .before .before .before .before .found .given .0 .0) (c .before .before .run-values .result) (c .before .before .before .before .before .before .before .found .given .1) (c .before .before .before .before .before .if1 .left) (c .before .before .run-values .ensures .0), c .before .before .run-values .ensures .1)
+
+pub answer-of-spec : {M : Type 1} → statement M
+answer-of-spec =
+    tie.close
+    (tie.spec
+    enum-told
+    refused-requires
+    enum-known-found
+    refused-requires-2
+    returns
+    slice-aggregate-run-values
+    run-values-requires
+    returns-2
+    same-length
+    returns-3)

@@ -1,0 +1,56 @@
+use Rattle.lines.proofs.Runs.{ran}
+use Rattle.layout.specs.Decode.{code-count, register-total}
+use Rattle.arithmetic.specs.Value.{0f}
+use lib.Seq.{length-take-le}
+use lib.ListN.{replicate, take}
+use Prim.Native.Nat.{ℕ}
+use mathlib.Core.Path.{refl, sym, ap, _∙_}
+use native.Mathlib.Omega.{arith}
+use borrow.Author.Needs.{needs}
+use Rattle.lines.proofs.record.run_values.Statement.{statement}
+use Rattle.lines.proofs.record.run_values.Tie as tie
+
+word-requires : tie.Need-word-requires
+word-requires c κs = search needs
+
+word-requires-2 : tie.Need-word-requires-2
+word-requires-2 c κs = search needs
+
+zero-registers-requires : tie.Need-zero-registers-requires
+unfolding register-total
+zero-registers-requires c κs = omega (arith, c .before .word2 .ensures .0, c .before .before .before .before .before .before .pre .1)
+
+fresh-state-requires : tie.Need-fresh-state-requires
+fresh-state-requires c κs = search needs
+
+slice-relend-prefix-run-reply : tie.Need-slice-relend-prefix-run-reply
+unfolding register-total
+slice-relend-prefix-run-reply c = omega (arith, c .before .before .before .before .before .word2 .ensures .0, c .before .before .before .zero-registers .kept .0, c .before .before .before .before .before .before .before .before .before .before .pre .1)
+
+slice-aggregate-run-reply : tie.Need-slice-aggregate-run-reply
+unfolding register-total
+slice-aggregate-run-reply c = sym (length-take-le (c .before .before .before .before .before .before .word2 .result) (c .before .before .before .before .zero-registers .last .0) (omega (arith, c .before .before .before .before .before .before .word2 .ensures .0, c .before .before .before .before .zero-registers .kept .0, c .before .before .before .before .before .before .before .before .before .before .before .pre .1)))
+
+run-reply-requires : tie.Need-run-reply-requires
+run-reply-requires c κs = (c .before .before .before .before .before .before .before .before .before .before .before .pre .0, c .before .fresh-state .ensures)
+
+same-length : tie.Need-same-length
+same-length c = search needs
+
+returns : tie.Need-returns
+unfolding register-total code-count
+returns c = (ran (c .before .before .before .before .before .before .before .before .before .before .before .before .before .before .args .p .now) (c .before .before .before .before .before .before .before .before .before .before .before .before .before .before .pre .0) (c .before .before .before .before .before .before .before .before .before .before .before .before .before .before .args .inputs .now) (take (c .before .before .before .before .before .before .before .before .before .word2 .result) (c .before .before .before .before .before .before .before .zero-registers .last .0)) (c .before .before .run-reply .last .1 .1 .0) (c .before .before .before .before .before .before .before .before .before .before .word .result) (c .before .before .run-reply .result) _ (c .before .before .before .before .before .before .before .zero-registers .ensures ∙ ap (λ (n : ℕ). replicate n 0f) (c .before .before .before .before .before .before .before .before .before .word2 .ensures .0)) (c .before .before .before .before .before .before .before .before .before .before .word .ensures .0) (c .before .before .run-reply .ensures .0) refl, c .before .before .run-reply .ensures .1 .0)
+
+pub run-values-spec : {M : Type 1} → statement M
+run-values-spec =
+    tie.close
+    (tie.spec
+    word-requires
+    word-requires-2
+    zero-registers-requires
+    fresh-state-requires
+    slice-relend-prefix-run-reply
+    slice-aggregate-run-reply
+    run-reply-requires
+    same-length
+    returns)

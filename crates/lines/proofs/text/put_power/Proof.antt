@@ -1,0 +1,44 @@
+use Rattle.lines.proofs.Texts.{power-wrote, wrote}
+use Rattle.listing.specs.Legs.{bits-text, colon, comma, line-of}
+use Rattle.formula.specs.Text.{ascii, decimal}
+use native.Mathlib.Omega.{arith}
+use borrow.Author.Needs.{needs}
+use Rattle.lines.proofs.text.put_power.Statement.{statement}
+use Rattle.lines.proofs.text.put_power.Tie as tie
+
+slice-aggregate-put-bytes : tie.Need-slice-aggregate-put-bytes
+slice-aggregate-put-bytes c = search needs
+
+put-bytes-requires : tie.Need-put-bytes-requires
+put-bytes-requires c κs = search needs
+
+put-bits-requires : tie.Need-put-bits-requires
+put-bits-requires c κs = omega (arith, c .before .before .before .put-bytes .ensures .0, c .before .before .before .put-bytes .kept .0, c .before .before .before .before .before .before .before .pre)
+
+slice-aggregate-put-bytes-2 : tie.Need-slice-aggregate-put-bytes-2
+slice-aggregate-put-bytes-2 c = search needs
+
+put-bytes-requires-2 : tie.Need-put-bytes-requires-2
+put-bytes-requires-2 c κs = omega (arith, c .before .before .before .before .before .before .before .before .put-bytes .ensures .0, c .before .before .before .before .before .before .before .before .put-bytes .kept .0, c .before .before .before .before .put-bits .ensures .ends, c .before .before .before .before .put-bits .kept .0, c .before .before .before .before .before .before .before .before .before .before .before .before .pre)
+
+put-bits-requires-2 : tie.Need-put-bits-requires-2
+put-bits-requires-2 c κs = omega (arith, c .before .before .before .before .before .before .before .before .before .before .before .before .put-bytes .ensures .0, c .before .before .before .before .before .before .before .before .before .before .before .before .put-bytes .kept .0, c .before .before .before .before .before .before .before .before .put-bits .ensures .ends, c .before .before .before .before .before .before .before .before .put-bits .kept .0, c .before .before .before .put-bytes2 .ensures .0, c .before .before .before .put-bytes2 .kept .0, c .before .before .before .before .before .before .before .before .before .before .before .before .before .before .before .before .pre)
+
+same-length : tie.Need-same-length
+same-length c = search needs
+
+returns : tie.Need-returns
+returns c = power-wrote (c .before .before .before .before .before .before .before .before .before .before .before .before .before .before .before .before .before .before .before .args .out .now) (c .before .before .before .before .before .before .before .before .before .before .before .before .before .before .before .before .before .before .before .args .at) (c .before .before .before .before .before .before .before .before .before .before .before .before .before .before .before .before .before .before .before .args .x) (c .before .before .before .before .before .before .before .before .before .before .before .before .before .before .before .before .before .before .before .args .y) (c .before .before .before .before .before .before .before .before .before .before .before .before .before .before .before .put-bytes .last .0) (c .before .before .before .before .before .before .before .before .before .before .before .put-bits .last .0) (c .before .before .before .before .before .before .put-bytes2 .last .0) (c .before .before .put-bits2 .last .0) (c .before .before .before .before .before .before .before .before .before .before .before .before .before .before .before .put-bytes .result) (c .before .before .before .before .before .before .before .before .before .before .before .put-bits .result) (c .before .before .before .before .before .before .put-bytes2 .result) (c .before .before .put-bits2 .result) (omega (arith, c .before .before .before .before .before .before .before .before .before .before .before .before .before .before .before .put-bytes .ensures .0, c .before .before .before .before .before .before .before .before .before .before .before .before .before .before .before .before .before .before .before .pre)) (omega (arith, c .before .before .before .before .before .before .before .before .before .before .before .before .before .before .before .put-bytes .ensures .0, c .before .before .before .before .before .before .before .before .before .before .before .put-bits .ensures .ends, c .before .before .before .before .before .before .before .before .before .before .before .before .before .before .before .before .before .before .before .pre)) (omega (arith, c .before .before .before .before .before .before .before .before .before .before .before .before .before .before .before .put-bytes .ensures .0, c .before .before .before .before .before .before .before .before .before .before .before .put-bits .ensures .ends, c .before .before .before .before .before .before .put-bytes2 .ensures .0, c .before .before .before .before .before .before .before .before .before .before .before .before .before .before .before .before .before .before .before .pre)) (wrote (c .before .before .before .before .before .before .before .before .before .before .before .before .before .before .before .before .before .before .before .args .out .now) (c .before .before .before .before .before .before .before .before .before .before .before .before .before .before .before .before .before .before .before .args .at) (ascii "ask,16:") (c .before .before .before .before .before .before .before .before .before .before .before .before .before .before .before .put-bytes .last .0) (c .before .before .before .before .before .before .before .before .before .before .before .before .before .before .before .put-bytes .result) (c .before .before .before .before .before .before .before .before .before .before .before .before .before .before .before .put-bytes .ensures)) (c .before .before .before .before .before .before .before .before .before .before .before .put-bits .ensures) (wrote (c .before .before .before .before .before .before .before .before .before .before .before .put-bits .last .0) (c .before .before .before .before .before .before .before .before .before .before .before .put-bits .result) colon (c .before .before .before .before .before .before .put-bytes2 .last .0) (c .before .before .before .before .before .before .put-bytes2 .result) (c .before .before .before .before .before .before .put-bytes2 .ensures)) (c .before .before .put-bits2 .ensures)
+
+pub put-power-spec : {M : Type 1} → statement M
+put-power-spec =
+    tie.close
+    (tie.spec
+    slice-aggregate-put-bytes
+    put-bytes-requires
+    put-bits-requires
+    slice-aggregate-put-bytes-2
+    put-bytes-requires-2
+    put-bits-requires-2
+    same-length
+    returns)

@@ -1,0 +1,27 @@
+use Rattle.lines.proofs.Texts.{wrote, wrote-then}
+use Rattle.listing.specs.Legs.{bits-text, colon, comma, line-of}
+use Rattle.formula.specs.Text.{ascii, decimal}
+use native.Mathlib.Omega.{arith}
+use borrow.Author.Needs.{needs}
+use Rattle.lines.proofs.text.put_value.Statement.{statement}
+use Rattle.lines.proofs.text.put_value.Tie as tie
+
+slice-aggregate-put-bytes : tie.Need-slice-aggregate-put-bytes
+slice-aggregate-put-bytes c = search needs
+
+put-bytes-requires : tie.Need-put-bytes-requires
+put-bytes-requires c κs = search needs
+
+put-bits-requires : tie.Need-put-bits-requires
+put-bits-requires c κs = search needs
+
+same-length : tie.Need-same-length
+same-length c = search needs
+
+returns : tie.Need-returns
+returns c = wrote-then (c .before .before .before .before .before .before .before .before .before .before .args .out .now) (c .before .before .before .before .before .before .before .before .before .before .args .at) (ascii "value,") (c .before .before .before .before .before .before .put-bytes .last .0) (c .before .before .before .before .before .before .put-bytes .result) (bits-text (c .before .before .before .before .before .before .before .before .before .before .args .x)) (c .before .before .put-bits .last .0) (c .before .before .put-bits .result) (omega (arith, c .before .before .before .before .before .before .put-bytes .ensures .0, c .before .before .before .before .before .before .before .before .before .before .pre)) (wrote (c .before .before .before .before .before .before .before .before .before .before .args .out .now) (c .before .before .before .before .before .before .before .before .before .before .args .at) (ascii "value,") (c .before .before .before .before .before .before .put-bytes .last .0) (c .before .before .before .before .before .before .put-bytes .result) (c .before .before .before .before .before .before .put-bytes .ensures)) (c .before .before .put-bits .ensures)
+
+pub put-value-spec : {M : Type 1} → statement M
+put-value-spec =
+    tie.close
+    (tie.spec slice-aggregate-put-bytes put-bytes-requires put-bits-requires same-length returns)

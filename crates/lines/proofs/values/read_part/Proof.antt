@@ -1,0 +1,59 @@
+use Rattle.lines.proofs.Parts.{Reading-on, reading-start, reading-step}
+use lib.ListN.{length}
+use native.Mathlib.Omega.{arith}
+use Prim.Native.Nat.{_-_}
+use Rattle.lines.proofs.values.read_part.Statement.{statement}
+use Rattle.lines.proofs.values.read_part.Tie as tie
+
+abbrev Inv-loop : tie.InvT-loop
+Inv-loop input from values₀ end₀ reading₀ values end reading = Reading-on input from reading₀ values₀ end reading values
+
+abbrev μ-loop : tie.MeasureT-loop
+μ-loop input from values₀ end₀ reading₀ values end reading = length input - end
+
+loop-holds : tie.Need-loop-holds Inv-loop μ-loop
+loop-holds c = reading-start (c .before .before .args .input .now) (c .before .before .args .from) (c .before .before .args .s) (c .before .before .args .values .now) (c .before .before .pre)
+
+shared-slice-read-b : tie.Need-shared-slice-read-b Inv-loop μ-loop
+shared-slice-read-b c = omega arith
+
+same-length : tie.Need-same-length Inv-loop μ-loop
+same-length c = c .before .before .before .loop .inv .same-length
+
+returns : tie.Need-returns Inv-loop μ-loop
+returns c = ((c .before .before .before .loop .inv .start, c .before .before .before .loop .inv .inside, c .before .before .before .loop .inv .no-newline, λ l. c .if1 .taken), c .before .before .before .loop .inv .read)
+
+read-byte-requires : tie.Need-read-byte-requires Inv-loop μ-loop
+read-byte-requires c κs = tt
+
+add-end : tie.Need-add-end Inv-loop μ-loop
+add-end c = omega arith
+
+loop-less : tie.Need-loop-less Inv-loop μ-loop
+loop-less c = omega arith
+
+loop-again : tie.Need-loop-again Inv-loop μ-loop
+loop-again c = reading-step (c .before .before .before .before .before .before .before .before .before .before .args .input .now) (c .before .before .before .before .before .before .before .before .before .before .args .from) (c .before .before .before .before .before .before .before .before .before .before .args .s) (c .before .before .before .before .before .before .before .before .before .before .args .values .now) (c .before .before .before .before .before .before .before .loop .end) (c .before .before .before .before .before .before .before .loop .reading) (c .before .before .before .before .before .before .before .loop .values) (c .before .before .before .before .before .before .before .loop .inv) (c .before .before .before .before .before .before .loop-test .taken) (c .before .before .before .before .if1 .left) (c .before .before .read-byte .result) (c .before .before .read-byte .last .1 .1 .0) (c .before .before .read-byte .kept .1 .1 .0) (c .before .before .read-byte .ensures)
+
+same-length-2 : tie.Need-same-length-2 Inv-loop μ-loop
+same-length-2 c = c .before .loop .inv .same-length
+
+returns-2 : tie.Need-returns-2 Inv-loop μ-loop
+returns-2 c = ((c .before .loop .inv .start, c .before .loop .inv .inside, c .before .loop .inv .no-newline, λ l. absurd (omega (arith, c .loop-test .left))), c .before .loop .inv .read)
+
+pub read-part-spec : {M : Type 1} → statement M
+read-part-spec =
+    tie.close
+    (tie.spec
+    Inv-loop
+    μ-loop
+    loop-holds
+    shared-slice-read-b
+    same-length
+    returns
+    read-byte-requires
+    add-end
+    loop-less
+    loop-again
+    same-length-2
+    returns-2)

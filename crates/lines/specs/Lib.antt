@@ -1,0 +1,5 @@
+-- Input lines in, output lines out.
+pub mod Reading
+pub mod Text
+pub mod Record
+pub mod Owed

@@ -1,0 +1,415 @@
+// Input lines in, output lines out: the listing of `legs`, a block of input at a time and in fixed memory. A caller prints what
+// `start` gave, then what `advance` gave for each block of input, then what `finish` gave.
+pub mod record;
+pub mod text;
+pub mod values;
+
+ghost use mathlib.Core.Path.{_≡_};
+ghost use mathlib.Core.Bool.{true, false};
+ghost use mathlib.Core.Option.{none};
+ghost use Prim.Native.Nat.{_+_, _≤_, _<_};
+ghost use lib.ListN.{length, getD, set, take};
+ghost use Rattle.layout.specs.Decode.{program-at};
+ghost use Rattle.listing.specs.Legs.{refusal-line};
+ghost use Rattle.names.proofs.Splits.{free};
+ghost use Rattle.lines.specs.Owed.{Advances, Begins, Compiled-as, Ends, Keeps-on, Lists, Names-advance, Names-end, Opens, Text-length, Values-advance, Values-end, memory, one-more};
+ghost use Rattle.lines.specs.Record.{Ready};
+ghost use Rattle.lines.specs.Text.{Wrote};
+use compile::Answer;
+use values::Reading;
+
+// Where a listing stands: in the name line, of which so many bytes are kept; in the line of values with this number, as far
+// as it was read; or at its end, after a refusal.
+pub enum Stage {
+    Names(usize),
+    Values(u64, Reading),
+    Finished,
+}
+
+// The next stage, how many bytes of the input were used, and how many of the output were written.
+pub struct Advanced {
+    pub stage: Stage,
+    pub used: usize,
+    pub length: usize,
+}
+
+// A stage, and how many bytes of the output were written.
+pub struct Begun {
+    pub stage: Stage,
+    pub length: usize,
+}
+
+// ---- lines of values
+
+// The number of the next line, what was read of it, how much of the input was used, and how much of the output was written.
+struct Listed {
+    number: u64,
+    reading: Reading,
+    used: usize,
+    length: usize,
+}
+
+// Lists the lines of values that end in the input. It stops early, at a newline, where a record might not fit the output.
+fn list_values(
+    p: &[u8],
+    input: &[u8],
+    number: u64,
+    s: Reading,
+    values: &mut [f64],
+    regs: &mut [f64],
+    out: &mut [u8],
+) -> Listed
+    requires { ⌜ Ready (now p) (length (now values)) (length (now regs)) ⌝ }
+    ensures { λ r. ⌜ Lists (program-at (now (p .entry))) number s (now (values .entry)) (take (r .used) (now (input .entry))) (take (r .length) (now (out .exit))) (r .number) (r .reading) (now (values .exit)) ⌝ }
+    ensures place { λ r. ⌜ (r .used ≤ length (now (input .entry))) × (r .length ≤ length (now (out .entry))) ⌝ }
+{
+    let mut at = 0;
+    let mut length = 0;
+    let mut n = number;
+    let mut reading = s;
+    while at < input.len() {
+        let read = values::read_part(input, at, reading, values);
+        let end = read.end;
+        let t = read.reading;
+        if end == input.len() {
+            return so_far(n, t, end, length);
+        }
+        if out.len() - length < 8242 {
+            return so_far(n, t, end, length);
+        }
+        if n == u64::MAX {
+            return so_far(n, t, end, length);
+        }
+        length = record::put_record(p, t, values, regs, n, out, length);
+        reading = values::fresh();
+        n += 1;
+        at = end + 1;
+    }
+    so_far(n, reading, at, length)
+}
+
+fn so_far(number: u64, reading: Reading, used: usize, length: usize) -> Listed
+    ensures { λ r. ⌜ r ≡ record { number = number; reading = reading; used = used; length = length } ⌝ }
+{
+    Listed {
+        number: number,
+        reading: reading,
+        used: used,
+        length: length,
+    }
+}
+
+// Whether bytes are a program, with enough places for its values and registers.
+fn is_ready(p: &[u8], values: usize, regs: usize) -> bool
+    ensures { λ r. ⌜ (r ≡ true → Ready (now (p .entry)) values regs) × (r ≡ false → Ready (now (p .entry)) values regs → ⊥) ⌝ }
+{
+    if values < program::word(p, 16) {
+        return false;
+    }
+    if regs < program::word(p, 8) {
+        return false;
+    }
+    program::is_program(p)
+}
+
+// ---- the name line
+
+// How many bytes of a name line are kept, and where the input ends it.
+struct Kept {
+    count: usize,
+    end: usize,
+}
+
+// Keeps a byte, where there is a place for it.
+fn keep_byte(names: &mut [u8], count: usize, b: u8) -> usize
+    ensures { λ r. ⌜ (r ≡ one-more count (length (now (names .entry)))) × (now (names .exit) ≡ set (now (names .entry)) count b) ⌝ }
+{
+    if count < names.len() {
+        names[count] = b;
+        return count + 1;
+    }
+    count
+}
+
+// Keeps the first bytes of a name line, up to its newline or the end of the input.
+fn keep_names(input: &[u8], names: &mut [u8], k: usize) -> Kept
+    ensures place { λ r. ⌜ (r .end ≤ length (now (input .entry))) × (free 10 (take (r .end) (now (input .entry))) ≡ true) × (r .end < length (now (input .entry)) → getD (now (input .entry)) (r .end) 0 ≡ 10) ⌝ }
+    ensures kept { λ r. ⌜ Keeps-on k (now (names .entry)) (take (r .end) (now (input .entry))) (r .count) (now (names .exit)) ⌝ }
+{
+    let mut end = 0;
+    let mut count = k;
+    while end < input.len() {
+        let b = input[end];
+        if b == 10 {
+            return Kept {
+                count: count,
+                end: end,
+            };
+        }
+        count = keep_byte(names, count, b);
+        end += 1;
+    }
+    Kept {
+        count: count,
+        end: end,
+    }
+}
+
+// How many bytes stand before the first 0, of 8,192 at most.
+fn text_length(path: &[u8]) -> usize
+    ensures { λ r. ⌜ Text-length (now (path .entry)) r ⌝ }
+{
+    let mut i = 0;
+    while i < path.len() {
+        if i == 8192 {
+            return i;
+        }
+        if path[i] == 0 {
+            return i;
+        }
+        i += 1;
+    }
+    i
+}
+
+// Compiles the formula over the names: a refusal's line is written, or the lines of values begin.
+fn begin(formula: &[u8], names: &[u8], path: &mut [u8], program: &mut [u8], out: &mut [u8]) -> Begun
+    requires { ⌜ 8209 ≤ length (now out) ⌝ }
+    ensures { λ r. ⌜ Compiled-as (now (formula .entry)) (now (names .entry)) (now (path .entry)) (now (program .entry)) (now (program .exit)) r (now (out .entry)) (now (out .exit)) ⌝ }
+    ensures room { λ r. ⌜ r .length ≤ length (now (out .entry)) ⌝ }
+{
+    let a = compile::compile(formula, names, path, program);
+    match a {
+        Answer::Program => Begun {
+            stage: Stage::Values(1, values::fresh()),
+            length: 0,
+        },
+        Answer::Refused(n) => {
+            let m = text_length(path);
+            let length = text::put_refusal(out, 0, n, &path[..m]);
+            Begun {
+                stage: Stage::Finished,
+                length: length,
+            }
+        }
+    }
+}
+
+// ---- the whole
+
+// "a longer one, or none, prints `0,refused,1:,0` after the header"
+fn put_missing(out: &mut [u8], at: usize) -> Begun
+    requires { ⌜ at + 8209 ≤ length (now out) ⌝ }
+    ensures { λ r. ⌜ (r .stage ≡ Stage.Finished) × Wrote (now (out .entry)) at (refusal-line 1 none) (now (out .exit)) (r .length) ⌝ }
+    ensures room { λ r. ⌜ r .length ≤ length (now (out .entry)) ⌝ }
+{
+    let length = text::put_refusal(out, at, 1, b"");
+    Begun {
+        stage: Stage::Finished,
+        length: length,
+    }
+}
+
+// A file that can be read and has at most 4,096 bytes is followed by the name line.
+fn opened(readable: bool, formula: &[u8], out: &mut [u8], at: usize) -> Begun
+    requires { ⌜ at + 8209 ≤ length (now out) ⌝ }
+    ensures { λ r. ⌜ Opens readable (now (formula .entry)) r (now (out .entry)) at (now (out .exit)) ⌝ }
+    ensures room { λ r. ⌜ r .length ≤ length (now (out .entry)) ⌝ }
+{
+    if readable {
+        if formula.len() <= 4096 {
+            return Begun {
+                stage: Stage::Names(0),
+                length: at,
+            };
+        }
+        return put_missing(out, at);
+    }
+    put_missing(out, at)
+}
+
+// Begins the listing of a formula file, which can be read or not: the header. The output needs 8,242 bytes.
+pub fn start(readable: bool, formula: &[u8], out: &mut [u8]) -> Begun
+    ensures { λ r. ⌜ (8242 ≤ length (now (out .entry)) → Begins readable (now (formula .entry)) (r .stage) (take (r .length) (now (out .exit)))) ⌝ }
+    ensures room { λ r. ⌜ r .length ≤ length (now (out .entry)) ⌝ }
+{
+    if out.len() < 8242 {
+        return Begun {
+            stage: Stage::Finished,
+            length: 0,
+        };
+    }
+    let at = steps::put_bytes(out, 0, b"no,answer,detail,steps\n");
+    opened(readable, formula, out, at)
+}
+
+// Nothing was used and nothing written.
+fn stuck(stage: Stage) -> Advanced
+    ensures { λ r. ⌜ r ≡ record { stage = stage; used = 0; length = 0 } ⌝ }
+{
+    Advanced {
+        stage: stage,
+        used: 0,
+        length: 0,
+    }
+}
+
+// Reads the name line on; at its end the formula is compiled.
+fn advance_names(
+    formula: &[u8],
+    input: &[u8],
+    k: usize,
+    names: &mut [u8],
+    path: &mut [u8],
+    program: &mut [u8],
+    out: &mut [u8],
+) -> Advanced
+    requires { ⌜ 8209 ≤ length (now out) ⌝ }
+    ensures { λ r. ⌜ Names-advance (now (formula .entry)) (now (input .entry)) k (now (names .entry)) (now (path .entry)) (now (program .entry)) r (now (names .exit)) (now (path .exit)) (now (program .exit)) (now (out .exit)) ⌝ }
+    ensures place { λ r. ⌜ (r .used ≤ length (now (input .entry))) × (r .length ≤ length (now (out .entry))) ⌝ }
+{
+    let kept = keep_names(input, names, k);
+    let count = kept.count;
+    let end = kept.end;
+    if end == input.len() {
+        return Advanced {
+            stage: Stage::Names(count),
+            used: end,
+            length: 0,
+        };
+    }
+    if names.len() < count {
+        return stuck(Stage::Names(k));
+    }
+    let b = begin(formula, &names[..count], path, program, out);
+    let stage = b.stage;
+    Advanced {
+        stage: stage,
+        used: end + 1,
+        length: b.length,
+    }
+}
+
+// Lists the lines of values of the input.
+fn advance_values(
+    input: &[u8],
+    number: u64,
+    s: Reading,
+    program: &[u8],
+    values: &mut [f64],
+    regs: &mut [f64],
+    out: &mut [u8],
+) -> Advanced
+    ensures { λ r. ⌜ Values-advance (now (input .entry)) number s (now (program .entry)) (now (values .entry)) (now (regs .entry)) r (now (values .exit)) (now (regs .exit)) (now (out .exit)) ⌝ }
+    ensures place { λ r. ⌜ (r .used ≤ length (now (input .entry))) × (r .length ≤ length (now (out .entry))) ⌝ }
+{
+    let ready = is_ready(program, values.len(), regs.len());
+    if ready {
+        let l = list_values(program, input, number, s, values, regs, out);
+        let reading = l.reading;
+        return Advanced {
+            stage: Stage::Values(l.number, reading),
+            used: l.used,
+            length: l.length,
+        };
+    }
+    stuck(Stage::Values(number, s))
+}
+
+// Uses a block of input, from its first byte on, and says how many bytes of it were used; the rest is for the next call. Where
+// it uses none, the memory is too small or the lines are more than 2^64 - 2, and no call will.
+pub fn advance(
+    formula: &[u8],
+    input: &[u8],
+    stage: Stage,
+    names: &mut [u8],
+    path: &mut [u8],
+    program: &mut [u8],
+    values: &mut [f64],
+    regs: &mut [f64],
+    out: &mut [u8],
+) -> Advanced
+    ensures { λ r. ⌜ Advances (now (formula .entry)) (memory (now (names .entry)) (now (path .entry)) (now (program .entry)) (now (values .entry)) (now (regs .entry))) stage (take (r .used) (now (input .entry))) (memory (now (names .exit)) (now (path .exit)) (now (program .exit)) (now (values .exit)) (now (regs .exit))) (r .stage) (take (r .length) (now (out .exit))) ⌝ }
+    ensures place { λ r. ⌜ (r .used ≤ length (now (input .entry))) × (r .length ≤ length (now (out .entry))) ⌝ }
+{
+    if out.len() < 8242 {
+        return stuck(stage);
+    }
+    match stage {
+        Stage::Names(k) => advance_names(formula, input, k, names, path, program, out),
+        Stage::Values(number, s) => advance_values(input, number, s, program, values, regs, out),
+        Stage::Finished => Advanced {
+            stage: Stage::Finished,
+            used: input.len(),
+            length: 0,
+        },
+    }
+}
+
+// A line of values at the end of the input has a record if it has a byte.
+fn finish_values(
+    number: u64,
+    s: Reading,
+    program: &[u8],
+    values: &mut [f64],
+    regs: &mut [f64],
+    out: &mut [u8],
+) -> usize
+    requires { ⌜ 8242 ≤ length (now out) ⌝ }
+    ensures { λ r. ⌜ Values-end number s (now (program .entry)) (now (values .entry)) (now (regs .entry)) (take r (now (out .exit))) ⌝ }
+    ensures room { λ r. ⌜ r ≤ length (now (out .entry)) ⌝ }
+{
+    let none = values::is_empty(s);
+    if none {
+        return 0;
+    }
+    let ready = is_ready(program, values.len(), regs.len());
+    if ready {
+        return record::put_record(program, s, values, regs, number, out, 0);
+    }
+    0
+}
+
+// A name line at the end of the input.
+fn finish_names(
+    formula: &[u8],
+    k: usize,
+    names: &[u8],
+    path: &mut [u8],
+    program: &mut [u8],
+    out: &mut [u8],
+) -> usize
+    requires { ⌜ 8242 ≤ length (now out) ⌝ }
+    ensures { λ r. ⌜ Names-end (now (formula .entry)) k (now (names .entry)) (now (path .entry)) (now (program .entry)) (take r (now (out .exit))) ⌝ }
+    ensures room { λ r. ⌜ r ≤ length (now (out .entry)) ⌝ }
+{
+    if names.len() < k {
+        return 0;
+    }
+    let b = begin(formula, &names[..k], path, program, out);
+    b.length
+}
+
+// The end of the input. The output needs 8,242 bytes.
+pub fn finish(
+    formula: &[u8],
+    stage: Stage,
+    names: &[u8],
+    path: &mut [u8],
+    program: &mut [u8],
+    values: &mut [f64],
+    regs: &mut [f64],
+    out: &mut [u8],
+) -> usize
+    ensures { λ r. ⌜ (8242 ≤ length (now (out .entry)) → Ends (now (formula .entry)) (memory (now (names .entry)) (now (path .entry)) (now (program .entry)) (now (values .entry)) (now (regs .entry))) stage (take r (now (out .exit)))) ⌝ }
+    ensures room { λ r. ⌜ r ≤ length (now (out .entry)) ⌝ }
+{
+    if out.len() < 8242 {
+        return 0;
+    }
+    match stage {
+        Stage::Names(k) => finish_names(formula, k, names, path, program, out),
+        Stage::Values(number, s) => finish_values(number, s, program, values, regs, out),
+        Stage::Finished => 0,
+    }
+}

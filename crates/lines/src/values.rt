@@ -1,0 +1,156 @@
+// A line of values, read as its bytes come: "each value is 16 lower-case hexadecimal digits, the bits of an f64, joined by
+// commas". The memory is a slice for the values and four numbers, however long the line is.
+ghost use mathlib.Core.Path.{_≡_};
+ghost use mathlib.Core.Bool.{true, false};
+ghost use mathlib.Core.List.{[], _∷_};
+ghost use Prim.Native.Nat.{_≤_, _<_};
+ghost use lib.ListN.{length, getD, set};
+ghost use lib.Ieee.{binary64, ofBits};
+ghost use Rattle.names.specs.Lines.{part};
+ghost use Rattle.names.proofs.Splits.{free};
+ghost use Rattle.lines.specs.Reading.{Ends-as, Reads-on, Starts, Tells-empty, counted};
+
+// What was read of a line: whether it is as said so far, how many values stand before its last comma, how many digits
+// follow it and their number. A count above the places of the slice is kept as one more than these.
+pub struct Reading {
+    pub good: bool,
+    pub count: usize,
+    pub digits: usize,
+    pub bits: u64,
+}
+
+// Nothing was read yet.
+pub fn fresh() -> Reading
+    ensures { λ r. ⌜ Starts r ⌝ }
+{
+    Reading {
+        good: true,
+        count: 0,
+        digits: 0,
+        bits: 0,
+    }
+}
+
+// A line that is not as said, whatever follows.
+fn malformed() -> Reading
+    ensures { λ r. ⌜ r ≡ record { good = false; count = 0; digits = 0; bits = 0 } ⌝ }
+{
+    Reading {
+        good: false,
+        count: 0,
+        digits: 0,
+        bits: 0,
+    }
+}
+
+// Stores a value where there is a place for it, and says how many there are then.
+fn keep(values: &mut [f64], count: usize, bits: u64) -> usize
+    ensures { λ r. ⌜ (r ≡ counted (length (now (values .entry))) count) × (now (values .exit) ≡ set (now (values .entry)) count (ofBits binary64 bits)) ⌝ }
+{
+    if count < values.len() {
+        values[count] = floats::value::of_bits(bits);
+        return count + 1;
+    }
+    values.len() + 1
+}
+
+// One more byte of a line, which is no newline.
+pub fn read_byte(s: Reading, b: u8, values: &mut [f64]) -> Reading
+    ensures { λ r. ⌜ Reads-on s (now (values .entry)) (b ∷ []) r (now (values .exit)) ⌝ }
+{
+    let digits = s.digits;
+    let bits = s.bits;
+    if b == b',' {
+        if digits == 16 {
+            let count = keep(values, s.count, bits);
+            return Reading {
+                good: s.good,
+                count: count,
+                digits: 0,
+                bits: 0,
+            };
+        }
+        return malformed();
+    }
+    let d = names::digit(b);
+    if d == 16 {
+        return malformed();
+    }
+    if digits < 16 {
+        return Reading {
+            good: s.good,
+            count: s.count,
+            digits: digits + 1,
+            bits: 16 * (bits % 0x1000_0000_0000_0000) + d,
+        };
+    }
+    malformed()
+}
+
+// What was read up to a byte of the input.
+pub struct Part {
+    pub reading: Reading,
+    pub end: usize,
+}
+
+// Reads a line on from a byte of the input, to its newline or to the end of the input.
+pub fn read_part(input: &[u8], from: usize, s: Reading, values: &mut [f64]) -> Part
+    requires { ⌜ from ≤ length (now input) ⌝ }
+    ensures place { λ r. ⌜ (from ≤ r .end) × (r .end ≤ length (now (input .entry))) × (free 10 (part (now (input .entry)) from (r .end)) ≡ true) × (r .end < length (now (input .entry)) → getD (now (input .entry)) (r .end) 0 ≡ 10) ⌝ }
+    ensures read { λ r. ⌜ Reads-on s (now (values .entry)) (part (now (input .entry)) from (r .end)) (r .reading) (now (values .exit)) ⌝ }
+{
+    let mut end = from;
+    let mut reading = s;
+    while end < input.len() {
+        let b = input[end];
+        if b == 10 {
+            return Part {
+                reading: reading,
+                end: end,
+            };
+        }
+        reading = read_byte(reading, b, values);
+        end += 1;
+    }
+    Part {
+        reading: reading,
+        end: end,
+    }
+}
+
+// What a whole line is found to be: not as said, or so many values; one more than the slice has places stands for any
+// number above that.
+pub enum Found {
+    Malformed,
+    Values(usize),
+}
+
+// A line that ends here.
+pub fn finish(s: Reading, values: &mut [f64]) -> Found
+    ensures { λ r. ⌜ Ends-as s (now (values .entry)) r (now (values .exit)) ⌝ }
+{
+    let good = s.good;
+    let digits = s.digits;
+    let count = s.count;
+    if good {
+        if digits == 16 {
+            let n = keep(values, count, s.bits);
+            return Found::Values(n);
+        }
+        if digits == 0 {
+            if count == 0 {
+                return Found::Values(0);
+            }
+            return Found::Malformed;
+        }
+        return Found::Malformed;
+    }
+    Found::Malformed
+}
+
+// Whether no byte of the line was read.
+pub fn is_empty(s: Reading) -> bool
+    ensures { λ r. ⌜ Tells-empty s r ⌝ }
+{
+    s.good && (s.digits == 0 && s.count == 0)
+}

@@ -1,0 +1,93 @@
+-- What the exported functions answer and leave.
+use mathlib.Core.Path.{_≡_}
+use mathlib.Core.Bool.{Bool, true, false, cond}
+use mathlib.Core.List.{List, _++_}
+use mathlib.Core.Option.{Option}
+use Prim.Native.Nat.{ℕ}
+use lib.ListN.{length, take, drop}
+use lib.Dec.{ltb}
+use lib.Ieee.{Float}
+use Rattle.formula.specs.Path.{placed}
+use Rattle.machine.specs.Machine.{Answer, Reply, place-of, refused, gives, asks, spent, outside}
+use Rattle.layout.specs.Image.{image}
+use Rattle.machine.specs.Compile as Compile
+use Rattle.compile.specs.Entry as Entry
+use Rattle.compile.specs.declared.Answer as CompileAnswer
+use Rattle.compile.specs.declared.Answer.the-variants as Compiled
+use Rattle.derivative.specs.Derive as Derive
+use Rattle.derive.specs.Outcome as Entered
+use Rattle.derive.specs.declared.Answer as DeriveAnswer
+use Rattle.derive.specs.declared.Answer.the-variants as Derived
+use Rattle.run.specs.Calls.{resume-at, run-at}
+use Rattle.vebrostin.specs.Cells.{number-of, outcome-cells, state-cells, state-in}
+
+-- ---- compile and derive
+
+-- 0 for a program, else the refusal
+abbrev pub compile-number : CompileAnswer.Answer → ℕ
+compile-number Compiled.Program = 0
+compile-number (Compiled.Refused n) = n
+
+-- the number answered, and the path and program slices before and after
+abbrev pub Compiles : Compile.Compiled → ℕ → List ℕ → List ℕ → List ℕ → List ℕ → Type 0
+Compiles X n q q′ p p′ = (n ≡ compile-number (Entry.answer X)) × (q′ ≡ Compile.path-after X q) × (p′ ≡ Compile.program-after image X p)
+
+-- 0 for a tree and its program, else the refusal
+abbrev pub derive-number : DeriveAnswer.Answer → ℕ
+derive-number (Derived.Derived n) = 0
+derive-number (Derived.Refused n) = n
+
+-- the number answered, and the path, tree and program slices before and after
+abbrev pub Derives : Derive.Derived → ℕ → List ℕ → List ℕ → List ℕ → List ℕ → List ℕ → List ℕ → Type 0
+Derives X n q q′ t t′ p p′ =
+    (n ≡ derive-number (Entered.answer X)) × (q′ ≡ Derive.path-after X q) × (t′ ≡ Derive.tree-after X t) × (p′ ≡ Derive.program-after image X p)
+
+-- ---- run and resume
+
+-- the number answered, and the cells, registers and path slice after
+pub record Outcome : Type 0 where
+  pub number : ℕ
+  pub cells : List ℕ
+  pub registers : List Float
+  pub path : List ℕ
+
+abbrev pub told : Reply → List ℕ → List ℕ → Outcome
+told r cells path =
+    record {
+      number = number-of (r .answer);
+      cells = cells ++ outcome-cells r;
+      registers = r .registers;
+      path = placed (place-of (r .answer)) path;
+    }
+
+-- "1": fewer than sixteen cells
+abbrev pub with-room : List ℕ → List Float → List ℕ → Outcome → Outcome
+with-room cells regs path o = cond (ltb (length cells) 16) (record { number = 1; cells = cells; registers = regs; path = path }) o
+
+abbrev pub is-refused : Answer → Bool
+is-refused (gives v) = false
+is-refused (asks q) = false
+is-refused spent = false
+is-refused (outside p) = false
+is-refused (refused n) = true
+
+-- the state's cells after a call: "hand the state back unaltered"
+abbrev pub after : Reply → List ℕ → List ℕ
+after r cells = cond (is-refused (r .answer)) (take 14 cells) (state-cells (r .state))
+
+-- what follows the sixteen cells stays
+abbrev pub followed : Outcome → List ℕ → Outcome
+followed o cells = record { number = o .number; cells = o .cells ++ drop 16 cells; registers = o .registers; path = o .path }
+
+unfoldable pub run-outcome : List Float → List ℕ → ℕ → List Float → List ℕ → List ℕ → Outcome
+run-outcome inputs b budget regs cells path =
+    let r = run-at inputs b (length path) budget regs in
+    with-room cells regs path (followed (told r (state-cells (r .state)) path) cells)
+
+unfoldable pub resume-outcome : List Float → List ℕ → ℕ → Option Float → List Float → List ℕ → List ℕ → Outcome
+resume-outcome inputs b budget given regs cells path =
+    let r = resume-at inputs b (length path) budget given (state-in cells) regs in
+    with-room cells regs path (followed (told r (after r cells) path) cells)
+
+abbrev pub Leaves : Outcome → ℕ → List ℕ → List Float → List ℕ → Type 0
+Leaves o n c r p = (n ≡ o .number) × (c ≡ o .cells) × (r ≡ o .registers) × (p ≡ o .path)

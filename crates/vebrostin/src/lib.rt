@@ -1,0 +1,403 @@
+// The library for C and Rust: compile, derive, run and resume over numbers and slices, each under a C name. include/vebrostin.h declares
+// them. No caller owes anything but slices that are there.
+ghost use mathlib.Core.Path.{_≡_};
+ghost use mathlib.Core.Bool.{cond};
+ghost use mathlib.Core.List.{[], _∷_, _++_};
+ghost use mathlib.Core.Option.{none, some};
+ghost use Prim.Native.Nat.{_≤_, min};
+ghost use lib.ListN.{drop, getD, length, take};
+ghost use lib.Dec.{ltb};
+ghost use Rattle.formula.specs.Text.{word-at};
+ghost use Rattle.machine.specs.Program.{valid};
+ghost use Rattle.machine.specs.Compile.{compile};
+ghost use Rattle.derivative.specs.Derive.{derive};
+ghost use Rattle.layout.specs.Decode.{program-at};
+ghost use Rattle.work.specs.View.{kept-values};
+ghost use Rattle.run.specs.Views.{answer-of, pending-of, state-of, supplied-of};
+ghost use Rattle.vebrostin.specs.Cells.{bits, kept-in, number-of, question-cells, question-in, state-cells, state-in, value-at, value-cell};
+ghost use Rattle.vebrostin.specs.Calls.{Compiles, Derives, Leaves, compile-number, derive-number, is-refused, resume-outcome, run-outcome};
+use floats::value::bits_of;
+use floats::value::of_bits;
+use run::Answer;
+use run::Pending;
+use run::Reply;
+use run::State;
+use run::Supplied;
+use work::Kept;
+
+// ---- programs
+
+fn compile_number(given: compile::Answer) -> usize
+    ensures { λ r. ⌜ r ≡ compile-number given ⌝ }
+{
+    match given {
+        compile::Answer::Program => 0,
+        compile::Answer::Refused(n) => n as usize,
+    }
+}
+
+// 0 and a program, or the refusal.
+#[no_mangle]
+pub extern "C" fn vebrostin_compile(
+    formula: &[u8],
+    names: &[u8],
+    path: &mut [u8],
+    program: &mut [u8],
+) -> usize
+    ensures { λ r. ⌜ Compiles (compile (now (formula .entry)) (now (names .entry)) (length (now (path .entry))) (length (now (program .entry)))) r (now (path .entry)) (now (path .exit)) (now (program .entry)) (now (program .exit)) ⌝ }
+{
+    let given = compile::compile(formula, names, path, program);
+    compile_number(given)
+}
+
+fn derive_number(given: derive::Answer) -> usize
+    ensures { λ r. ⌜ r ≡ derive-number given ⌝ }
+{
+    match given {
+        derive::Answer::Derived(n) => 0,
+        derive::Answer::Refused(n) => n as usize,
+    }
+}
+
+// 0, a derivative tree and its program, or the refusal.
+#[no_mangle]
+pub extern "C" fn vebrostin_derive(
+    formula: &[u8],
+    names: &[u8],
+    symbol: u32,
+    path: &mut [u8],
+    tree: &mut [u8],
+    program: &mut [u8],
+) -> usize
+    ensures { λ r. ⌜ Derives (derive (now (formula .entry)) (now (names .entry)) symbol (length (now (path .entry))) (length (now (tree .entry))) (length (now (program .entry)))) r (now (path .entry)) (now (path .exit)) (now (tree .entry)) (now (tree .exit)) (now (program .entry)) (now (program .exit)) ⌝ }
+{
+    let given = derive::derive(formula, names, symbol as usize, path, tree, program);
+    derive_number(given)
+}
+
+// Whether run and resume take the bytes.
+#[no_mangle]
+pub extern "C" fn vebrostin_is_program(program: &[u8]) -> bool
+    ensures { λ r. ⌜ r ≡ valid (program-at (now (program .entry))) ⌝ }
+{
+    program::is_program(program)
+}
+
+// The counts of a program's header.
+#[no_mangle]
+pub extern "C" fn vebrostin_instructions(program: &[u8]) -> usize
+    ensures { λ r. ⌜ r ≡ word-at (now (program .entry)) 4 ⌝ }
+{
+    reader::word(program, 4)
+}
+
+#[no_mangle]
+pub extern "C" fn vebrostin_registers(program: &[u8]) -> usize
+    ensures { λ r. ⌜ r ≡ word-at (now (program .entry)) 8 ⌝ }
+{
+    reader::word(program, 8)
+}
+
+#[no_mangle]
+pub extern "C" fn vebrostin_inputs(program: &[u8]) -> usize
+    ensures { λ r. ⌜ r ≡ word-at (now (program .entry)) 16 ⌝ }
+{
+    reader::word(program, 16)
+}
+
+// ---- a state as cells
+
+fn cell(cells: &[u64], i: usize) -> u64
+    ensures { λ r. ⌜ r ≡ getD (now (cells .entry)) i 0 ⌝ }
+{
+    if i < cells.len() {
+        return cells[i];
+    }
+    0
+}
+
+fn value_in(cells: &[u64], i: usize) -> f64
+    ensures { λ r. ⌜ r ≡ value-at (now (cells .entry)) i ⌝ }
+{
+    of_bits(cell(cells, i))
+}
+
+fn question_in(question: u64, first: u64, second: u64) -> Pending
+    ensures { λ r. ⌜ pending-of r ≡ question-in question first second ⌝ }
+{
+    if question == 0 {
+        return Pending::Nothing;
+    }
+    let x = of_bits(first);
+    if question == 17 {
+        return Pending::Power(x, of_bits(second));
+    }
+    if question < 256 {
+        return Pending::Elementary((question - 1) as u8, x);
+    }
+    Pending::Elementary(255, x)
+}
+
+fn kept_in(cells: &[u64]) -> Kept
+    ensures { λ r. ⌜ kept-values r ≡ kept-in (now (cells .entry)) ⌝ }
+{
+    Kept {
+        count: cell(cells, 1) as usize,
+        first: value_in(cells, 2),
+        second: value_in(cells, 3),
+        third: value_in(cells, 4),
+        fourth: value_in(cells, 5),
+        fifth: value_in(cells, 6),
+        sixth: value_in(cells, 7),
+        seventh: value_in(cells, 8),
+        eighth: value_in(cells, 9),
+        ninth: value_in(cells, 10),
+    }
+}
+
+fn state_in(cells: &[u64]) -> State
+    ensures { λ r. ⌜ state-of r ≡ state-in (now (cells .entry)) ⌝ }
+{
+    let kept = kept_in(cells);
+    let pending = question_in(cell(cells, 11), cell(cells, 12), cell(cells, 13));
+    State {
+        position: cell(cells, 0) as usize,
+        kept: kept,
+        pending: pending,
+    }
+}
+
+// Copies b to the start of cells.
+fn copy(b: &[u64], cells: &mut [u64])
+    requires { ⌜ length (now b) ≤ length (now cells) ⌝ }
+    ensures { λ _. ⌜ now (cells .exit) ≡ now (b .entry) ++ drop (length (now (b .entry))) (now (cells .entry)) ⌝ }
+{
+    let mut i = 0;
+    while i < b.len() {
+        cells[i] = b[i];
+        i += 1;
+    }
+}
+
+// Of n values kept, the one at place i.
+fn kept_cell(n: usize, i: usize, x: f64) -> u64
+    ensures { λ r. ⌜ r ≡ cond (ltb i n) (bits x) 0 ⌝ }
+{
+    if i < n {
+        return bits_of(x);
+    }
+    0
+}
+
+fn kept_count(n: usize) -> u64
+    ensures { λ r. ⌜ r ≡ min n 9 ⌝ }
+{
+    if n < 9 {
+        return n as u64;
+    }
+    9
+}
+
+struct Cells {
+    question: u64,
+    first: u64,
+    second: u64,
+}
+
+fn question_cells(pending: Pending) -> Cells
+    ensures { λ r. ⌜ r .question ∷ r .first ∷ r .second ∷ [] ≡ question-cells (pending-of pending) ⌝ }
+{
+    match pending {
+        Pending::Nothing => Cells {
+            question: 0,
+            first: 0,
+            second: 0,
+        },
+        Pending::Elementary(f, x) => Cells {
+            question: 1 + f as u64,
+            first: bits_of(x),
+            second: 0,
+        },
+        Pending::Power(x, y) => Cells {
+            question: 17,
+            first: bits_of(x),
+            second: bits_of(y),
+        },
+    }
+}
+
+fn value_of(given: Answer) -> u64
+    ensures { λ r. ⌜ r ≡ value-cell (answer-of [] given) ⌝ }
+{
+    match given {
+        Answer::Value(v) => bits_of(v),
+        Answer::Elementary(f, x) => 0,
+        Answer::Power(x, y) => 0,
+        Answer::Spent => 0,
+        Answer::Domain(k) => 0,
+        Answer::Refused(n) => 0,
+    }
+}
+
+fn number_of(given: Answer) -> usize
+    ensures { λ r. ⌜ r ≡ number-of (answer-of [] given) ⌝ }
+{
+    match given {
+        Answer::Value(v) => 0,
+        Answer::Elementary(f, x) => 100,
+        Answer::Power(x, y) => 100,
+        Answer::Spent => 101,
+        Answer::Domain(k) => 9,
+        Answer::Refused(n) => n,
+    }
+}
+
+// Writes all sixteen cells.
+fn put_reply(cells: &mut [u64], state: State, given: Answer, count: usize)
+    requires { ⌜ 16 ≤ length (now cells) ⌝ }
+    ensures { λ _. ⌜ now (cells .exit) ≡ (state-cells (state-of state) ++ (count ∷ value-cell (answer-of [] given) ∷ [])) ++ drop 16 (now (cells .entry)) ⌝ }
+{
+    let kept = state.kept;
+    let n = kept.count;
+    let pending = state.pending;
+    let q = question_cells(pending);
+    let b = [
+        state.position as u64,
+        kept_count(n),
+        kept_cell(n, 0, kept.first),
+        kept_cell(n, 1, kept.second),
+        kept_cell(n, 2, kept.third),
+        kept_cell(n, 3, kept.fourth),
+        kept_cell(n, 4, kept.fifth),
+        kept_cell(n, 5, kept.sixth),
+        kept_cell(n, 6, kept.seventh),
+        kept_cell(n, 7, kept.eighth),
+        kept_cell(n, 8, kept.ninth),
+        q.question,
+        q.first,
+        q.second,
+        count as u64,
+        value_of(given),
+    ];
+    copy(&b, cells);
+}
+
+// Writes the count of instructions completed and the value's bits; the state's cells stay.
+fn put_outcome(cells: &mut [u64], given: Answer, count: usize)
+    requires { ⌜ 16 ≤ length (now cells) ⌝ }
+    ensures { λ _. ⌜ now (cells .exit) ≡ (take 14 (now (cells .entry)) ++ (count ∷ value-cell (answer-of [] given) ∷ [])) ++ drop 16 (now (cells .entry)) ⌝ }
+{
+    let b = [count as u64, value_of(given)];
+    copy(&b, &mut cells[14..]);
+}
+
+fn is_refused(given: Answer) -> bool
+    ensures { λ r. ⌜ r ≡ is-refused (answer-of [] given) ⌝ }
+{
+    match given {
+        Answer::Value(v) => false,
+        Answer::Elementary(f, x) => false,
+        Answer::Power(x, y) => false,
+        Answer::Spent => false,
+        Answer::Domain(k) => false,
+        Answer::Refused(n) => true,
+    }
+}
+
+// ---- runs
+
+// 0 and a value, 100 and a question, 101 for spent, or the refusal; the state, the count and the value stand in the cells.
+#[no_mangle]
+pub extern "C" fn vebrostin_run(
+    program: &[u8],
+    inputs: &[f64],
+    registers: &mut [f64],
+    path: &mut [u8],
+    budget: usize,
+    cells: &mut [u64],
+) -> usize
+    ensures { λ r. ⌜ Leaves (run-outcome (now (inputs .entry)) (now (program .entry)) budget (now (registers .entry)) (now (cells .entry)) (now (path .entry))) r (now (cells .exit)) (now (registers .exit)) (now (path .exit)) ⌝ }
+{
+    if cells.len() < 16 {
+        return 1;
+    }
+    let r = run::run(program, inputs, registers, path, budget);
+    let state = r.state;
+    let given = r.answer;
+    put_reply(cells, state, given, r.count);
+    number_of(given)
+}
+
+fn resumed(
+    program: &[u8],
+    inputs: &[f64],
+    registers: &mut [f64],
+    path: &mut [u8],
+    budget: usize,
+    cells: &mut [u64],
+    supplied: Supplied,
+) -> usize
+    ensures { λ r. ⌜ Leaves (resume-outcome (now (inputs .entry)) (now (program .entry)) budget (supplied-of supplied) (now (registers .entry)) (now (cells .entry)) (now (path .entry))) r (now (cells .exit)) (now (registers .exit)) (now (path .exit)) ⌝ }
+{
+    if cells.len() < 16 {
+        return 1;
+    }
+    let before = state_in(cells);
+    let r = run::resume(program, inputs, registers, path, budget, before, supplied);
+    let given = r.answer;
+    let state = r.state;
+    let no = is_refused(given);
+    if no {
+        put_outcome(cells, given, r.count);
+        return number_of(given);
+    }
+    put_reply(cells, state, given, r.count);
+    number_of(given)
+}
+
+// Goes on with no value: a question that pends is put again.
+#[no_mangle]
+pub extern "C" fn vebrostin_resume(
+    program: &[u8],
+    inputs: &[f64],
+    registers: &mut [f64],
+    path: &mut [u8],
+    budget: usize,
+    cells: &mut [u64],
+) -> usize
+    ensures { λ r. ⌜ Leaves (resume-outcome (now (inputs .entry)) (now (program .entry)) budget none (now (registers .entry)) (now (cells .entry)) (now (path .entry))) r (now (cells .exit)) (now (registers .exit)) (now (path .exit)) ⌝ }
+{
+    resumed(
+        program,
+        inputs,
+        registers,
+        path,
+        budget,
+        cells,
+        Supplied::Nothing,
+    )
+}
+
+// Goes on with the value for the question that pends.
+#[no_mangle]
+pub extern "C" fn vebrostin_answer(
+    program: &[u8],
+    inputs: &[f64],
+    registers: &mut [f64],
+    path: &mut [u8],
+    budget: usize,
+    cells: &mut [u64],
+    value: f64,
+) -> usize
+    ensures { λ r. ⌜ Leaves (resume-outcome (now (inputs .entry)) (now (program .entry)) budget (some value) (now (registers .entry)) (now (cells .entry)) (now (path .entry))) r (now (cells .exit)) (now (registers .exit)) (now (path .exit)) ⌝ }
+{
+    resumed(
+        program,
+        inputs,
+        registers,
+        path,
+        budget,
+        cells,
+        Supplied::Value(value),
+    )
+}
