@@ -1,17 +1,19 @@
 #!/bin/sh
 # Builds `legs` and runs it on an example: examples/run.sh [flights|trip|reserve|alternate|payload]
 set -e
-cd "$(dirname "$0")"
+cd "$(dirname "$0")/.."
 name=${1:-flights}
-if [ ! -f "$name/formula.bin" ]; then
-    echo "no example '$name'; there are: $(echo */formula.bin | sed 's,/formula.bin,,g')" >&2
+if [ ! -f "examples/$name/formula.bin" ]; then
+    echo "no example '$name'; there are: $(cd examples && echo */formula.bin | sed 's,/formula.bin,,g')" >&2
     exit 2
 fi
-mkdir -p ../target
-if ! (cd .. && rt check legs > target/legs.log 2>&1); then
-    tail -n 20 ../target/legs.log >&2
-    echo "legs could not be built; target/legs.log has it all" >&2
+mkdir -p target/examples
+if ! rt check legs > target/examples/legs.log 2>&1; then
+    tail -n 20 target/examples/legs.log >&2
+    echo "legs could not be built; target/examples/legs.log has it all" >&2
     exit 1
 fi
-cd "$name"
-exec ../../target/bin/legs < input
+tools/library/runner.sh target/bin/legs target/examples/legs
+legs=$(realpath target/examples/legs)
+cd "examples/$name"
+exec "$legs" < input

@@ -1,0 +1,127 @@
+/* Vebrostin: formulas compiled, differentiated and run. Link with target/staticlib/libvebrostin.a (x86-64 Linux).
+ *
+ * Only numbers and slices cross. A slice is a pointer and a count of elements; a slice of no elements still needs a pointer that
+ * is not null. Slices that are written must not overlap any other. The library keeps nothing, allocates nothing and calls nothing.
+ *
+ * docs/PROGRAM.md has the bytes of a program. A formula is nodes of 16 bytes, each followed by its children; examples/make.py
+ * makes one from text. A name line is `name:kind` joined by commas, with the kinds p (parameter), s (state), t (time), i (input).
+ */
+#ifndef VEBROSTIN_H
+#define VEBROSTIN_H
+
+#include <stdbool.h>
+#include <stddef.h>
+#include <stdint.h>
+
+#ifdef __cplusplus
+extern "C" {
+#endif
+
+/* What the functions answer. "At" a place: the path slice then holds its text, as root.arguments[1], and zeros after it.
+ * Without a place the path slice isn't written. */
+enum {
+    /* done: a program, a derivative, a value */
+    VEBROSTIN_OK = 0,
+    /* a slice is too short: the path slice below 8,192 bytes; the program slice below 240 bytes for each 16 bytes of formula
+     * (of the derivative tree, for a derivative); the tree slice below 16 bytes for each node; the state below 16 numbers */
+    VEBROSTIN_SLICE_TOO_SHORT = 1,
+    /* the bytes are no formula */
+    VEBROSTIN_FORMULA = 2,
+    /* the name line is not well formed, or has more than 256 names or one twice */
+    VEBROSTIN_NAMES = 3,
+    /* at root: the formula has more than 256 nodes or 32 levels, or its derivative more than 16,384 nodes or 128 levels */
+    VEBROSTIN_TOO_LARGE = 4,
+    /* compile and derive, at the place: a wrong number of arguments.
+     * run, at root: a wrong number of inputs, too few registers, an input that is not finite, or budget 0 */
+    VEBROSTIN_INVALID_INPUT = 5,
+    /* at the place: a symbol's number is not in the name line; derive, at root: the symbol to derive by */
+    VEBROSTIN_UNKNOWN_SYMBOL = 6,
+    /* at the place: a truth value where a number must stand, or the other way; derive, at root: the formula is a truth value */
+    VEBROSTIN_TYPE = 7,
+    /* at the place: a condition, Floor, Ceil or Modulo depends on a state, the time or an input;
+     * derive, at root: a condition, Floor or Ceil depends on the symbol to derive by */
+    VEBROSTIN_UNSUPPORTED = 8,
+    /* compile and derive, at the place: a number that is not finite.
+     * run, at the instruction's place: the result is not finite, or the operation is not defined there */
+    VEBROSTIN_DOMAIN = 9,
+    /* run: the bytes are no program */
+    VEBROSTIN_PROGRAM = 10,
+    /* resume and answer: the run is at its end, the state doesn't fit the program, or a value was given while no question pends */
+    VEBROSTIN_STATE = 11,
+    /* run: a question pends; the state has it. Give its value to vebrostin_answer */
+    VEBROSTIN_ASK = 100,
+    /* run: the whole budget was completed and code remains. Go on with vebrostin_resume */
+    VEBROSTIN_SPENT = 101
+};
+
+/* Lengths that are always enough. */
+enum {
+    VEBROSTIN_PATH_LENGTH = 8192,
+    VEBROSTIN_STATE_LENGTH = 16,
+    VEBROSTIN_PROGRAM_PER_NODE = 240,
+    VEBROSTIN_FORMULA_NODES = 256,
+    VEBROSTIN_TREE_NODES = 16384
+};
+
+/* Places in a state's numbers. Values and arguments are the bits of a double, least significant first as in memory. */
+enum {
+    VEBROSTIN_POSITION = 0,   /* the next instruction */
+    VEBROSTIN_KEPT_COUNT = 1, /* values kept for a half-done Hill or density */
+    VEBROSTIN_KEPT = 2,       /* the first of nine places for them */
+    VEBROSTIN_QUESTION = 11,  /* 0 for none, else one more than the function's number below */
+    VEBROSTIN_FIRST = 12,     /* its argument, or Power's base */
+    VEBROSTIN_SECOND = 13,    /* Power's exponent */
+    VEBROSTIN_COUNT = 14,     /* instructions that the last call completed */
+    VEBROSTIN_VALUE = 15      /* the value where the last call answered 0, else 0 */
+};
+
+/* Functions that a run asks its host for. */
+enum {
+    VEBROSTIN_EXP = 0,
+    VEBROSTIN_LOG = 1,
+    VEBROSTIN_LOG10 = 2,
+    VEBROSTIN_SIN = 4,
+    VEBROSTIN_COS = 5,
+    VEBROSTIN_TAN = 6,
+    VEBROSTIN_TANH = 7,
+    VEBROSTIN_POWER = 16
+};
+
+/* Compiles a formula. 0 and a program, zeros after it; or 1 to 9. 1 to 4 leave the program slice as it was, 5 to 9 all zero. */
+size_t vebrostin_compile(const uint8_t *formula, size_t formula_length, const uint8_t *names, size_t names_length,
+                         uint8_t *path, size_t path_length, uint8_t *program, size_t program_length);
+
+/* The derivative of a formula by a symbol's number (from 0). 0, its tree as formula bytes and the tree's program, zeros after each; or
+ * 1 to 9. A refusal of the formula itself leaves the tree slice as it was, a later one all zero; both leave the program slice. */
+size_t vebrostin_derive(const uint8_t *formula, size_t formula_length, const uint8_t *names, size_t names_length, uint32_t symbol,
+                        uint8_t *path, size_t path_length, uint8_t *tree, size_t tree_length, uint8_t *program, size_t program_length);
+
+/* Whether a run takes the bytes. */
+bool vebrostin_is_program(const uint8_t *program, size_t program_length);
+
+/* Instructions of a program, the registers that a run of it needs, and the inputs that it takes. */
+size_t vebrostin_instructions(const uint8_t *program, size_t program_length);
+size_t vebrostin_registers(const uint8_t *program, size_t program_length);
+size_t vebrostin_inputs(const uint8_t *program, size_t program_length);
+
+/* Begins a run and completes at most `budget` instructions. 0 with a value, 100, 101, or 1, 5, 9, 10. Inputs stand in the order of
+ * the names. The state's numbers are written; what they held doesn't matter. */
+size_t vebrostin_run(const uint8_t *program, size_t program_length, const double *inputs, size_t inputs_length,
+                     double *registers, size_t registers_length, uint8_t *path, size_t path_length, size_t budget,
+                     uint64_t *state, size_t state_length);
+
+/* Goes on with the same program, inputs, registers and state. A question that pends is put again. 11 leaves all as it was. */
+size_t vebrostin_resume(const uint8_t *program, size_t program_length, const double *inputs, size_t inputs_length,
+                        double *registers, size_t registers_length, uint8_t *path, size_t path_length, size_t budget,
+                        uint64_t *state, size_t state_length);
+
+/* Goes on with the value for the question that pends. */
+size_t vebrostin_answer(const uint8_t *program, size_t program_length, const double *inputs, size_t inputs_length,
+                        double *registers, size_t registers_length, uint8_t *path, size_t path_length, size_t budget,
+                        uint64_t *state, size_t state_length, double value);
+
+#ifdef __cplusplus
+}
+#endif
+
+#endif

@@ -1,0 +1,194 @@
+//! Formulas compiled, differentiated and run by the proved library `vebrostin`.
+//!
+//! `Program` and `Run` own their memory; `slices` has the same functions over the caller's slices.
+mod error;
+mod raw;
+pub mod slices;
+
+pub use error::{Action, Error, Refusal};
+use slices::{ASK, COUNT, FIRST, PATH, QUESTION, SECOND, SPENT, STATE, VALUE};
+
+/// Nodes that a derivative tree has at most.
+const LARGEST_TREE: usize = 16384;
+
+/// The bytes of a program, as docs/PROGRAM.md describes them.
+#[derive(Clone, Debug, PartialEq, Eq)]
+pub struct Program(Vec<u8>);
+
+/// A derivative: its tree as formula bytes, and the program of that tree.
+#[derive(Clone, Debug, PartialEq, Eq)]
+pub struct Derivative {
+    pub tree: Vec<u8>,
+    pub program: Program,
+}
+
+fn refused(number: usize, action: Action, path: &[u8]) -> Error {
+    let refusal = Refusal::from_number(number).expect("the library's refusals are 1 to 11");
+    let place = matches!(number, 4..=9).then(|| slices::text(path));
+    Error { refusal, action, place }
+}
+
+impl Program {
+    /// Compiles formula bytes with a name line.
+    pub fn compile(formula: &[u8], names: &[u8]) -> Result<Self, Error> {
+        let mut path = [0; PATH];
+        let mut program = vec![0; slices::program_room(formula.len())];
+        match slices::compile(formula, names, &mut path, &mut program) {
+            0 => Ok(Self(program)),
+            number => Err(refused(number, Action::Compile, &path)),
+        }
+    }
+
+    /// The derivative of a formula by a symbol's number. The slices grow until the tree has room.
+    pub fn derive(formula: &[u8], names: &[u8], symbol: u32) -> Result<Derivative, Error> {
+        let mut path = [0; PATH];
+        let mut nodes = formula.len().div_ceil(16).max(64);
+        loop {
+            let (mut tree, mut program) = (vec![0; 16 * nodes], vec![0; 240 * nodes]);
+            match slices::derive(formula, names, symbol, &mut path, &mut tree, &mut program) {
+                0 => {
+                    tree.truncate(16 * tree_nodes(&tree));
+                    return Ok(Derivative { tree, program: Self(program) });
+                }
+                1 if nodes < LARGEST_TREE => nodes = (4 * nodes).min(LARGEST_TREE),
+                number => return Err(refused(number, Action::Derive, &path)),
+            }
+        }
+    }
+
+    pub fn bytes(&self) -> &[u8] {
+        &self.0
+    }
+
+    pub fn instructions(&self) -> usize {
+        slices::instructions(&self.0)
+    }
+
+    pub fn registers(&self) -> usize {
+        slices::registers(&self.0)
+    }
+
+    pub fn inputs(&self) -> usize {
+        slices::inputs(&self.0)
+    }
+
+    /// The value for these inputs; `host` answers the questions.
+    pub fn evaluate(&self, inputs: &[f64], host: impl FnMut(Question) -> f64) -> Result<f64, Error> {
+        Run::new(self).evaluate(inputs, host)
+    }
+}
+
+/// Nodes of the tree at the start of a slice: the trees still owed are counted.
+fn tree_nodes(bytes: &[u8]) -> usize {
+    let (mut owed, mut nodes) = (1, 0);
+    for node in bytes.chunks_exact(16) {
+        if owed == 0 {
+            break;
+        }
+        owed = owed - 1 + usize::from(u16::from_le_bytes([node[2], node[3]]));
+        nodes += 1;
+    }
+    nodes
+}
+
+/// What a run asks its host: the function's number, 16 for Power, and its arguments.
+#[derive(Clone, Copy, Debug, PartialEq)]
+pub enum Question {
+    Elementary(u8, f64),
+    Power(f64, f64),
+}
+
+impl Question {
+    /// The answer of the C library's `libm`, by way of `std`.
+    pub fn by_libm(self) -> f64 {
+        match self {
+            Question::Power(x, y) => x.powf(y),
+            Question::Elementary(0, x) => x.exp(),
+            Question::Elementary(1, x) => x.ln(),
+            Question::Elementary(2, x) => x.log10(),
+            Question::Elementary(4, x) => x.sin(),
+            Question::Elementary(5, x) => x.cos(),
+            Question::Elementary(6, x) => x.tan(),
+            Question::Elementary(7, x) => x.tanh(),
+            Question::Elementary(..) => f64::NAN,
+        }
+    }
+}
+
+/// What a call of a run answers, where it isn't refused.
+#[derive(Clone, Copy, Debug, PartialEq)]
+pub enum Answer {
+    Value(f64),
+    Ask(Question),
+    Spent,
+}
+
+/// A run of a program: its registers and its state.
+pub struct Run<'a> {
+    program: &'a Program,
+    registers: Vec<f64>,
+    path: [u8; PATH],
+    state: [u64; STATE],
+}
+
+impl<'a> Run<'a> {
+    pub fn new(program: &'a Program) -> Self {
+        Self { program, registers: vec![0.0; program.registers()], path: [0; PATH], state: [0; STATE] }
+    }
+
+    /// A whole run from the first instruction; `host` answers the questions.
+    pub fn evaluate(&mut self, inputs: &[f64], mut host: impl FnMut(Question) -> f64) -> Result<f64, Error> {
+        let mut answer = self.start(inputs, usize::MAX)?;
+        loop {
+            answer = match answer {
+                Answer::Value(value) => return Ok(value),
+                Answer::Ask(question) => self.answer(inputs, usize::MAX, host(question))?,
+                Answer::Spent => self.resume(inputs, usize::MAX)?,
+            };
+        }
+    }
+
+    /// Begins at the first instruction and completes at most `budget` instructions.
+    pub fn start(&mut self, inputs: &[f64], budget: usize) -> Result<Answer, Error> {
+        let number = slices::run(self.program.bytes(), inputs, &mut self.registers, &mut self.path, budget, &mut self.state);
+        self.told(number)
+    }
+
+    /// Goes on where the last call stopped; a question that pends is put again.
+    pub fn resume(&mut self, inputs: &[f64], budget: usize) -> Result<Answer, Error> {
+        self.go_on(inputs, budget, None)
+    }
+
+    /// Goes on with the value for the question that pends.
+    pub fn answer(&mut self, inputs: &[f64], budget: usize, value: f64) -> Result<Answer, Error> {
+        self.go_on(inputs, budget, Some(value))
+    }
+
+    /// Instructions that the last call completed.
+    pub fn completed(&self) -> u64 {
+        self.state[COUNT]
+    }
+
+    fn go_on(&mut self, inputs: &[f64], budget: usize, value: Option<f64>) -> Result<Answer, Error> {
+        let program = self.program.bytes();
+        let number = slices::resume(program, inputs, &mut self.registers, &mut self.path, budget, &mut self.state, value);
+        self.told(number)
+    }
+
+    fn told(&self, number: usize) -> Result<Answer, Error> {
+        match number {
+            0 => Ok(Answer::Value(f64::from_bits(self.state[VALUE]))),
+            ASK => Ok(Answer::Ask(self.question())),
+            SPENT => Ok(Answer::Spent),
+            number => Err(refused(number, Action::Run, &self.path)),
+        }
+    }
+
+    fn question(&self) -> Question {
+        let first = f64::from_bits(self.state[FIRST]);
+        match self.state[QUESTION] {
+            17 => Question::Power(first, f64::from_bits(self.state[SECOND])),
+            number => Question::Elementary(number.wrapping_sub(1) as u8, first),
+        }
+    }
+}

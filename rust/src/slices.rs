@@ -1,0 +1,109 @@
+//! The library's functions on slices of the caller's: the answer is a number, and nothing is allocated.
+//!
+//! 0 is success, 1 to 11 are refusals (`Refusal`), `ASK` and `SPENT` are a run's other answers.
+use crate::raw;
+
+/// A path slice has this many bytes or more.
+pub const PATH: usize = 8192;
+/// Numbers of a run's state and outcome.
+pub const STATE: usize = 16;
+/// A run's answer: a question pends.
+pub const ASK: usize = 100;
+/// A run's answer: the whole budget was completed and code remains.
+pub const SPENT: usize = 101;
+
+/// Places in a state's numbers. Values and arguments are the bits of an f64.
+pub const POSITION: usize = 0;
+pub const KEPT_COUNT: usize = 1;
+pub const KEPT: usize = 2;
+/// 0 for no question, else one more than the function's number; Power's number is 16.
+pub const QUESTION: usize = 11;
+pub const FIRST: usize = 12;
+pub const SECOND: usize = 13;
+/// Instructions that the last call completed.
+pub const COUNT: usize = 14;
+/// The value's bits where the last call's answer was 0.
+pub const VALUE: usize = 15;
+
+/// Bytes that a program slice needs for a formula of so many bytes.
+pub fn program_room(formula_length: usize) -> usize {
+    formula_length.div_ceil(16) * 240
+}
+
+/// 0 and a program, or a refusal.
+pub fn compile(formula: &[u8], names: &[u8], path: &mut [u8], program: &mut [u8]) -> usize {
+    // SAFETY: each pointer has its slice's length after it, and the library stays within both.
+    unsafe {
+        raw::vebrostin_compile(
+            formula.as_ptr(), formula.len(), names.as_ptr(), names.len(),
+            path.as_mut_ptr(), path.len(), program.as_mut_ptr(), program.len(),
+        )
+    }
+}
+
+/// 0, a derivative tree and its program, or a refusal.
+pub fn derive(formula: &[u8], names: &[u8], symbol: u32, path: &mut [u8], tree: &mut [u8], program: &mut [u8]) -> usize {
+    // SAFETY: as in `compile`.
+    unsafe {
+        raw::vebrostin_derive(
+            formula.as_ptr(), formula.len(), names.as_ptr(), names.len(), symbol,
+            path.as_mut_ptr(), path.len(), tree.as_mut_ptr(), tree.len(), program.as_mut_ptr(), program.len(),
+        )
+    }
+}
+
+/// Whether run and resume take these bytes.
+pub fn is_program(program: &[u8]) -> bool {
+    // SAFETY: as in `compile`.
+    unsafe { raw::vebrostin_is_program(program.as_ptr(), program.len()) }
+}
+
+/// Instructions of a program.
+pub fn instructions(program: &[u8]) -> usize {
+    // SAFETY: as in `compile`.
+    unsafe { raw::vebrostin_instructions(program.as_ptr(), program.len()) }
+}
+
+/// Registers that a run of a program needs.
+pub fn registers(program: &[u8]) -> usize {
+    // SAFETY: as in `compile`.
+    unsafe { raw::vebrostin_registers(program.as_ptr(), program.len()) }
+}
+
+/// Inputs that a run of a program takes.
+pub fn inputs(program: &[u8]) -> usize {
+    // SAFETY: as in `compile`.
+    unsafe { raw::vebrostin_inputs(program.as_ptr(), program.len()) }
+}
+
+/// Begins a run: 0 with a value, `ASK`, `SPENT`, or a refusal.
+pub fn run(program: &[u8], inputs: &[f64], registers: &mut [f64], path: &mut [u8], budget: usize, state: &mut [u64]) -> usize {
+    // SAFETY: as in `compile`.
+    unsafe {
+        raw::vebrostin_run(
+            program.as_ptr(), program.len(), inputs.as_ptr(), inputs.len(), registers.as_mut_ptr(), registers.len(),
+            path.as_mut_ptr(), path.len(), budget, state.as_mut_ptr(), state.len(),
+        )
+    }
+}
+
+/// Goes on with a run, with a value for the question that pends or without.
+pub fn resume(
+    program: &[u8], inputs: &[f64], registers: &mut [f64], path: &mut [u8], budget: usize, state: &mut [u64], value: Option<f64>,
+) -> usize {
+    let (p, x, r, t, s) = (program.as_ptr(), inputs.as_ptr(), registers.as_mut_ptr(), path.as_mut_ptr(), state.as_mut_ptr());
+    let (n, m, k, l, c) = (program.len(), inputs.len(), registers.len(), path.len(), state.len());
+    // SAFETY: as in `compile`.
+    unsafe {
+        match value {
+            None => raw::vebrostin_resume(p, n, x, m, r, k, t, l, budget, s, c),
+            Some(value) => raw::vebrostin_answer(p, n, x, m, r, k, t, l, budget, s, c, value),
+        }
+    }
+}
+
+/// The text at the start of a path slice.
+pub fn text(path: &[u8]) -> String {
+    let end = path.iter().position(|byte| *byte == 0).unwrap_or(path.len());
+    String::from_utf8_lossy(&path[..end]).into_owned()
+}

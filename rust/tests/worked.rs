@@ -1,0 +1,105 @@
+//! Document 01's worked flights, and each refusal's text, through the crate.
+use vebrostin::{Answer, Error, Program, Question, Refusal, Run};
+
+const NAMES: &[u8] = b"climb:p,burn:p,distance:i,tas:i,wind:i";
+
+fn node(kind: u8, operator: u8, symbol: u32, value: u64, children: &[Vec<u8>]) -> Vec<u8> {
+    let mut bytes = vec![kind, operator];
+    bytes.extend((children.len() as u16).to_le_bytes());
+    bytes.extend(symbol.to_le_bytes());
+    bytes.extend(value.to_le_bytes());
+    children.iter().for_each(|child| bytes.extend(child));
+    bytes
+}
+
+fn number(x: f64) -> Vec<u8> {
+    node(0, 0, 0, x.to_bits(), &[])
+}
+
+fn symbol(n: u32) -> Vec<u8> {
+    node(2, 0, n, 0, &[])
+}
+
+fn binary(operator: u8, a: Vec<u8>, b: Vec<u8>) -> Vec<u8> {
+    node(4, operator, 0, 0, &[a, b])
+}
+
+fn call(function: u8, arguments: &[Vec<u8>]) -> Vec<u8> {
+    node(7, function, 0, 0, arguments)
+}
+
+/// Add(climb, Divide(Multiply(burn, distance), Add(tas, wind)))
+fn flight() -> Vec<u8> {
+    binary(0, symbol(0), binary(3, binary(2, symbol(1), symbol(2)), binary(0, symbol(3), symbol(4))))
+}
+
+/// The value of a formula without names; no question is expected.
+fn value(formula: &[u8]) -> Result<f64, Error> {
+    Program::compile(formula, b"")?.evaluate(&[], |question| panic!("asks {question:?}"))
+}
+
+#[test]
+fn flights() {
+    let program = Program::compile(&flight(), NAMES).unwrap();
+    assert_eq!((program.instructions(), program.registers(), program.inputs()), (9, 9, 5));
+    let mut run = Run::new(&program);
+    assert_eq!(run.start(&[90.0, 300.0, 400.0, 200.0, 0.0], 100), Ok(Answer::Value(690.0)));
+    assert_eq!(run.completed(), 9);
+    let error = run.start(&[90.0, 300.0, 400.0, 200.0, -200.0], 100).unwrap_err();
+    assert_eq!((error.refusal, error.place.as_deref(), run.completed()), (Refusal::Domain, Some("root.arguments[1]"), 7));
+}
+
+#[test]
+fn derivative_by_distance() {
+    let derivative = Program::derive(&flight(), NAMES, 2).unwrap();
+    assert_eq!(derivative.tree.len(), 23 * 16);
+    let inputs = [90.0, 300.0, 400.0, 200.0, 0.0];
+    let mut asked = Vec::new();
+    let slope = derivative.program.evaluate(&inputs, |question| {
+        asked.push(question);
+        question.by_libm()
+    });
+    assert_eq!(slope, Ok(1.5));
+    assert_eq!(asked, [Question::Power(200.0, 2.0)]);
+}
+
+#[test]
+fn values() {
+    let bits = |formula: &[u8]| value(formula).map(f64::to_bits);
+    assert_eq!(bits(&binary(5, number(-1.0), number(3.0))), Ok(2.0f64.to_bits()));
+    assert_eq!(bits(&binary(5, number(-1e-20), number(3.0))), Ok(0.0f64.to_bits()));
+    assert_eq!(bits(&binary(5, number(-3.0), number(3.0))), Ok((-0.0f64).to_bits()));
+    assert_eq!(bits(&call(13, &[number(0.0), number(2.0), number(1.0)])), Ok(0));
+    assert_eq!(bits(&call(3, &[number(2.0)])), Ok(0x3ff6_a09e_667f_3bcd));
+    assert_eq!(bits(&call(10, &[number(-0.5)])), Ok((-0.0f64).to_bits()));
+    for (base, exponent) in [(0.0, 0.0), (-8.0, 0.5)] {
+        assert_eq!(value(&binary(4, number(base), number(exponent))).unwrap_err().refusal, Refusal::Domain);
+    }
+}
+
+#[test]
+fn budgets() {
+    let formula = node(8, 0, 0, 0, &[node(5, 0, 0, 0, &[symbol(0), number(1.0)]), number(2.0), number(3.0)]);
+    let program = Program::compile(&formula, b"p:p").unwrap();
+    let mut run = Run::new(&program);
+    assert_eq!(run.start(&[0.0], 5), Ok(Answer::Spent));
+    assert_eq!(run.resume(&[0.0], 5), Ok(Answer::Value(2.0)));
+    assert_eq!(run.completed(), 2);
+    assert_eq!(run.resume(&[0.0], 5).unwrap_err().refusal, Refusal::State);
+    assert_eq!(run.start(&[0.0], 0).unwrap_err().refusal, Refusal::InvalidInput);
+}
+
+#[test]
+fn refusals() {
+    let refused = |formula: &[u8], names: &[u8]| Program::compile(formula, names).unwrap_err().to_string();
+    assert_eq!(refused(&[0; 15], b""), "refusal 2: the bytes are no formula");
+    assert_eq!(refused(&number(1.0), b"9a:p"), "refusal 3: the name line is not well formed");
+    assert_eq!(refused(&call(11, &vec![number(1.0); 256]), b""), "refusal 4 at root: the formula has more than 256 nodes or more than 32 levels");
+    let one = refused(&call(0, &[]), b"");
+    assert_eq!(one, "refusal 5 at root: a function or operator has a wrong number of arguments");
+    let unknown = refused(&binary(0, number(1.0), symbol(7)), b"a:p");
+    assert_eq!(unknown, "refusal 6 at root.arguments[1]: the symbol's number is not in the name line");
+    let derived = Program::derive(&node(1, 0, 0, 1, &[]), b"a:p", 0).unwrap_err();
+    assert_eq!((derived.refusal, derived.place.as_deref()), (Refusal::Type, Some("root")));
+    assert_eq!((1..=12).filter_map(Refusal::from_number).map(Refusal::number).collect::<Vec<_>>(), (1..=11).collect::<Vec<_>>());
+}

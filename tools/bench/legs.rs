@@ -1,0 +1,107 @@
+//! Lines a second and peak memory of `legs` and of the same work done by the reference.
+use crate::formulas;
+use std::fs::{self, File};
+use std::path::{Path, PathBuf};
+use std::process::{Command, Stdio};
+
+/// Of the children waited for: user and system time in seconds and microseconds, the largest resident set in kilobytes, the rest.
+#[repr(C)]
+struct Usage {
+    times: [i64; 4],
+    largest: i64,
+    rest: [i64; 13],
+}
+
+extern "C" {
+    fn getrusage(who: i32, usage: *mut Usage) -> i32;
+}
+
+fn of_children() -> Usage {
+    let mut usage = Usage { times: [0; 4], largest: 0, rest: [0; 13] };
+    // SAFETY: the struct is as large as Linux's rusage, and -1 asks for the children's.
+    unsafe { getrusage(-1, &mut usage) };
+    usage
+}
+
+/// Processor time of all children so far, in seconds.
+fn time() -> f64 {
+    let [s, us, t, ut] = of_children().times;
+    (s + t) as f64 + (us + ut) as f64 / 1e6
+}
+
+fn input(lines: usize) -> Vec<u8> {
+    let mut text = formulas::NAMES.to_vec();
+    for line in 0..lines {
+        text.push(b'\n');
+        let value = |i: usize| 1.0 + ((line * 31 + i * 37) % 1024) as f64 / 64.0;
+        let items: Vec<String> = (0..8).map(|i| format!("{:016x}", value(i).to_bits())).collect();
+        text.extend(items.join(",").bytes());
+    }
+    text.push(b'\n');
+    text
+}
+
+/// Seconds of processor time of one run in a folder, its output thrown away.
+fn seconds(program: &Path, folder: &Path) -> f64 {
+    let stdin = File::open(folder.join("input")).expect("the lines");
+    let start = time();
+    let status = Command::new(program).current_dir(folder).stdin(stdin).stdout(Stdio::null()).status();
+    assert!(status.expect("the program runs").success());
+    time() - start
+}
+
+fn output(program: &Path, folder: &Path) -> Vec<u8> {
+    let stdin = File::open(folder.join("input")).expect("the lines");
+    Command::new(program).current_dir(folder).stdin(stdin).output().expect("the program runs").stdout
+}
+
+/// `bench peak PROGRAM`: runs the program in this folder and prints its peak memory.
+pub fn print_peak(program: &str) {
+    let here = std::env::current_dir().expect("a folder");
+    seconds(Path::new(program), &here);
+    println!("{}", of_children().largest);
+}
+
+/// The peak of a program alone, from a process of its own.
+fn peak_of(program: &Path, folder: &Path) -> String {
+    let own = std::env::current_exe().expect("this program");
+    let printed = Command::new(own).arg("peak").arg(program).current_dir(folder).output().expect("this program runs");
+    String::from_utf8_lossy(&printed.stdout).trim().into()
+}
+
+pub fn table(here: &str, there: &str) {
+    let absolute = |path: &str| -> PathBuf { fs::canonicalize(path).expect("the program is there") };
+    let (here, there) = (absolute(here), absolute(there));
+    let folder = std::env::temp_dir().join(format!("bench-{}", std::process::id()));
+    fs::create_dir_all(&folder).expect("a folder");
+    println!("\n### `legs`, lines for each second of processor time of the whole process, output thrown away\n");
+    println!("| formula | nodes | lines | here lines/s | Rust lines/s | here / Rust | here peak kB | Rust peak kB |\n|---|---|---|---|---|---|---|---|");
+    let formulas = [
+        ("flight", formulas::flight()),
+        ("arithmetic", formulas::arithmetic(25)),
+        ("arithmetic", formulas::arithmetic(128)),
+        ("branches", formulas::branches(20)),
+    ];
+    for (name, formula) in formulas {
+        fs::write(folder.join("formula.bin"), &formula).expect("the formula");
+        for lines in [10_000, 100_000, 1_000_000] {
+            fs::write(folder.join("input"), input(lines)).expect("the lines");
+            if lines == 10_000 {
+                assert!(output(&here, &folder) == output(&there, &folder), "{name}: the outputs differ");
+            }
+            let rounds = if lines > 500_000 { 2 } else { 5 };
+            let (mut a, mut b) = (f64::MAX, f64::MAX);
+            for _ in 0..rounds {
+                a = a.min(seconds(&here, &folder));
+                b = b.min(seconds(&there, &folder));
+            }
+            let rate = |t: f64| lines as f64 / t;
+            let (nodes, ratio) = (formula.len() / 16, rate(a) / rate(b));
+            println!(
+                "| {name} | {nodes} | {lines} | {:.0} | {:.0} | {ratio:.2} | {} | {} |",
+                rate(a), rate(b), peak_of(&here, &folder), peak_of(&there, &folder)
+            );
+        }
+    }
+    fs::remove_dir_all(&folder).ok();
+}

@@ -1,0 +1,14 @@
+#!/bin/sh
+# Times compile, derive, run and legs beside the Rust reference on the same inputs, in one run, as tables. Needs rt, rustc, cc.
+# legs is target/bin/legs, or what LEGS names; without it there is no table of lines a second.
+set -e
+cd "$(dirname "$0")/../.."
+out=target/library
+[ -n "$BUILT" ] || tools/library/build.sh > /dev/null
+rustc --edition 2021 -O tools/bench/main.rs --extern vebrostin="$out/libvebrostin.rlib" -o "$out/bench"
+rustc --edition 2021 -O tools/bench/legs_reference.rs -o "$out/legs_reference"
+legs=${LEGS:-target/bin/legs}
+echo "$(date +%F), $(grep -m1 'model name' /proc/cpuinfo | cut -d: -f2 | sed 's/^ *//'), $(nproc) cores, load $(cut -d' ' -f1 /proc/loadavg), $(rustc --version)"
+[ -x "$legs" ] || exec "$out/bench"
+tools/library/runner.sh "$legs" "$out/legs"
+exec "$out/bench" "$out/legs" "$out/legs_reference"

@@ -1,0 +1,308 @@
+//! Runs of one program: the reference's whole run beside the library's, cut by budgets and with refused and forged calls.
+use crate::compile::Program;
+use crate::errors::ErrorCode;
+use crate::libm::{self, Asked, Source};
+use crate::machine::{bits, Machine, Question, State};
+use crate::random::Random;
+use crate::record::Call;
+use crate::{formulas, programs, steps};
+use std::sync::atomic::{AtomicU64, Ordering::Relaxed};
+use std::panic::{catch_unwind, resume_unwind, AssertUnwindSafe};
+use vebrostin::slices::{self, ASK, COUNT, FIRST, KEPT, KEPT_COUNT, PATH, POSITION, QUESTION, SECOND, SPENT, STATE, VALUE};
+
+const FILL: u8 = 170;
+/// Zeros of a formula with Min or Max whose signs differed.
+pub static OTHER_ZEROS: AtomicU64 = AtomicU64::new(0);
+
+/// How a whole run ended.
+#[derive(Clone, Debug, PartialEq)]
+pub enum End {
+    Value(f64),
+    Domain(String),
+    Asked(Question),
+    Refused(usize),
+}
+
+/// A whole run of the reference: questions with their answers, how it ended, instructions completed, registers.
+struct Whole {
+    questions: Vec<(Question, f64)>,
+    end: End,
+    count: u64,
+    registers: Vec<f64>,
+}
+
+/// What was compared.
+#[derive(Default)]
+pub struct Tally {
+    pub values: u64,
+    pub domains: u64,
+    pub asked: u64,
+    pub refused: u64,
+    pub questions: u64,
+    pub calls: u64,
+    pub forged: u64,
+    /// Damaged programs, and those of them that are still programs.
+    pub damaged: u64,
+    pub still: u64,
+    pub instructions: u64,
+}
+
+fn question(asked: &libm::Question) -> Question {
+    Question(u64::from(asked.function), asked.arguments[0], asked.arguments.get(1).copied().unwrap_or(0.0))
+}
+
+fn by_reference(program: &Program, inputs: &[f64], mut registers: Vec<f64>, source: Source) -> Whole {
+    libm::begin(source);
+    steps::reset();
+    let outcome = catch_unwind(AssertUnwindSafe(|| program.evaluate_into(inputs, &mut registers)));
+    let count = steps::count();
+    let end = match outcome {
+        Ok(Ok(value)) => End::Value(value),
+        Ok(Err(error)) if error.code == ErrorCode::Domain => End::Domain(error.expression.unwrap_or_default()),
+        Ok(Err(_)) => End::Refused(5),
+        Err(payload) => match payload.downcast::<Asked>() {
+            Ok(asked) => End::Asked(question(&asked.0)),
+            Err(other) => resume_unwind(other),
+        },
+    };
+    let questions = libm::answered().iter().map(|(asked, answer)| (question(asked), *answer)).collect();
+    Whole { questions, end, count, registers }
+}
+
+/// Bits are the same, every NaN as one; where a formula has Min or Max, zeros of either sign are one.
+fn same(here: f64, there: f64, loose: bool) -> bool {
+    let zeros = loose && here == 0.0 && there == 0.0 && bits(here) != bits(there);
+    if zeros {
+        OTHER_ZEROS.fetch_add(1, Relaxed);
+    }
+    zeros || bits(here) == bits(there)
+}
+
+fn same_question(here: &[u64], there: &Question, loose: bool) -> bool {
+    let argument = |at: usize| f64::from_bits(here[at]);
+    here[QUESTION] == there.0 + 1 && same(argument(FIRST), there.1, loose) && (there.0 != 16 || same(argument(SECOND), there.2, loose))
+}
+
+/// One call as the library answers it and as the model does; the numbers of the state after.
+struct Player<'a> {
+    bytes: &'a [u8],
+    machine: Machine<'a>,
+    inputs: &'a [f64],
+    registers: Vec<f64>,
+    cells: [u64; STATE],
+    path: Vec<u8>,
+    calls: Vec<Call>,
+}
+
+impl Player<'_> {
+    /// Makes a call on both sides and compares the answer, the sixteen numbers, the registers and the path slice.
+    fn call(&mut self, run: bool, room: usize, budget: usize, given: Option<f64>) -> Result<usize, String> {
+        let mut registers = self.registers.clone();
+        let state = (!run).then(|| State::from_cells(&self.cells));
+        let expected = self.machine.call(room, self.inputs, &mut registers, budget, state, given);
+        let cells = expected.to_cells(&self.cells, run);
+        let (cells_before, before) = (self.cells, self.registers.iter().map(|x| bits(*x)).collect());
+        self.path[..room].fill(FILL);
+        let path = &mut self.path[..room];
+        let number = if run {
+            slices::run(self.bytes, self.inputs, &mut self.registers, path, budget, &mut self.cells)
+        } else {
+            slices::resume(self.bytes, self.inputs, &mut self.registers, path, budget, &mut self.cells, given)
+        };
+        let kind = u64::from(!run) + u64::from(given.is_some());
+        let mut numbers = vec![kind, room as u64, budget as u64, given.map_or(0, bits)];
+        numbers.extend(cells_before);
+        numbers.push(number as u64);
+        numbers.extend(self.cells);
+        let text = expected.place.unwrap_or_default().to_string();
+        numbers.push(text.len() as u64);
+        let after = self.registers.iter().map(|x| bits(*x)).collect();
+        self.calls.push(Call { numbers, text, before, after });
+        let registers_differ = self.registers.iter().zip(&registers).any(|(a, b)| bits(*a) != bits(*b));
+        if number != expected.number || self.cells != cells || registers_differ || !crate::is_path(&self.path[..room], expected.place) {
+            let place = slices::text(&self.path[..room]);
+            return Err(format!(
+                "call {}: here {number} at {place} {:x?}, by the model {} at {:?} {cells:x?}; registers differ: {registers_differ}",
+                self.log(), self.cells, expected.number, expected.place
+            ));
+        }
+        Ok(number)
+    }
+
+    /// The numbers of the calls so far.
+    fn log(&self) -> String {
+        self.calls.iter().map(|call| format!("{:x?} ", &call.numbers[..21])).collect()
+    }
+
+    /// A call that changes nothing, or shows the same question again.
+    fn disturb(&mut self, random: &mut Random, pending: bool) -> Result<(), String> {
+        match random.below(4) {
+            0 => self.call(false, random.choice(&[0, 5, PATH - 1]), 1, None).map(drop),
+            1 => self.call(false, PATH, 0, None).map(drop),
+            2 if pending => self.call(false, PATH + 8, 7, None).map(drop),
+            2 => self.call(false, PATH, 7, Some(1.0)).map(drop),
+            _ => self.call(true, PATH, 0, None).map(drop),
+        }
+    }
+}
+
+/// A state with some of its numbers changed.
+fn forged(random: &mut Random, cells: &[u64; STATE], code: usize) -> [u64; STATE] {
+    let mut cells = *cells;
+    for _ in 0..1 + random.below(3) {
+        let value = formulas::value(random, 0.2);
+        match random.below(6) {
+            0 => cells[POSITION] = random.choice(&[0, random_place(value, code), code as u64, u64::MAX, 1 << 32]),
+            1 => cells[KEPT_COUNT] = random.choice(&[0, 1, 2, 3, 4, 7, 8, 9, 10, u64::MAX]),
+            2 => cells[KEPT + random.below(9)] = value,
+            3 => cells[QUESTION] = random.choice(&[0, 1, 2, 3, 4, 5, 8, 16, 17, 18, 255, 256, 257, u64::MAX]),
+            4 => cells[FIRST] = value,
+            _ => cells[SECOND] = value,
+        }
+    }
+    cells
+}
+
+fn random_place(seed: u64, code: usize) -> u64 {
+    seed % (code as u64 + 1)
+}
+
+/// Compares the check of a damaged program with docs/PROGRAM.md; where it is none, a run is 10 and changes nothing.
+fn compare_damaged(bytes: &[u8], random: &mut Random, tally: &mut Tally) -> Result<(), String> {
+    let mut bytes = bytes.to_vec();
+    let end = bytes.iter().rposition(|byte| *byte != 0).map_or(0, |last| last + 1);
+    for _ in 0..1 + random.below(2) {
+        let at = random.below(end);
+        match random.below(4) {
+            0 => bytes[at] = random.choice(&[0, 1, 2, 3, 34, 35, 255]),
+            1 => bytes[at] ^= 1 << random.below(8),
+            2 => bytes[at] = bytes[at].wrapping_add(random.choice(&[1, 255])),
+            _ => bytes.truncate(random.choice(&[at, end - 1, end.saturating_sub(4)]).max(1)),
+        }
+        if bytes.len() < end {
+            break;
+        }
+    }
+    let (here, there) = (slices::is_program(&bytes), programs::is_program(&bytes));
+    tally.damaged += 1;
+    tally.still += u64::from(here);
+    if here != there {
+        return Err(format!("is_program {here} here, {there} by docs/PROGRAM.md: {bytes:x?}"));
+    }
+    let (mut registers, mut path, mut cells) = ([7.25; 4], vec![FILL; PATH], [1; STATE]);
+    if !here && slices::resume(&bytes, &[], &mut registers, &mut path, 1, &mut cells, None) != 10 {
+        return Err(format!("a run of what is no program is not refused with 10: {bytes:x?}"));
+    }
+    let untouched = registers == [7.25; 4] && path.iter().all(|byte| *byte == FILL);
+    if here || (untouched && cells[..COUNT] == [1; COUNT]) { Ok(()) } else { Err("10 changed something".into()) }
+}
+
+/// What a run was given, and the calls that were made.
+#[derive(Default)]
+pub struct Played {
+    pub inputs: Vec<f64>,
+    pub registers: usize,
+    pub calls: Vec<Call>,
+}
+
+/// Compares a run of the program that both sides made. `loose` where the formula has Min or Max.
+pub fn compare(program: &Program, bytes: &[u8], loose: bool, random: &mut Random, tally: &mut Tally) -> Result<Played, String> {
+    if random.chance(0.1) {
+        compare_damaged(bytes, random, tally)?;
+    }
+    let (count, inputs_count, result) = program.counts();
+    let strange = if random.chance(0.02) { 0.2 } else { 0.0 };
+    let wrong = if random.chance(0.01) { 1 } else { 0 };
+    let inputs: Vec<f64> = (0..inputs_count + wrong).map(|_| f64::from_bits(formulas::value(random, strange))).collect();
+    let few = usize::from(random.chance(0.01));
+    let registers = vec![7.25; (count + random.below(3)).saturating_sub(few)];
+    let source = if random.chance(0.6) {
+        Source::CLibrary
+    } else {
+        let odd = if random.chance(0.3) { 0.1 } else { 0.0 };
+        let answers = random.choice(&[0, 1, 2, 3, 5, 8, 12, 20, 40]);
+        Source::List((0..answers).map(|_| f64::from_bits(formulas::value(random, odd))).collect())
+    };
+    let whole = by_reference(program, &inputs, registers.clone(), source);
+    let rows: Vec<_> = program.rows().collect();
+    let machine = Machine { rows: &rows, registers: count, inputs: inputs_count, result };
+    let mut player =
+        Player { bytes, machine, inputs: &inputs, registers, cells: [0; STATE], path: vec![0; PATH + 8], calls: Vec::new() };
+    let end = play(&mut player, &whole, loose, random, tally)?;
+    tally.calls += player.calls.len() as u64;
+    check_end(&end, &whole, &player, loose, tally)?;
+    let (registers, calls) = (player.registers.len(), player.calls);
+    Ok(Played { inputs, registers, calls })
+}
+
+/// Calls until the run ends as the reference's did; gives how it ended and how many instructions were completed.
+fn play(player: &mut Player, whole: &Whole, loose: bool, random: &mut Random, tally: &mut Tally) -> Result<(End, u64), String> {
+    let code = player.machine.rows.len();
+    let cut = random.chance(0.5);
+    let rough = random.chance(0.25);
+    let budget = |random: &mut Random| if cut { 1 + random.below(random_limit(code)) } else { usize::MAX };
+    let mut answers = whole.questions.iter();
+    let mut number = player.call(true, PATH, budget(random), None)?;
+    let mut completed = player.cells[COUNT];
+    loop {
+        if rough && number > 11 && random.chance(0.3) {
+            let (cells, registers) = (player.cells, player.registers.clone());
+            if random.chance(0.5) {
+                player.disturb(random, number == ASK)?;
+            } else {
+                player.cells = forged(random, &cells, code);
+                let given = random.chance(0.4).then(|| f64::from_bits(formulas::value(random, 0.1)));
+                player.call(false, PATH, 1 + random.below(4), given)?;
+                tally.forged += 1;
+            }
+            (player.cells, player.registers) = (cells, registers);
+        }
+        number = match number {
+            0 => return Ok((End::Value(f64::from_bits(player.cells[VALUE])), completed)),
+            9 => return Ok((End::Domain(slices::text(&player.path)), completed)),
+            SPENT => player.call(false, PATH, budget(random), None)?,
+            ASK => {
+                let pending = State::from_cells(&player.cells).question.expect("a question pends");
+                let Some((asked, answer)) = answers.next() else {
+                    return Ok((End::Asked(pending), completed));
+                };
+                if !same_question(&player.cells, asked, loose) {
+                    return Err(format!("question {pending:?} here, {asked:?} in Rust"));
+                }
+                tally.questions += 1;
+                player.call(false, PATH, budget(random), Some(*answer))?
+            }
+            refused => return Ok((End::Refused(refused), completed)),
+        };
+        completed += player.cells[COUNT];
+    }
+}
+
+fn random_limit(code: usize) -> usize {
+    (code / 3).clamp(1, 200)
+}
+
+fn check_end((end, completed): &(End, u64), whole: &Whole, player: &Player, loose: bool, tally: &mut Tally) -> Result<(), String> {
+    let equal = match (end, &whole.end) {
+        (End::Value(a), End::Value(b)) => same(*a, *b, loose),
+        (End::Asked(a), End::Asked(b)) => a.0 == b.0 && same(a.1, b.1, loose) && (a.0 != 16 || same(a.2, b.2, loose)),
+        (a, b) => a == b,
+    };
+    if !equal {
+        return Err(format!("run: {end:?} here, {:?} in Rust; inputs {:x?}", whole.end, player.inputs));
+    }
+    if *completed != whole.count {
+        return Err(format!("run: {completed} instructions here, {} in Rust", whole.count));
+    }
+    if player.registers.iter().zip(&whole.registers).any(|(a, b)| !same(*a, *b, loose)) {
+        return Err("run: registers differ from Rust's".into());
+    }
+    tally.instructions += completed;
+    *match end {
+        End::Value(_) => &mut tally.values,
+        End::Domain(_) => &mut tally.domains,
+        End::Asked(_) => &mut tally.asked,
+        End::Refused(_) => &mut tally.refused,
+    } += 1;
+    Ok(())
+}
