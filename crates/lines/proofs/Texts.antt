@@ -1,10 +1,10 @@
 -- Texts written one after another, and the output lines made of them.
 use mathlib.Core.Path.{_≡_, refl, sym, ap, _∙_, subst}
-use mathlib.Core.List.{List, [], _∷_, _++_, append-assoc, append-nil}
-use Prim.Native.Nat.{ℕ, suc, _+_, _-_, _≤_, _<_}
+use mathlib.Core.List.{List, [], _++_, append-assoc, append-nil}
+use Prim.Native.Nat.{ℕ, _+_, _-_, _≤_, _<_}
 use native.Mathlib.Omega.{arith}
-use lib.ListN.{length, take, drop, length-append, length-drop, length-replicate}
-use lib.Seq.{drop-drop, length-take-le}
+use lib.ListN.{length, take, drop, length-append, length-drop}
+use lib.Seq.{length-take-le}
 use lib.Ieee.{Float, binary64, toBits}
 use borrow.Rule.Slice.PartMut.{midOf, postOf, putMid, post-is}
 use Rattle.formula.specs.Text.{ascii, decimal, zeros}

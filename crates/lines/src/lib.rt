@@ -1,7 +1,7 @@
 // Input lines in, output lines out: the listing of `legs`, a block of input at a time and in fixed memory. A caller prints what
 // `start` gave, then what `advance` gave for each block of input, then what `finish` gave.
-pub mod record;
-pub mod text;
+mod record;
+mod text;
 pub mod values;
 
 ghost use mathlib.Core.Path.{_≡_};

@@ -76,7 +76,7 @@ fn answer_of(p: &[u8], found: Found, values: &[f64], regs: &mut [f64]) -> Outcom
 }
 
 // Writes the record of a line that ends here.
-pub fn put_record(
+pub(crate) fn put_record(
     p: &[u8],
     s: Reading,
     values: &mut [f64],

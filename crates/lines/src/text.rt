@@ -120,7 +120,7 @@ fn steps_of(answer: Answer, count: usize) -> usize
 }
 
 // A line's number, its answer with the detail, and the instructions completed.
-pub fn put_line(
+pub(crate) fn put_line(
     p: &[u8],
     out: &mut [u8],
     at: usize,
@@ -141,7 +141,7 @@ pub fn put_line(
 }
 
 // "A formula refused in compiling gives, after the header, only `0,refused,N:PATH,0`, the path empty without a place."
-pub fn put_refusal(out: &mut [u8], at: usize, n: u8, path: &[u8]) -> usize
+pub(crate) fn put_refusal(out: &mut [u8], at: usize, n: u8, path: &[u8]) -> usize
     requires { ⌜ (at + 8209 ≤ length (now out)) × (length (now path) ≤ 8192) ⌝ }
     ensures { λ r. ⌜ Wrote (now (out .entry)) at (printed 0 (refused-as n (now (path .entry)))) (now (out .exit)) r ⌝ }
     ensures room { λ r. ⌜ r ≤ at + 8209 ⌝ }

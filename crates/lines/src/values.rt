@@ -20,7 +20,7 @@ pub struct Reading {
 }
 
 // Nothing was read yet.
-pub fn fresh() -> Reading
+pub(crate) fn fresh() -> Reading
     ensures { λ r. ⌜ Starts r ⌝ }
 {
     Reading {
@@ -55,7 +55,7 @@ fn keep(values: &mut [f64], count: usize, bits: u64) -> usize
 }
 
 // One more byte of a line, which is no newline.
-pub fn read_byte(s: Reading, b: u8, values: &mut [f64]) -> Reading
+pub(crate) fn read_byte(s: Reading, b: u8, values: &mut [f64]) -> Reading
     ensures { λ r. ⌜ Reads-on s (now (values .entry)) (b ∷ []) r (now (values .exit)) ⌝ }
 {
     let digits = s.digits;
@@ -94,7 +94,7 @@ pub struct Part {
 }
 
 // Reads a line on from a byte of the input, to its newline or to the end of the input.
-pub fn read_part(input: &[u8], from: usize, s: Reading, values: &mut [f64]) -> Part
+pub(crate) fn read_part(input: &[u8], from: usize, s: Reading, values: &mut [f64]) -> Part
     requires { ⌜ from ≤ length (now input) ⌝ }
     ensures place { λ r. ⌜ (from ≤ r .end) × (r .end ≤ length (now (input .entry))) × (free 10 (part (now (input .entry)) from (r .end)) ≡ true) × (r .end < length (now (input .entry)) → getD (now (input .entry)) (r .end) 0 ≡ 10) ⌝ }
     ensures read { λ r. ⌜ Reads-on s (now (values .entry)) (part (now (input .entry)) from (r .end)) (r .reading) (now (values .exit)) ⌝ }
@@ -126,7 +126,7 @@ pub enum Found {
 }
 
 // A line that ends here.
-pub fn finish(s: Reading, values: &mut [f64]) -> Found
+pub(crate) fn finish(s: Reading, values: &mut [f64]) -> Found
     ensures { λ r. ⌜ Ends-as s (now (values .entry)) r (now (values .exit)) ⌝ }
 {
     let good = s.good;
@@ -149,7 +149,7 @@ pub fn finish(s: Reading, values: &mut [f64]) -> Found
 }
 
 // Whether no byte of the line was read.
-pub fn is_empty(s: Reading) -> bool
+pub(crate) fn is_empty(s: Reading) -> bool
     ensures { λ r. ⌜ Tells-empty s r ⌝ }
 {
     s.good && (s.digits == 0 && s.count == 0)

@@ -1,0 +1,2 @@
+-- Laws of listing in blocks.
+pub mod Listed

@@ -1,0 +1,2 @@
+-- What the whole of a listing is.
+pub mod Listed

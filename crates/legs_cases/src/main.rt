@@ -1,0 +1,256 @@
+// Lists recorded inputs with `lines`, a block of a few bytes at a time, and compares the whole output with the record.
+// tools/legs/make_cases.py made it from the Rust reference's answers.
+//
+// Standard input is the number of cases, then the cases. A case has five numbers: whether the formula file can be read, the
+// length of a block, and the lengths of file, input and output. Then come these bytes. Numbers have 4 bytes, the least first.
+ghost use Prim.Native.Nat.{_+_, _≤_};
+ghost use lib.ListN.{length};
+ghost use Rattle.legs_cases.specs.Listed.{Copies, Feeds-all, Lists-all, Lists-fresh};
+ghost use Rattle.lines.specs.Owed.{memory};
+use lines::Stage;
+use std::num;
+use steps::put_bytes;
+
+// The length of the whole output, or there was no room for it.
+enum Listing {
+    Length(usize),
+    NoRoom,
+}
+
+// Adds the first bytes of the output to the whole.
+fn add(all: &mut [u8], at: usize, out: &[u8], n: usize) -> Listing
+    ensures { λ r. ⌜ Copies (now (all .entry)) at (now (out .entry)) n r (now (all .exit)) ⌝ }
+{
+    if out.len() < n {
+        return Listing::NoRoom;
+    }
+    if all.len() < at {
+        return Listing::NoRoom;
+    }
+    if all.len() - at < n {
+        return Listing::NoRoom;
+    }
+    Listing::Length(put_bytes(all, at, &out[..n]))
+}
+
+// The stage after all of the input, and the length of the whole output so far.
+enum Fed {
+    On(Stage, usize),
+    NoRoom,
+}
+
+// The end of the block that begins at a byte.
+fn block_end(at: usize, block: usize, length: usize) -> usize
+    requires { ⌜ at ≤ length ⌝ }
+    ensures { λ r. ⌜ (at ≤ r) × (r ≤ length) ⌝ }
+{
+    if length - at < block {
+        return length;
+    }
+    at + block
+}
+
+// Hands the input on in blocks, each from the first byte that was not used.
+fn feed(
+    formula: &[u8],
+    input: &[u8],
+    block: usize,
+    start: Stage,
+    names: &mut [u8],
+    path: &mut [u8],
+    program: &mut [u8],
+    values: &mut [f64],
+    regs: &mut [f64],
+    out: &mut [u8],
+    all: &mut [u8],
+    from: usize,
+) -> Fed
+    ensures { λ r. ⌜ Feeds-all (now (formula .entry)) (memory (now (names .entry)) (now (path .entry)) (now (program .entry)) (now (values .entry)) (now (regs .entry))) start (now (input .entry)) (memory (now (names .exit)) (now (path .exit)) (now (program .exit)) (now (values .exit)) (now (regs .exit))) (now (all .entry)) from r (now (all .exit)) ⌝ }
+{
+    let mut stage = start;
+    let mut at = 0;
+    let mut length = from;
+    while at < input.len() {
+        let end = block_end(at, block, input.len());
+        let r = lines::advance(
+            formula,
+            &input[at..end],
+            stage,
+            names,
+            path,
+            program,
+            values,
+            regs,
+            out,
+        );
+        let added = add(all, length, out, r.length);
+        let Listing::Length(n) = added else {
+            return Fed::NoRoom;
+        };
+        let used = r.used;
+        if used == 0 {
+            return Fed::NoRoom;
+        }
+        length = n;
+        at += used;
+        stage = r.stage;
+    }
+    Fed::On(stage, length)
+}
+
+// Lists a whole input: what `start` gave, what `advance` gave for each block, and what `finish` gave, one after another.
+fn list_in(
+    readable: bool,
+    formula: &[u8],
+    input: &[u8],
+    block: usize,
+    names: &mut [u8],
+    path: &mut [u8],
+    program: &mut [u8],
+    values: &mut [f64],
+    regs: &mut [f64],
+    out: &mut [u8],
+    all: &mut [u8],
+) -> Listing
+    ensures { λ r. ⌜ Lists-all readable (now (formula .entry)) (now (input .entry)) (memory (now (names .entry)) (now (path .entry)) (now (program .entry)) (now (values .entry)) (now (regs .entry))) (length (now (out .entry))) r (now (all .exit)) ⌝ }
+{
+    let b = lines::start(readable, formula, out);
+    let first = add(all, 0, out, b.length);
+    let Listing::Length(n) = first else {
+        return Listing::NoRoom;
+    };
+    let stage = b.stage;
+    let fed = feed(
+        formula,
+        input,
+        block,
+        stage,
+        names,
+        path,
+        program,
+        values,
+        regs,
+        out,
+        all,
+        n,
+    );
+    let Fed::On(last, m) = fed else {
+        return Listing::NoRoom;
+    };
+    let length = lines::finish(formula, last, names, path, program, values, regs, out);
+    add(all, m, out, length)
+}
+
+// The same with memory of its own: what it gives is the definition's whole output, for any input and any length of block.
+fn list(readable: bool, formula: &[u8], input: &[u8], block: usize, all: &mut [u8]) -> Listing
+    ensures { λ r. ⌜ Lists-fresh readable (now (formula .entry)) (now (input .entry)) r (now (all .exit)) ⌝ }
+{
+    let mut names = [0u8; 17152];
+    let mut path = [0u8; 8192];
+    let mut program = [0u8; 61440];
+    let mut values = [0.0; 256];
+    let mut regs = [0.0; 1276];
+    let mut out = [0u8; 16384];
+    list_in(
+        readable,
+        formula,
+        input,
+        block,
+        &mut names,
+        &mut path,
+        &mut program,
+        &mut values,
+        &mut regs,
+        &mut out,
+        all,
+    )
+}
+
+// ---- the record
+
+fn plus(a: usize, b: usize) -> usize {
+    num::wrapping_add_usize(a, b)
+}
+
+// Whether the n bytes at a place of the record are the first of a slice.
+fn same_bytes(b: &[u8], at: usize, n: usize, slice: &[u8]) -> bool {
+    let mut i = 0;
+    while i < n {
+        if reader::byte(b, plus(at, i)) == reader::byte(slice, i) {
+            i += 1;
+        } else {
+            return false;
+        }
+    }
+    true
+}
+
+// Whether the output of the case is as recorded.
+fn is_same(b: &[u8], from: usize, middle: usize, end: usize, at: usize, all: &mut [u8]) -> bool {
+    if middle < from {
+        return false;
+    }
+    if end < middle {
+        return false;
+    }
+    if b.len() < end {
+        return false;
+    }
+    let block = reader::word(b, plus(at, 4));
+    let readable = reader::word(b, at) == 1;
+    let listed = list(readable, &b[from..middle], &b[middle..end], block, all);
+    let Listing::Length(n) = listed else {
+        return false;
+    };
+    n == reader::word(b, plus(at, 16)) && same_bytes(b, end, n, all)
+}
+
+fn case_at(b: &[u8], at: usize, all: &mut [u8]) -> bool {
+    let from = plus(at, 20);
+    let middle = plus(from, reader::word(b, plus(at, 8)));
+    let end = plus(middle, reader::word(b, plus(at, 12)));
+    is_same(b, from, middle, end, at, all)
+}
+
+// Where the next case begins.
+fn next(b: &[u8], at: usize) -> usize {
+    let input = plus(plus(at, 20), reader::word(b, plus(at, 8)));
+    let output = plus(input, reader::word(b, plus(at, 12)));
+    plus(output, reader::word(b, plus(at, 16)))
+}
+
+// Says which case differs.
+fn say(i: usize) {
+    io::write_all(1, b"differs: case ");
+    io::print_decimal(1, i as u64);
+    io::write_all(1, b"\n");
+}
+
+// Runs so many cases and says how many differ.
+fn all_cases(b: &[u8], cases: usize, all: &mut [u8]) -> u64 {
+    let mut at = 4;
+    let mut differ: u64 = 0;
+    let mut i = 0;
+    while i < cases {
+        let same = case_at(b, at, all);
+        if !same {
+            say(i);
+            differ = num::wrapping_add_u64(differ, 1);
+        }
+        at = next(b, at);
+        i += 1;
+    }
+    differ
+}
+
+fn main() {
+    let mut b = [0u8; 327680];
+    let mut all = [0u8; 65536];
+    io::read_full(0, &mut b);
+    let cases = reader::word(&b, 0);
+    let differ = all_cases(&b, cases, &mut all);
+    io::print_decimal(1, cases as u64);
+    io::write_all(1, b" cases, ");
+    io::print_decimal(1, differ);
+    io::write_all(1, b" differ\n");
+}
