@@ -2,17 +2,21 @@
 use mathlib.Core.Path.{_≡_, refl, sym, ap, _∙_, subst}
 use mathlib.Core.Bool.{true, not}
 use mathlib.Core.List.{List, [], _∷_, _++_, append-assoc, append-nil}
-use Prim.Native.Nat.{ℕ, suc, _+_, _-_, _≤_, _<_}
+use mathlib.Core.Option.{Option, none, some}
+use Prim.Native.Nat.{ℕ, suc, _+_, _-_, _*_, _%_, _≤_, _<_}
 use native.Mathlib.Omega.{arith}
 use lib.ListN.{length, getD, take, drop, length-drop}
-use lib.Seq.{getD-drop, take-suc}
+use lib.Seq.{drop-drop, getD-drop, take-add, take-suc}
 use lib.Dec.{eqb}
 use lib.Ieee.{Float}
 use borrow.Author.Tests.{ne-eqb}
+use Rattle.formula.specs.Values.{digit-of}
 use Rattle.names.specs.Lines.{part}
 use Rattle.names.proofs.Splits.{and-both, and-first, and-second, free}
+use Rattle.lines.specs.declared.values.Part.{Part}
 use Rattle.lines.specs.declared.values.Reading.{Reading}
 use Rattle.lines.specs.Reading.{Reads, Reads-on}
+use Rattle.lines.proofs.Readings.{digit-after}
 
 pub part-none : (l : List ℕ) (a : ℕ) → part l a a ≡ []
 unfolding part
@@ -75,3 +79,50 @@ reading-step input from s values end t w g h n u x l r =
       same-length = l ∙ g .same-length;
       read = subst (λ (xs : List ℕ). Reads-on s values xs u x) (sym p) (on-more s t u values w x (part input from end) (getD input end 0 ∷ []) (g .read) r);
     }
+
+-- a part behind a part
+part-join : (l : List ℕ) (a e f : ℕ) → a ≤ e → e ≤ f → part l a e ++ part l e f ≡ part l a f
+unfolding part
+part-join l a e f h k =
+    let z : a + (e - a) ≡ e = omega arith in
+    let y : (e - a) + (f - e) ≡ f - a = omega arith in
+    ap (λ (n : ℕ). take (e - a) (drop a l) ++ take (f - e) (drop n l)) (sym z)
+    ∙ ap (λ (xs : List ℕ). take (e - a) (drop a l) ++ take (f - e) xs) (sym (drop-drop (e - a) a l))
+    ∙ sym (take-add (e - a) (f - e) (drop a l))
+    ∙ ap (λ (n : ℕ). take n (drop a l)) y
+
+pub reading-run : (input : List ℕ) (from : ℕ) (s : Reading) (values : List Float) (end : ℕ) (t : Reading) (w : List Float) → Reading-on input from s values end t w
+    → (end′ : ℕ) (u : Reading) → (end ≤ end′) × (end′ ≤ length input) × (free 10 (part input end end′) ≡ true) → Reads-on t w (part input end end′) u w
+    → Reading-on input from s values end′ u w
+reading-run input from s values end t w g end′ u p r =
+    let j = part-join input from end end′ (g .start) (p .0) in
+    let f = g .start in
+    let q = p .0 in
+    record {
+      start = omega arith;
+      inside = p .1;
+      no-newline = ap (free 10) (sym j) ∙ free-append 10 (part input from end) (part input end end′) (g .no-newline) (p .2);
+      same-length = g .same-length;
+      read = subst (λ (xs : List ℕ). Reads-on s values xs u w) j (on-more s t u values w w (part input from end) (part input end end′) (g .read) r);
+    }
+
+-- digits, whatever the values before
+abbrev pub Digits-on : List ℕ → ℕ → Reading → ℕ → Reading → Type 0
+Digits-on input from s end t = (values : List Float) → Reading-on input from s values end t values
+
+no-digit : (b d : ℕ) → digit-of b ≡ some d → b ≡ 10 → ⊥
+no-digit b d e h = let z : _≡_ {A = Option ℕ} none (some d) = ap digit-of (sym h) ∙ e in let w : _≡_ {A = ℕ} 0 1 = cc in omega arith
+
+pub digits-step : (input : List ℕ) (from : ℕ) (s : Reading) (end : ℕ) (t : Reading) (d : ℕ) → Digits-on input from s end t → end < length input
+    → digit-of (getD input end 0) ≡ some d → d < 16 → t .digits < 16
+    → Digits-on input from s (end + 1) (record { good = t .good; count = t .count; digits = t .digits + 1; bits = 16 * (t .bits % 1152921504606846976) + d })
+digits-step input from s end t d g h e l k values =
+    reading-step input from s values end t values (g values) h (no-digit (getD input end 0) d e) _ values refl
+    (λ seen r. digit-after seen t values (getD input end 0) d e l k r)
+
+-- what is told of the digits read
+pub digits-end : (input : List ℕ) (from : ℕ) (s : Reading) (end : ℕ) (t : Reading) (r : Part) → r ≡ record { reading = t; end = end } → Digits-on input from s end t
+    → ((from ≤ r .end) × (r .end ≤ length input) × (free 10 (part input from (r .end)) ≡ true)) × ((values : List Float) → Reads-on s values (part input from (r .end)) (r .reading) values)
+digits-end input from s end t r e g =
+    subst (λ (x : Part). ((from ≤ x .end) × (x .end ≤ length input) × (free 10 (part input from (x .end)) ≡ true)) × ((values : List Float) → Reads-on s values (part input from (x .end)) (x .reading) values))
+    (sym e) ((g [] .start, g [] .inside, g [] .no-newline), λ values. g values .read)

@@ -2,10 +2,10 @@
 // commas". The memory is a slice for the values and four numbers, however long the line is.
 ghost use mathlib.Core.Path.{_≡_};
 ghost use mathlib.Core.Bool.{true, false};
-ghost use mathlib.Core.List.{[], _∷_};
+ghost use mathlib.Core.List.{List, [], _∷_};
 ghost use Prim.Native.Nat.{_≤_, _<_};
 ghost use lib.ListN.{length, getD, set};
-ghost use lib.Ieee.{binary64, ofBits};
+ghost use lib.Ieee.{Float, binary64, ofBits};
 ghost use Rattle.names.specs.Lines.{part};
 ghost use Rattle.names.proofs.Splits.{free};
 ghost use Rattle.lines.specs.Reading.{Ends-as, Reads-on, Starts, Tells-empty, counted};
@@ -93,6 +93,45 @@ pub struct Part {
     pub end: usize,
 }
 
+fn part_to(s: Reading, digits: usize, bits: u64, end: usize) -> Part
+    ensures { λ r. ⌜ r ≡ record { reading = record { good = s .good; count = s .count; digits = digits; bits = bits }; end = end } ⌝ }
+{
+    let reading = Reading {
+        good: s.good,
+        count: s.count,
+        digits: digits,
+        bits: bits,
+    };
+    Part {
+        reading: reading,
+        end: end,
+    }
+}
+
+// Reads the digits from a byte of the input on, as many as a value still takes.
+fn read_digits(input: &[u8], from: usize, s: Reading) -> Part
+    requires { ⌜ from ≤ length (now input) ⌝ }
+    ensures place { λ r. ⌜ (from ≤ r .end) × (r .end ≤ length (now (input .entry))) × (free 10 (part (now (input .entry)) from (r .end)) ≡ true) ⌝ }
+    ensures read { λ r. ⌜ ((values : List Float) → Reads-on s values (part (now (input .entry)) from (r .end)) (r .reading) values) ⌝ }
+{
+    let mut end = from;
+    let mut digits = s.digits;
+    let mut bits = s.bits;
+    while end < input.len() {
+        let d = names::digit(input[end]);
+        if d == 16 {
+            return part_to(s, digits, bits, end);
+        }
+        if digits >= 16 {
+            return part_to(s, digits, bits, end);
+        }
+        bits = 16 * (bits % 0x1000_0000_0000_0000) + d;
+        digits += 1;
+        end += 1;
+    }
+    part_to(s, digits, bits, end)
+}
+
 // Reads a line on from a byte of the input, to its newline or to the end of the input.
 pub(crate) fn read_part(input: &[u8], from: usize, s: Reading, values: &mut [f64]) -> Part
     requires { ⌜ from ≤ length (now input) ⌝ }
@@ -109,8 +148,10 @@ pub(crate) fn read_part(input: &[u8], from: usize, s: Reading, values: &mut [f64
                 end: end,
             };
         }
-        reading = read_byte(reading, b, values);
-        end += 1;
+        let next = read_byte(reading, b, values);
+        let digits = read_digits(input, end + 1, next);
+        reading = digits.reading;
+        end = digits.end;
     }
     Part {
         reading: reading,

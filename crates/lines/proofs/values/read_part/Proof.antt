@@ -1,7 +1,7 @@
-use Rattle.lines.proofs.Parts.{Reading-on, reading-start, reading-step}
+use Rattle.lines.proofs.Parts.{Reading-on, reading-run, reading-start, reading-step}
 use lib.ListN.{length}
 use native.Mathlib.Omega.{arith}
-use Prim.Native.Nat.{_-_}
+use Prim.Native.Nat.{_+_, _-_}
 use Rattle.lines.proofs.values.read_part.Statement.{statement}
 use Rattle.lines.proofs.values.read_part.Tie as tie
 
@@ -26,14 +26,17 @@ returns c = ((c .before .before .before .loop .inv .start, c .before .before .be
 read-byte-requires : tie.Need-read-byte-requires Inv-loop μ-loop
 read-byte-requires c κs = tt
 
-add-end : tie.Need-add-end Inv-loop μ-loop
-add-end c = omega arith
+add-read-digits : tie.Need-add-read-digits Inv-loop μ-loop
+add-read-digits c = omega arith
+
+read-digits-requires : tie.Need-read-digits-requires Inv-loop μ-loop
+read-digits-requires c κs = omega (arith, c .before .before .before .before .before .before .loop-test .taken)
 
 loop-less : tie.Need-loop-less Inv-loop μ-loop
-loop-less c = omega arith
+loop-less c = omega (arith, c .before .read-digits .ensures .0 .0, c .before .before .before .before .before .before .before .before .loop-test .taken)
 
 loop-again : tie.Need-loop-again Inv-loop μ-loop
-loop-again c = reading-step (c .before .before .before .before .before .before .before .before .before .before .args .input .now) (c .before .before .before .before .before .before .before .before .before .before .args .from) (c .before .before .before .before .before .before .before .before .before .before .args .s) (c .before .before .before .before .before .before .before .before .before .before .args .values .now) (c .before .before .before .before .before .before .before .loop .end) (c .before .before .before .before .before .before .before .loop .reading) (c .before .before .before .before .before .before .before .loop .values) (c .before .before .before .before .before .before .before .loop .inv) (c .before .before .before .before .before .before .loop-test .taken) (c .before .before .before .before .if1 .left) (c .before .before .read-byte .result) (c .before .before .read-byte .last .1 .1 .0) (c .before .before .read-byte .kept .1 .1 .0) (c .before .before .read-byte .ensures)
+loop-again c = reading-run (c .before .before .before .before .before .before .before .before .before .before .before .before .args .input .now) (c .before .before .before .before .before .before .before .before .before .before .before .before .args .from) (c .before .before .before .before .before .before .before .before .before .before .before .before .args .s) (c .before .before .before .before .before .before .before .before .before .before .before .before .args .values .now) (c .before .before .before .before .before .before .before .before .before .loop .end + 1) (c .before .before .before .before .read-byte .result) (c .before .before .before .before .read-byte .last .1 .1 .0) (reading-step (c .before .before .before .before .before .before .before .before .before .before .before .before .args .input .now) (c .before .before .before .before .before .before .before .before .before .before .before .before .args .from) (c .before .before .before .before .before .before .before .before .before .before .before .before .args .s) (c .before .before .before .before .before .before .before .before .before .before .before .before .args .values .now) (c .before .before .before .before .before .before .before .before .before .loop .end) (c .before .before .before .before .before .before .before .before .before .loop .reading) (c .before .before .before .before .before .before .before .before .before .loop .values) (c .before .before .before .before .before .before .before .before .before .loop .inv) (c .before .before .before .before .before .before .before .before .loop-test .taken) (c .before .before .before .before .before .before .if1 .left) (c .before .before .before .before .read-byte .result) (c .before .before .before .before .read-byte .last .1 .1 .0) (c .before .before .before .before .read-byte .kept .1 .1 .0) (c .before .before .before .before .read-byte .ensures)) (c .before .read-digits .result .end) (c .before .read-digits .result .reading) (c .before .read-digits .ensures .0) (c .before .read-digits .ensures .1 (c .before .before .before .before .read-byte .last .1 .1 .0))
 
 same-length-2 : tie.Need-same-length-2 Inv-loop μ-loop
 same-length-2 c = c .before .loop .inv .same-length
@@ -52,7 +55,8 @@ read-part-spec =
     same-length
     returns
     read-byte-requires
-    add-end
+    add-read-digits
+    read-digits-requires
     loop-less
     loop-again
     same-length-2

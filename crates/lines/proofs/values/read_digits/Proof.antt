@@ -1,0 +1,81 @@
+use native.Mathlib.Omega.{arith}
+use Prim.Native.Nat.{_-_}
+use lib.ListN.{length, getD}
+use borrow.Author.Needs.{needs}
+use Rattle.names.proofs.Digits.{digit-is}
+use Rattle.lines.proofs.Parts.{Digits-on, digits-end, digits-step, reading-start}
+use Rattle.lines.proofs.values.read_digits.Statement.{statement}
+use Rattle.lines.proofs.values.read_digits.Tie as tie
+
+abbrev Inv-loop : tie.InvT-loop
+Inv-loop input from s end₀ digits₀ bits₀ end digits bits = Digits-on input from s end (record { good = s .good; count = s .count; digits = digits; bits = bits })
+
+abbrev μ-loop : tie.MeasureT-loop
+μ-loop input from s end₀ digits₀ bits₀ end digits bits = length input - end
+
+loop-holds : tie.Need-loop-holds Inv-loop μ-loop
+loop-holds c = λ values. reading-start (c .before .args .input .now) (c .before .args .from) (c .before .args .s) values (c .before .pre)
+
+shared-slice-read-digit : tie.Need-shared-slice-read-digit Inv-loop μ-loop
+shared-slice-read-digit c = omega arith
+
+digit-requires : tie.Need-digit-requires Inv-loop μ-loop
+digit-requires c κs = tt
+
+part-to-requires : tie.Need-part-to-requires Inv-loop μ-loop
+part-to-requires c κs = tt
+
+returns : tie.Need-returns Inv-loop μ-loop
+returns c = digits-end (c .before .before .before .before .before .before .before .args .input .now) (c .before .before .before .before .before .before .before .args .from) (c .before .before .before .before .before .before .before .args .s) (c .before .before .before .before .before .loop .end) (record { good = c .before .before .before .before .before .before .before .args .s .good; count = c .before .before .before .before .before .before .before .args .s .count; digits = c .before .before .before .before .before .loop .digits; bits = c .before .before .before .before .before .loop .bits }) (c .part-to .result) (c .part-to .ensures) (c .before .before .before .before .before .loop .inv)
+
+part-to-requires-2 : tie.Need-part-to-requires-2 Inv-loop μ-loop
+part-to-requires-2 c κs = tt
+
+returns-2 : tie.Need-returns-2 Inv-loop μ-loop
+returns-2 c = digits-end (c .before .before .before .before .before .before .before .before .args .input .now) (c .before .before .before .before .before .before .before .before .args .from) (c .before .before .before .before .before .before .before .before .args .s) (c .before .before .before .before .before .before .loop .end) (record { good = c .before .before .before .before .before .before .before .before .args .s .good; count = c .before .before .before .before .before .before .before .before .args .s .count; digits = c .before .before .before .before .before .before .loop .digits; bits = c .before .before .before .before .before .before .loop .bits }) (c .part-to2 .result) (c .part-to2 .ensures) (c .before .before .before .before .before .before .loop .inv)
+
+mul-bits : tie.Need-mul-bits Inv-loop μ-loop
+mul-bits c = search needs
+
+add-bits : tie.Need-add-bits Inv-loop μ-loop
+add-bits c = search needs
+
+add-digits : tie.Need-add-digits Inv-loop μ-loop
+add-digits c = search needs
+
+add-end : tie.Need-add-end Inv-loop μ-loop
+add-end c = omega arith
+
+loop-less : tie.Need-loop-less Inv-loop μ-loop
+loop-less c = omega arith
+
+loop-again : tie.Need-loop-again Inv-loop μ-loop
+loop-again c = let d = digit-is (getD (c .before .before .before .before .before .before .before .args .input .now) (c .before .before .before .before .before .loop .end) 0) (c .before .before .digit .result) (c .before .before .digit .ensures .0) (c .before .if1 .left) in digits-step (c .before .before .before .before .before .before .before .args .input .now) (c .before .before .before .before .before .before .before .args .from) (c .before .before .before .before .before .before .before .args .s) (c .before .before .before .before .before .loop .end) (record { good = c .before .before .before .before .before .before .before .args .s .good; count = c .before .before .before .before .before .before .before .args .s .count; digits = c .before .before .before .before .before .loop .digits; bits = c .before .before .before .before .before .loop .bits }) (c .before .before .digit .result) (c .before .before .before .before .before .loop .inv) (c .before .before .before .before .loop-test .taken) (d .0) (d .1) (omega (arith, c .if2 .left))
+
+part-to-requires-3 : tie.Need-part-to-requires-3 Inv-loop μ-loop
+part-to-requires-3 c κs = tt
+
+returns-3 : tie.Need-returns-3 Inv-loop μ-loop
+returns-3 c = digits-end (c .before .before .before .before .args .input .now) (c .before .before .before .before .args .from) (c .before .before .before .before .args .s) (c .before .before .loop .end) (record { good = c .before .before .before .before .args .s .good; count = c .before .before .before .before .args .s .count; digits = c .before .before .loop .digits; bits = c .before .before .loop .bits }) (c .part-to3 .result) (c .part-to3 .ensures) (c .before .before .loop .inv)
+
+pub read-digits-spec : {M : Type 1} → statement M
+read-digits-spec =
+    tie.close
+    (tie.spec
+    Inv-loop
+    μ-loop
+    loop-holds
+    shared-slice-read-digit
+    digit-requires
+    part-to-requires
+    returns
+    part-to-requires-2
+    returns-2
+    mul-bits
+    add-bits
+    add-digits
+    add-end
+    loop-less
+    loop-again
+    part-to-requires-3
+    returns-3)
