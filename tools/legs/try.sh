@@ -4,15 +4,9 @@ set -e
 here=$(cd "$(dirname "$0")" && pwd)
 root=$here/../..
 oracle=${ORACLE:-/tmp/oracle/oracle}
-kit=${RATTLE:-/opt/rattle}
 (cd "$root" && rt check legs | tail -1)
 [ -x "$oracle" ] || OUT=$oracle "$root/reference/build.sh"
 legs=$(mktemp)
 trap 'rm -f "$legs"' EXIT
-# a program is run with the C library that it was linked against
-cat >"$legs" <<END
-#!/bin/sh
-exec $kit/toolchain/lib/ld-linux-x86-64.so.2 --library-path $kit/toolchain/lib $root/target/bin/legs
-END
-chmod +x "$legs"
+"$root/tools/library/runner.sh" "$root/target/bin/legs" "$legs"
 python3 "$here/compare.py" "$legs" "$oracle" "${1:-1}" "${2:-1000}"
