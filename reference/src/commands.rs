@@ -3,7 +3,7 @@ use crate::compile::{Program, Symbol};
 use crate::errors::{Error, ErrorCode};
 use crate::expression::Expr;
 use crate::libm::{self, Asked, Question, Source};
-use crate::{names, nodes, steps};
+use crate::{names, nodes, refusals, steps};
 use std::panic::{catch_unwind, resume_unwind, AssertUnwindSafe};
 
 /// A line to print: an answer, or the refusal or fault that stands in its place.
@@ -117,14 +117,8 @@ fn evaluate(program: &Program, inputs: &[f64], source: Source) -> Answer {
 
 /// `refused N PATH` with document 01's number.
 fn refusal(error: Error) -> String {
-    let number = match error.code {
-        ErrorCode::ExpressionLimit => 4,
-        ErrorCode::InvalidInput => 5,
-        ErrorCode::UnknownSymbol => 6,
-        ErrorCode::Type => 7,
-        ErrorCode::Unsupported => 8,
-        ErrorCode::Domain => 9,
-        _ => return format!("error unexpected {:?}", error.code),
+    let Some(number) = refusals::number(&error.code) else {
+        return format!("error unexpected {:?}", error.code);
     };
     format!(
         "refused {number} {}",

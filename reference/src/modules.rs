@@ -17,3 +17,6 @@ mod names;
 mod nodes;
 #[path = "numbers.rs"]
 mod numbers;
+#[allow(dead_code)]
+#[path = "refusals.rs"]
+mod refusals;

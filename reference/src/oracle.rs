@@ -10,6 +10,7 @@ mod memory;
 mod names;
 mod nodes;
 mod numbers;
+mod refusals;
 mod steps;
 mod worker;
 

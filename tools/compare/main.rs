@@ -23,7 +23,7 @@ mod steps;
 mod values;
 
 use compile::Program;
-use errors::{Error, ErrorCode};
+use errors::Error;
 use expression::{Expr, Function};
 use formulas::Case;
 use random::Random;
@@ -58,14 +58,8 @@ struct Tally {
 type Refused = (usize, Option<String>);
 
 fn refusal(error: Error) -> Refused {
-    let number = match error.code {
-        ErrorCode::ExpressionLimit => 4,
-        ErrorCode::InvalidInput => 5,
-        ErrorCode::UnknownSymbol => 6,
-        ErrorCode::Type => 7,
-        ErrorCode::Unsupported => 8,
-        ErrorCode::Domain => 9,
-        other => unreachable!("the reference's compiler says {other:?}"),
+    let Some(number) = refusals::number(&error.code) else {
+        unreachable!("the reference's compiler says {:?}", error.code);
     };
     (number, error.expression)
 }
