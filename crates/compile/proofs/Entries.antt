@@ -1,6 +1,6 @@
 -- The entry point's cases, in the order of its refusals.
 use mathlib.Core.Path.{_≡_, refl, sym, ap, ap₂, _∙_, subst}
-use mathlib.Core.Bool.{Bool, true, false, _&&_}
+use mathlib.Core.Bool.{Bool, true, false}
 use mathlib.Core.List.{List, [], _∷_, map}
 use mathlib.Core.Option.{Option, none, some}
 use Prim.Native.Nat.{ℕ, zero, suc, _+_, _-_, _*_, _/_, _≤_, _<_}
@@ -14,6 +14,7 @@ use Rattle.formula.specs.Path.{Path, placed, root}
 use Rattle.formula.specs.Formula.{Formula, depth, size, well-formed, within}
 use Rattle.formula.specs.Names.{Input, Parameter, State, Symbol, SymbolKind, Time, kinds, symbols-of}
 use Rattle.formula.specs.Node.{formula-of, tree-in}
+use Rattle.formula.proofs.Tests.{and-first, and-second}
 use Rattle.formula.specs.Term.{term, terms}
 use Rattle.machine.specs.Check.{Context, Fault, fault}
 use Rattle.machine.specs.Compile.{Compiled, accepted, compile, filled, lowered-or, own-context, path-after, program-after, program-room, read, refused, sized}
@@ -143,20 +144,20 @@ module _ (b l : List ℕ) (program : ℕ) (q q′ : List ℕ) (r : Prepared) whe
 
 -- ---- the table of the symbols
 
-mapped : (xs : List Symbol) → length (map kind-number (kinds xs)) ≡ length xs
-mapped [] = refl
-mapped (x ∷ xs) = ap suc (mapped xs)
+pub listed-length : (xs : List Symbol) → length (map kind-number (kinds xs)) ≡ length xs
+listed-length [] = refl
+listed-length (x ∷ xs) = ap suc (listed-length xs)
 
 module _ (r : Prepared) (ss : List Symbol) (counted : r .count ≡ length ss) (kinds-are : r .kinds ≡ names-of (some ss) .kinds) where
   pub within-table : r .count ≤ length (r .kinds)
-  within-table = omega (arith, counted, ap length kinds-are, length-append (map kind-number (kinds ss)) (zeros (256 - length ss)), mapped ss)
+  within-table = omega (arith, counted, ap length kinds-are, length-append (map kind-number (kinds ss)) (zeros (256 - length ss)), listed-length ss)
 
   pub prefix-long : r .count ≡ length (take (r .count) (r .kinds))
   prefix-long = sym (length-take-le (r .count) (r .kinds) within-table)
 
   pub prefix : take (r .count) (r .kinds) ≡ map kind-number (kinds ss)
   prefix =
-      ap (take (r .count)) kinds-are ∙ take-at (map kind-number (kinds ss)) (zeros (256 - length ss)) (r .count) (mapped ss ∙ sym counted)
+      ap (take (r .count)) kinds-are ∙ take-at (map kind-number (kinds ss)) (zeros (256 - length ss)) (r .count) (listed-length ss ∙ sym counted)
 
 back : (κ : SymbolKind) → kind-of (kind-number κ) ≡ κ
 back Parameter = refl
@@ -174,17 +175,12 @@ same-context K ss g e = ap (λ (x : List SymbolKind). record { symbols = x; gene
 
 -- ---- a formula within the limits, over its symbols
 
-both : (u v : Bool) → (u && v) ≡ true → (u ≡ true) × (v ≡ true)
-both true true e = (refl, refl)
-both true false e = absurd (let w : _≡_ {A = ℕ} 0 1 = cc in omega arith)
-both false v e = absurd (let w : _≡_ {A = ℕ} 0 1 = cc in omega arith)
-
 module _ (b : List ℕ) (f : Formula) (is-f : formula-of b ≡ some f) (limits : within 256 32 f ≡ true) where
   pub few : size f ≤ 256
-  few = leb-true (size f) 256 (both (leb (size f) 256) (leb (depth f) 32) limits .0)
+  few = leb-true (size f) 256 (and-first (leb (size f) 256) (leb (depth f) 32) limits)
 
   pub low : depth f ≤ 32
-  low = leb-true (depth f) 32 (both (leb (size f) 256) (leb (depth f) 32) limits .1)
+  low = leb-true (depth f) 32 (and-second (leb (size f) 256) (leb (depth f) 32) limits)
 
   tree : tree-in 32 b 0 ≡ f
   tree = formula-in b f 32 is-f low .0

@@ -20,6 +20,7 @@ use Rattle.machine.specs.Compile as Compile
 use Rattle.names.specs.Lines.{kind-number}
 use Rattle.paths.specs.Over.{zeroed}
 use Rattle.names.proofs.Told.{number-state}
+use Rattle.compile.proofs.Entries.{listed-length}
 use Rattle.derivative.specs.Differentiate.{derivative}
 use Rattle.derivative.specs.Derive.{Derived, by-state, continued, derive, derived, fitted, formula-refused, refused}
 use Rattle.derive.specs.Outcome.{Leaves, Lowers}
@@ -113,10 +114,6 @@ not-boolean Number e = refl
 not-boolean Boolean e = absurd (let z : _≡_ {A = ℕ} 0 1 = cc in omega arith)
 
 -- ---- the kinds in a slice
-
-listed-length : (ss : List Symbol) → length (map kind-number (kinds ss)) ≡ length ss
-listed-length [] = refl
-listed-length (x ∷ xs) = ap suc (listed-length xs)
 
 pub kinds-length : (K : List ℕ) (ss : List Symbol) → K ≡ map kind-number (kinds ss) → length K ≡ length ss
 kinds-length K ss e = ap length e ∙ listed-length ss

@@ -39,11 +39,6 @@ use Rattle.derive.specs.declared.Answer.{Answer}
 pub leaves : (X Y : Derived) (r : Answer) (q q′ t t′ p p′ : List ℕ) → X ≡ Y → Leaves Y r q q′ t t′ p p′ → Leaves X r q q′ t t′ p p′
 leaves X Y r q q′ t t′ p p′ e L = subst (λ (Z : Derived). Leaves Z r q q′ t t′ p p′) (sym e) L
 
-both : (u v : Bool) → (u && v) ≡ true → (u ≡ true) × (v ≡ true)
-both true true e = (refl, refl)
-both true false e = absurd (let w : _≡_ {A = ℕ} 0 1 = cc in omega arith)
-both false v e = absurd (let w : _≡_ {A = ℕ} 0 1 = cc in omega arith)
-
 -- ---- the formula itself
 
 module _ (b K : List ℕ) (f : Formula) (ss : List Symbol) (F : Formed b K f ss) where

@@ -14,13 +14,10 @@ use borrow.Author.Tests.{lt-ltb}
 use Rattle.formula.specs.Operator.{Operation, unary, binary, compare, call, Positive, Negative, Not, Binary, Add, Subtract, Multiply, Divide, Power, Modulo, Function, Exp, Log, Log10, Sqrt, Sin, Cos, Tan, Tanh, Abs, Floor, Ceil, Min, Max, Hill, InverseGaussianDensity}
 use Rattle.formula.specs.Formula.{Head, number, truth, symbol, operation, junction, ifelse, conditional, malformed, Formula, Formulas, node, last, next, of-list, to-list, count, depends}
 use Rattle.reader.specs.Writable.{writable, all-writable, writable-head}
-use Rattle.reader.proofs.Heads.{and-first, and-second}
+use Rattle.formula.proofs.Tests.{and-both, and-first, and-second}
 use Rattle.derivative.specs.Rules.{Parts, Rule, Rules, child, whole, diff, make, add, mul, unless-zero, end, _and_, instance, instances, zero-bits, one-bits, less-one, power, power-rule, binary-rule, branch-rule, extremum-from, extremum-rule, call-rule, operation-rule, rule-of}
 use Rattle.derivative.specs.Differentiate.{formulas, literal-bits, second-literal, and-then, applied, the-rule, differentiate, differentiate-all, with-primal, binary-node, derivative}
 use Rattle.derivative.proofs.Compiles.{and-then-some}
-
-both : (a b : Bool) → a ≡ true → b ≡ true → (a && b) ≡ true
-both a b p q = rw (p, q)
 
 -- ---- an instance of a rule
 
@@ -53,7 +50,7 @@ all-of (next t ts) w = (and-first (writable t) (all-writable ts) w, all-of ts (a
 
 of-all : (ts : List Formula) → All ts → all-writable (of-list ts) ≡ true
 of-all [] a = refl
-of-all (t ∷ ts) a = both (writable t) (all-writable (of-list ts)) (a .0) (of-all ts (a .1))
+of-all (t ∷ ts) a = and-both (writable t) (all-writable (of-list ts)) (a .0) (of-all ts (a .1))
 
 at : (ts : List Formula) (i : ℕ) → All ts → writable (getD ts i (node (number 0) last)) ≡ true
 at [] i a = refl
@@ -78,7 +75,7 @@ module _ (e : Parts Formula) (own : writable (e .own) ≡ true) (children : All 
     written whole h = own
     written (diff i) h = at (e .diffs) i diffs
     written (make k rs) h =
-        both (writable-head k (count (of-list (instances formulas e rs)))) (all-writable (of-list (instances formulas e rs)))
+        and-both (writable-head k (count (of-list (instances formulas e rs)))) (all-writable (of-list (instances formulas e rs)))
         (ap (writable-head k) (counted rs) ∙ and-first (writable-head k (rules-count rs)) (all-fitting rs) h)
         (of-all (instances formulas e rs) (written-all rs (and-second (writable-head k (rules-count rs)) (all-fitting rs) h)))
     written (add a b) h =
