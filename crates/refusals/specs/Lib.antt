@@ -1,0 +1,2 @@
+-- The numbers by which bad input is refused.
+pub mod Numbers
