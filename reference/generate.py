@@ -1,10 +1,15 @@
 #!/usr/bin/env python3
 """Prints random commands for the oracle: generate.py --seed S --count N [--libm]."""
 import argparse
+import os
 import random
 import struct
+import sys
 
-NUMBER, TRUTH, SYMBOL, UNARY, BINARY, COMPARE, BOOLEAN, CALL, CONDITIONAL = range(9)
+sys.path.insert(0, os.path.join(os.path.dirname(os.path.abspath(__file__)), "..", "tools", "shared"))
+from nodes import NODE_SIZE, node  # noqa: E402
+from nodes import NUMBER, TRUTH, SYMBOL, UNARY, BINARY, COMPARE, BOOLEAN, CALL, CONDITIONAL  # noqa: E402
+
 MODULO, NOT = 5, 2
 FLOOR, CEIL, MIN, MAX, HILL, IFELSE, DENSITY = 9, 10, 11, 12, 13, 14, 15
 ONE_ARGUMENT = [0, 1, 2, 3, 4, 5, 6, 7, 8, FLOOR, CEIL]
@@ -17,11 +22,6 @@ NOT_FINITE = [0x7FF0000000000000, 0xFFF0000000000000, 0x7FF8000000000000, 0x7FF0
 
 def bits(value):
     return struct.unpack("<Q", struct.pack("<d", value))[0]
-
-
-def node(kind, operator=0, children=(), symbol=0, value=0):
-    head = struct.pack("<BBHIQ", kind, operator, len(children), symbol, value)
-    return head + b"".join(children)
 
 
 def is_finite(pattern):
@@ -170,8 +170,8 @@ class Generator(random.Random):
     def damaged(self, formula):
         """The formula with a field changed, cut or followed by something."""
         at = self.randrange(len(formula))
-        field = self.choice([(0, 1), (1, 2), (2, 4), (4, 8), (8, 16)])
-        start = at // 16 * 16
+        field = self.choice([(0, 1), (1, 2), (2, 4), (4, 8), (8, NODE_SIZE)])
+        start = at // NODE_SIZE * NODE_SIZE
         new = (self.choice([0, 1, 2, 3, self.getrandbits(64)]) % 256 ** (field[1] - field[0]))
         new = new.to_bytes(field[1] - field[0], "little")
         return self.choice([
@@ -181,7 +181,7 @@ class Generator(random.Random):
             formula[:at],
             formula[:start],
             formula + formula[start:],
-            formula + bytes(self.choice([1, 15, 16, 17])),
+            formula + bytes(self.choice([1, NODE_SIZE - 1, NODE_SIZE, NODE_SIZE + 1])),
         ])
 
     def large(self):

@@ -1,5 +1,6 @@
 //! Lines a second and peak memory of `legs` and of the same work done by the reference.
 use crate::formulas;
+use crate::node::NODE_SIZE;
 use std::fs::{self, File};
 use std::path::{Path, PathBuf};
 use std::process::{Command, Stdio};
@@ -96,7 +97,7 @@ pub fn table(here: &str, there: &str) {
                 b = b.min(seconds(&there, &folder));
             }
             let rate = |t: f64| lines as f64 / t;
-            let (nodes, ratio) = (formula.len() / 16, rate(a) / rate(b));
+            let (nodes, ratio) = (formula.len() / NODE_SIZE, rate(a) / rate(b));
             println!(
                 "| {name} | {nodes} | {lines} | {:.0} | {:.0} | {ratio:.2} | {} | {} |",
                 rate(a), rate(b), peak_of(&here, &folder), peak_of(&there, &folder)

@@ -15,6 +15,7 @@ mod steps {
 }
 
 use compile::Program;
+use node::NODE_SIZE;
 use std::hint::black_box;
 use std::time::{Duration, Instant};
 use vebrostin::slices::{self, PATH};
@@ -76,7 +77,7 @@ fn compile_table() {
             black_box(Program::compile(&expr, &symbols).unwrap());
         };
         let times = least(here, there);
-        row(name, formula.len() / 16, slices::instructions(&program), times);
+        row(name, formula.len() / NODE_SIZE, slices::instructions(&program), times);
     }
 }
 
@@ -96,7 +97,7 @@ fn derive_table() {
             let expr = nodes::read(black_box(&formula), &symbols);
             black_box(Program::derivative(&expr, &symbols, "climb").unwrap());
         };
-        row(name, formula.len() / 16, size / 16, least(here, there));
+        row(name, formula.len() / NODE_SIZE, size / NODE_SIZE, least(here, there));
     }
 }
 
@@ -114,7 +115,7 @@ fn run_table() {
         let here = || drop(black_box(run.evaluate(black_box(&inputs), Question::by_libm)));
         let there = || drop(black_box(reference.evaluate_into(black_box(&inputs), &mut workspace)));
         let times = least(here, there);
-        row(name, formula.len() / 16, reference.instruction_count(), times);
+        row(name, formula.len() / NODE_SIZE, reference.instruction_count(), times);
     }
 }
 

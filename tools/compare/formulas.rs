@@ -1,5 +1,5 @@
 //! Random and damaged formulas, name lines and values.
-use crate::node::node;
+use crate::node::{node, NODE_SIZE};
 use crate::random::Random;
 
 const NUMBER: u8 = 0;
@@ -122,8 +122,8 @@ fn damaged_line(random: &mut Random, mut line: Vec<u8>) -> Vec<u8> {
 /// The formula with a field changed, cut, or followed by something.
 fn damaged(random: &mut Random, mut formula: Vec<u8>) -> Vec<u8> {
     let at = random.below(formula.len());
-    let start = at / 16 * 16;
-    let (from, to) = random.choice(&[(0, 1), (1, 2), (2, 4), (4, 8), (8, 16)]);
+    let start = at / NODE_SIZE * NODE_SIZE;
+    let (from, to) = random.choice(&[(0, 1), (1, 2), (2, 4), (4, 8), (8, NODE_SIZE)]);
     match random.below(7) {
         0..=2 => {
             let wild = random.bits();
@@ -133,7 +133,7 @@ fn damaged(random: &mut Random, mut formula: Vec<u8>) -> Vec<u8> {
         3 => formula[at] ^= 1 << random.below(8),
         4 => formula.truncate(random.choice(&[at, start])),
         5 => formula.extend_from_within(start..),
-        _ => formula.extend(vec![0; random.choice(&[1, 15, 16, 17])]),
+        _ => formula.extend(vec![0; random.choice(&[1, NODE_SIZE - 1, NODE_SIZE, NODE_SIZE + 1])]),
     }
     formula
 }

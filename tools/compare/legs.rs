@@ -4,6 +4,7 @@ use crate::errors::ErrorCode;
 use crate::formulas::{self, Case};
 use crate::libm::{self, Asked, Source};
 use crate::machine::bits;
+use crate::node::NODE_SIZE;
 use crate::random::Random;
 use crate::values::values;
 use crate::{names, nodes, refusal, steps};
@@ -134,7 +135,7 @@ impl Legs {
         let output = Command::new(&self.program).current_dir(&self.folder).stdin(stdin).output().map_err(|e| e.to_string())?;
         let here = String::from_utf8_lossy(&output.stdout);
         let there = if none { format!("{HEADER}0,refused,1:,0\n") } else { expected(&case.formula, &input) };
-        let loose = case.formula.chunks_exact(16).any(|node| node[0] == 7 && matches!(node[1], 11 | 12));
+        let loose = case.formula.chunks_exact(NODE_SIZE).any(|node| node[0] == 7 && matches!(node[1], 11 | 12));
         if output.status.success() && same(&here, &there, loose) {
             Ok(there.lines().count() as u64 - 1)
         } else {

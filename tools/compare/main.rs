@@ -26,6 +26,7 @@ use compile::Program;
 use errors::Error;
 use expression::{Expr, Function};
 use formulas::Case;
+use node::NODE_SIZE;
 use random::Random;
 use record::{Made, Recorder};
 use runs::Played;
@@ -219,7 +220,7 @@ impl Comparison {
         let made = Made { symbol: u64::from(case.symbol), lengths, answer: number, ..Made::default() };
         match expected {
             Ok((bytes, wanted)) if number == 0 && all(path, FILL) => {
-                self.tally.nodes += bytes.len() as u64 / 16;
+                self.tally.nodes += (bytes.len() / NODE_SIZE) as u64;
                 if tree[..bytes.len()] != bytes || !all(&tree[bytes.len()..], 0) {
                     return Err("the tree differs".into());
                 }
@@ -283,7 +284,7 @@ fn compare(seed: u64, count: u64, legs: Option<String>, folder: Option<String>) 
         random: Random::new(seed),
         tally: Tally::default(),
         path: Vec::new(),
-        tree: vec![0; 16 * LARGEST],
+        tree: vec![0; NODE_SIZE * LARGEST],
         program: Vec::new(),
         recorder: folder.map(Recorder::new),
     };

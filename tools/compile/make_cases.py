@@ -10,17 +10,14 @@ import sys
 
 HERE = os.path.dirname(os.path.abspath(__file__))
 ROOT = os.path.dirname(os.path.dirname(HERE))
-sys.path.insert(0, os.path.join(ROOT, "reference"))
-from generate import Generator, node, bits  # noqa: E402
-from generate import NUMBER, TRUTH, SYMBOL, UNARY, BINARY, COMPARE, BOOLEAN, CALL, CONDITIONAL  # noqa: E402
+sys.path[:0] = [os.path.join(ROOT, "reference"), os.path.join(ROOT, "tools", "shared")]
+from generate import Generator  # noqa: E402
+from nodes import NODE_SIZE, bits, node, program_room  # noqa: E402
+from nodes import NUMBER, TRUTH, SYMBOL, UNARY, BINARY, COMPARE, BOOLEAN, CALL, CONDITIONAL  # noqa: E402
 
 PATH_ROOM, FILL = 8192, 170
 OPCODES = {"unary": 5, "binary": 8, "compare": 14, "call": 20}
 STEPS = {"condition": 0, "then": 1, "else": 2}
-
-
-def program_room(formula):
-    return 240 * ((len(formula) + 15) // 16)
 
 
 # A program's bytes, from the reference's list of instructions
@@ -170,7 +167,7 @@ def chosen(oracle):
         kept.append(case_of(formula, names, answer, i % 3 * 17)[1])
     cases = random_cases(20000)
     for i, ((formula, names), answer) in enumerate(zip(cases, ask(oracle, cases))):
-        if len(formula) > 272 * 16 or len(names) > 1000:
+        if len(formula) > 272 * NODE_SIZE or len(names) > 1000:
             continue
         number, case = case_of(formula, names, answer, i % 3 * 17)
         if counts.get(number, 0) < (180 if number == 0 else 20) and len(case) < 1600:

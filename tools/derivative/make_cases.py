@@ -1,77 +1,140 @@
 #!/usr/bin/env python3
-"""Records the derivative trees of the Rust reference: make_cases.py FILE, from the repository's root, with the reference built
-by reference/build.sh. The records are described at the head of crates/derivative_cases/src/main.rt."""
-import subprocess,struct,random,sys
-sys.path.insert(0,'reference')
-def run(cmds):
-    p=subprocess.run(['/tmp/oracle/oracle'],input="\n".join(cmds)+"\n",text=True,capture_output=True); return p.stdout.split("\n")
-out=subprocess.run(['reference/generate.py','--seed','41','--count','6000'],text=True,capture_output=True).stdout.split("\n")
-cmds=[]
-for l in out:
-    w=l.split()
-    if not w: continue
-    if w[0] in('derive','drun'): cmds.append((w[1],w[2],w[3]))
-    elif w[0] in ('run','compile'): 
-        for s in ('0','1'): cmds.append((w[1],w[2],s))
-# own: every arm
-def node(kind,op=0,ch=(),sym=0,val=0): return struct.pack('<BBHIQ',kind,op,len(ch),sym,val)+b"".join(ch)
-def num(x): return node(0,val=struct.unpack('<Q',struct.pack('<d',x))[0])
-S=node(2); P=node(2,sym=1); Q=node(2,sym=2)
-line=lambda k: ("a:%s,b:p,c:p"%k).encode().hex()
-mine=[]
-for k in 'psti':
-    arms=[S]+[node(3,o,[S]) for o in (0,1)]
-    for a in (S,P,num(0.0),num(-0.0),num(1.0),num(2.0),num(3.0),num(0.5),node(3,0,[num(2.0)])):
-        for o in range(6): arms.append(node(4,o,[S,a])); arms.append(node(4,o,[a,S]))
-    for o in range(11): arms.append(node(7,o,[S])); arms.append(node(7,o,[node(4,2,[S,P])]))
-    for o in (11,12): 
-        for n in (2,3,5,9): arms.append(node(7,o,[S]*n)); arms.append(node(7,o,[P]*(n-1)+[S]))
-    for o in (13,15):
-        for x in (S,P,num(0.0)):
-            for y in (S,P,num(1.0)):
-                for z in (S,num(1.0)): arms.append(node(7,o,[x,y,z]))
-    c=node(5,0,[P,Q])
-    arms+= [node(8,0,[c,S,P]),node(7,14,[c,S,S]),node(8,0,[node(6,0,[c,c]),P,S]),node(8,0,[node(5,0,[S,P]),S,P])]
-    for a in arms: mine.append((a.hex(),line(k),'0'))
-deep=S
-for i in range(8): deep=node(7,8,[deep])
-mine.append((deep.hex(),line('p'),'0'))
-d=S
-for i in range(11): d=node(7,8,[d])
-mine.append((d.hex(),line('p'),'0'))          # 4
-n30=S
-for i in range(30): n30=node(7,8,[n30])
-mine.append((node(4,2,[num(0.0),n30]).hex(),line('p'),'0'))  # must be answered at once
-cmds=mine+cmds
-comp=run([f"compile {f} {n}" for f,n,s in cmds]); 
-ok=[i for i in range(len(cmds)) if comp[i].startswith('program') and comp[i].split()[4]=='number' and len(cmds[i][0])<=2*4096]
-huge={len(mine)-1}
-der=run([f"derive {cmds[i][0]} {cmds[i][1]} {cmds[i][2]}" for i in ok])
-recs=[];seen=set();stats={}
-total=0
-rnd=0
-for i,a in zip(ok,der):
-    f,n,s=cmds[i]
-    kinds=[x.split(':')[1] for x in bytes.fromhex(n if n!='-' else '').decode().split(',')] if n!='-' else []
-    if int(s)>=len(kinds): continue
-    st=1 if kinds[int(s)]=='s' else 0
-    key=(f,s,st)
-    if key in seen: continue
-    seen.add(key)
-    w=a.split()
-    if w[0]=='tree': ans,tree=0,bytes.fromhex(w[1])
-    elif w[:2]==['refused','8']: ans,tree=8,b''
-    elif w[:2]==['refused','4']: ans,tree=4,b''
-    elif i==len(mine)-1: ans,tree=0,node(4,0,[node(4,2,[num(0.0),bytes.fromhex(f)]),num(0.0)])
-    else: continue
-    fb=bytes.fromhex(f)
-    if len(tree)>16*512*2: continue
-    if i>=len(mine):
-        if len(tree)<=16*6 and rnd%7: rnd+=1; continue
-        rnd+=1
-        if total+len(tree)+len(fb)>230000: continue
-    total+=len(tree)+len(fb)+8
-    recs.append(struct.pack('<BBBBHH',ans,int(s),st,0,len(fb)//16,len(tree)//16)+fb+tree)
-    stats[ans]=stats.get(ans,0)+1
-open(sys.argv[1],'wb').write(b"".join(recs))
-print(len(recs),stats,total,max(len(r) for r in recs))
+"""Writes the record that crates/derivative_cases replays: formulas, a symbol, and the Rust reference's derivative tree of each.
+
+    tools/derivative/make_cases.py FILE [ORACLE]     # from the repository's root; reference/build.sh builds the oracle
+
+The head of crates/derivative_cases/src/main.rt describes a record. The random sequence is fixed."""
+import os
+import struct
+import subprocess
+import sys
+
+ROOT = os.path.dirname(os.path.dirname(os.path.dirname(os.path.abspath(__file__))))
+sys.path.insert(0, os.path.join(ROOT, "tools", "shared"))
+from nodes import BINARY, BOOLEAN, CALL, COMPARE, CONDITIONAL, NODE_SIZE, UNARY, node, number, symbol  # noqa: E402
+
+ABS, MIN, MAX, HILL, IFELSE, DENSITY = 8, 11, 12, 13, 14, 15
+MULTIPLY = 2
+LONGEST_FORMULA, LONGEST_TREE, RECORD_BYTES = 4096, 1024 * NODE_SIZE, 230000
+S, P, Q = symbol(0), symbol(1), symbol(2)
+
+
+def asked(oracle, commands):
+    answers = subprocess.run([oracle], input="\n".join(commands) + "\n", text=True, capture_output=True, check=True)
+    return answers.stdout.split("\n")
+
+
+# ---- formulas
+
+def arms():
+    """A formula for each arm of the rules, and for each literal that is simplified."""
+    yield S
+    yield from (node(UNARY, o, [S]) for o in (0, 1))
+    for a in (S, P, number(0.0), number(-0.0), number(1.0), number(2.0), number(3.0), number(0.5), node(UNARY, 0, [number(2.0)])):
+        for o in range(6):
+            yield node(BINARY, o, [S, a])
+            yield node(BINARY, o, [a, S])
+    for o in range(11):
+        yield node(CALL, o, [S])
+        yield node(CALL, o, [node(BINARY, MULTIPLY, [S, P])])
+    for o in (MIN, MAX):
+        for n in (2, 3, 5, 9):
+            yield node(CALL, o, [S] * n)
+            yield node(CALL, o, [P] * (n - 1) + [S])
+    for o in (HILL, DENSITY):
+        yield from (node(CALL, o, [x, y, z]) for x in (S, P, number(0.0)) for y in (S, P, number(1.0)) for z in (S, number(1.0)))
+    test = node(COMPARE, 0, [P, Q])
+    yield node(CONDITIONAL, 0, [test, S, P])
+    yield node(CALL, IFELSE, [test, S, S])
+    yield node(CONDITIONAL, 0, [node(BOOLEAN, 0, [test, test]), P, S])
+    yield node(CONDITIONAL, 0, [node(COMPARE, 0, [S, P]), S, P])
+
+
+def nested(n):
+    f = S
+    for _ in range(n):
+        f = node(CALL, ABS, [f])
+    return f
+
+
+# Multiply(0, Abs nested 30 times) has to be answered at once; the reference can't build what it throws away.
+QUICK = node(BINARY, MULTIPLY, [number(0.0), nested(30)])
+
+
+def made():
+    """Formula, name line and symbol of the cases made here."""
+    cases = [(f, "a:%s,b:p,c:p" % kind, 0) for kind in "psti" for f in arms()]
+    return cases + [(f, "a:p,b:p,c:p", 0) for f in (nested(8), nested(11), QUICK)]
+
+
+def generated():
+    """The same of random commands."""
+    commands = subprocess.run([os.path.join(ROOT, "reference", "generate.py"), "--seed", "41", "--count", "6000"], text=True, capture_output=True, check=True)
+    for words in map(str.split, commands.stdout.split("\n")):
+        if words and words[0] in ("derive", "drun"):
+            yield words[1], words[2], int(words[3])
+        elif words and words[0] in ("run", "compile"):
+            yield from ((words[1], words[2], s) for s in (0, 1))
+
+
+# ---- records
+
+def answer_of(words, formula):
+    """The refusal's number or 0, and the tree; none where the reference says something else."""
+    if words[0] == "tree":
+        return 0, bytes.fromhex(words[1])
+    if words[:2] in (["refused", "8"], ["refused", "4"]):
+        return int(words[1]), b""
+    if formula == QUICK:
+        return 0, node(BINARY, 0, [node(BINARY, MULTIPLY, [number(0.0), formula]), number(0.0)])
+    return None
+
+
+def record(answer, s, state, formula, tree):
+    return struct.pack("<BBBBHH", answer, s, state, 0, len(formula) // NODE_SIZE, len(tree) // NODE_SIZE) + formula + tree
+
+
+def kinds_of(names):
+    return [] if names == "-" else [name.split(":")[1] for name in bytes.fromhex(names).decode().split(",")]
+
+
+def derivable(oracle, commands):
+    """The places of the commands whose formula compiles to a number and is short enough."""
+    said = asked(oracle, ["compile %s %s" % (f, names) for f, names, s in commands])
+    for i, (f, names, s) in enumerate(commands):
+        if said[i].startswith("program") and said[i].split()[4] == "number" and len(f) <= 2 * LONGEST_FORMULA:
+            yield i
+
+
+def main(file, oracle="/tmp/oracle/oracle"):
+    own = [(f.hex(), names.encode().hex(), s) for f, names, s in made()]
+    commands = own + list(generated())
+    places = list(derivable(oracle, commands))
+    trees = asked(oracle, ["derive %s %s %d" % commands[i] for i in places])
+    records, seen, counts, total, turn = [], set(), {}, 0, 0
+    for i, said in zip(places, trees):
+        f, names, s = commands[i]
+        kinds = kinds_of(names)
+        if s >= len(kinds) or (f, s, kinds[s] == "s") in seen:
+            continue
+        seen.add((f, s, kinds[s] == "s"))
+        formula = bytes.fromhex(f)
+        found = answer_of(said.split(), formula)
+        if found is None or len(found[1]) > LONGEST_TREE:
+            continue
+        answer, tree = found
+        if i >= len(own):
+            turn += 1
+            # of the random ones with a small tree one in seven, and no more than there is room for
+            if (len(tree) <= 6 * NODE_SIZE and (turn - 1) % 7) or total + len(tree) + len(formula) > RECORD_BYTES:
+                continue
+        total += len(tree) + len(formula) + 8
+        records.append(record(answer, s, int(kinds[s] == "s"), formula, tree))
+        counts[answer] = counts.get(answer, 0) + 1
+    with open(file, "wb") as out:
+        out.write(b"".join(records))
+    print(len(records), "records, by answer", counts)
+
+
+if __name__ == "__main__":
+    main(*sys.argv[1:])

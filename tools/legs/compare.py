@@ -20,8 +20,10 @@ import termios
 import threading
 import time
 
-sys.path.insert(0, os.path.join(os.path.dirname(os.path.abspath(__file__)), "..", "..", "reference"))
-from generate import Generator, bits, is_finite, node  # noqa: E402
+HERE = os.path.dirname(os.path.abspath(__file__))
+sys.path[:0] = [os.path.join(HERE, "..", "..", "reference"), os.path.join(HERE, "..", "shared")]
+from generate import Generator, is_finite  # noqa: E402
+from nodes import bits, node, number, symbol  # noqa: E402
 
 HEADER = b"no,answer,detail,steps\n"
 VALUES = re.compile(rb"[0-9a-f]{16}(,[0-9a-f]{16})*")
@@ -160,15 +162,12 @@ def random_case(r):
 # ---- fixed inputs
 
 def fixed_cases():
-    symbol = lambda i: node(2, symbol=i)
-    number = lambda x: node(0, value=bits(x))
     value = "%016x" % bits(1.5)
     one = number(1.0)
     power = node(4, 4, [symbol(0), symbol(1)])
     exp = node(7, 0, [symbol(0)])
     divide = node(4, 3, [symbol(0), symbol(1)])
     many = ",".join(["n%d" % i + ":p" for i in range(256)]).encode()
-    widest = ",".join(("a%063d" % i).replace("0", "b") + "c" * 0 + ":p" for i in range(256)).encode()
     widest = b",".join(b"%s:p" % (b"a" * 60 + bytes([97 + i // 26, 97 + i % 26, 95, 95])) for i in range(256))
     yield "missing", None, b"a:p\n\n"
     yield "missing, no input", None, b""

@@ -10,25 +10,19 @@ ORACLE = os.environ.get("ORACLE", "/tmp/oracle/oracle")
 FILL, ROOM = 170, 8192
 NAMES = "a:p,b:p,c:p,d:p,e:p"
 EXP, LOG = 0, 1
+sys.path.insert(0, os.path.join(os.path.dirname(os.path.abspath(__file__)), "..", "shared"))
+from nodes import BINARY, BOOLEAN, CALL, COMPARE, CONDITIONAL, UNARY, bits, node  # noqa: E402
+from nodes import number as num, symbol as sym  # noqa: E402
 
 
-def bits(x):
-    return 0x7FF8000000000000 if x != x else struct.unpack("<Q", struct.pack("<d", x))[0]
+# ---- formulas
 
-
-# ---- formulas as nodes of 16 bytes
-
-def node(kind, operator, children, symbol=0, value=0):
-    return struct.pack("<BBHIQ", kind, operator, len(children), symbol, value) + b"".join(children)
-
-def num(x): return node(0, 0, [], value=bits(x))
-def sym(i): return node(2, 0, [], symbol=i)
-def unary(o, x): return node(3, o, [x])
-def binary(o, x, y): return node(4, o, [x, y])
-def compare(o, x, y): return node(5, o, [x, y])
-def junction(o, *xs): return node(6, o, list(xs))
-def call(o, *xs): return node(7, o, list(xs))
-def conditional(c, y, e): return node(8, 0, [c, y, e])
+def unary(o, x): return node(UNARY, o, [x])
+def binary(o, x, y): return node(BINARY, o, [x, y])
+def compare(o, x, y): return node(COMPARE, o, [x, y])
+def junction(o, *xs): return node(BOOLEAN, o, list(xs))
+def call(o, *xs): return node(CALL, o, list(xs))
+def conditional(c, y, e): return node(CONDITIONAL, 0, [c, y, e])
 
 A, B, C, D, E = map(sym, range(5))
 FLIGHT = binary(0, A, binary(3, binary(2, B, C), binary(0, D, E)))
