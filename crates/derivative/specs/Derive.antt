@@ -10,7 +10,7 @@ use lib.Dec.{ltb}
 use Rattle.formula.specs.Operator.{ValueKind, Number, Boolean, same-kind}
 use Rattle.formula.specs.Text.{zeros}
 use Rattle.formula.specs.Formula.{Formula, size, derivative-limit}
-use Rattle.formula.specs.Node.{encode}
+use Rattle.formula.specs.Node.{encode, node-size}
 use Rattle.formula.specs.Names.{Symbol, SymbolKind, Parameter, kinds, is-state}
 use Rattle.formula.specs.Path.{Path, root, placed}
 use Rattle.formula.specs.Term.{term}
@@ -33,7 +33,7 @@ by-state symbols s = is-state (getD (kinds symbols) s Parameter)
 
 -- the bytes that a tree takes
 abbrev pub tree-room : Formula → ℕ
-tree-room d = 16 * size d
+tree-room d = node-size * size d
 
 abbrev pub fitted : ℕ → ℕ → List Symbol → Option Formula → Derived
 fitted tree-length program-length symbols none = refused 8 (some root)

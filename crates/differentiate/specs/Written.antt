@@ -6,7 +6,7 @@ use mathlib.Core.List.{List, _++_}
 use Prim.Native.Nat.{ℕ, _+_, _*_, _<_, _≤_}
 use lib.ListN.{length, drop}
 use Rattle.formula.specs.Formula.{Formula, number, node, last, of-list, count, size, depth}
-use Rattle.formula.specs.Node.{encode, encode-all, node-bytes, inner-fields}
+use Rattle.formula.specs.Node.{encode, encode-all, inner-fields, node-bytes, node-size}
 use Rattle.derivative.specs.Rules.{instance, instances, extremum-from, add-of, mul-of}
 use Rattle.derivative.specs.Differentiate.{formulas, derivative}
 use Rattle.reader.specs.Read.{is-some}
@@ -80,4 +80,4 @@ pub record Job (s : ℕ) (by-state : Bool) (f T : List ℕ) (levels : ℕ) (out 
   pub known : Known s by-state f T 0
   pub deep : depth (tree f 0) ≤ levels
   pub fine : is-some (derivative s by-state (tree f 0)) ≡ true
-  pub room : (d : Formula) → derivative s by-state (tree f 0) ≡ some d → 16 * size d ≤ length out
+  pub room : (d : Formula) → derivative s by-state (tree f 0) ≡ some d → node-size * size d ≤ length out

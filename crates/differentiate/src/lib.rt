@@ -8,13 +8,14 @@ ghost use mathlib.Core.Option.{some};
 ghost use Prim.Native.Nat.{_+_, _*_, _-_, _%_, _<_, _≤_};
 ghost use lib.ListN.{length};
 ghost use Rattle.formula.specs.Formula.{Formula};
-ghost use Rattle.formula.specs.Node.{encode, node-bytes, inner-fields};
+ghost use Rattle.formula.specs.Node.{encode, inner-fields, node-bytes, node-size};
 ghost use Rattle.derivative.specs.Rules.{add-of, mul-of};
 ghost use Rattle.derivative.specs.Differentiate.{derivative};
 ghost use Rattle.rules.specs.Notation.{end-at};
 ghost use Rattle.survey.specs.Derived.{children-of, child-of, derived, derived-of};
 ghost use Rattle.survey.specs.Table.{tree, Owned};
 ghost use Rattle.differentiate.specs.Written.{Writes, Task, literal-bytes, part, parts-bytes, node-of, extremum-bytes, tie-bytes, sum-bytes, product-bytes, extremum-tree, Small, primal-bytes, Job};
+use reader::NODE_SIZE;
 use reader::half;
 use rules::code;
 use rules::end_of;
@@ -44,7 +45,7 @@ fn copy(b: &[u8], out: &mut [u8]) -> usize
 
 // A node that is no literal and no symbol.
 fn put_node(kind: usize, operator: usize, children: usize, out: &mut [u8]) -> usize
-    requires { ⌜ (kind < 256) × (operator < 256) × (children < 256) × (16 ≤ length (now out)) ⌝ }
+    requires { ⌜ (kind < 256) × (operator < 256) × (children < 256) × (node-size ≤ length (now out)) ⌝ }
     ensures { λ r. ⌜ Writes (node-bytes (inner-fields kind operator children)) (now (out .entry)) (now (out .exit)) r ⌝ }
 {
     let b = [
@@ -75,7 +76,7 @@ fn low(n: u64) -> u8
 }
 
 fn put_literal(bits: u64, out: &mut [u8]) -> usize
-    requires { ⌜ 16 ≤ length (now out) ⌝ }
+    requires { ⌜ node-size ≤ length (now out) ⌝ }
     ensures { λ r. ⌜ Writes (literal-bytes bits) (now (out .entry)) (now (out .exit)) r ⌝ }
 {
     let b1 = bits / 256;
@@ -111,8 +112,8 @@ fn put_tree(f: &[u8], k: usize, table: &[usize], out: &mut [u8]) -> usize
     requires { ⌜ Owned (now f) (now table) k × (length (encode (tree (now f) k)) ≤ length (now out)) ⌝ }
     ensures { λ r. ⌜ Writes (encode (tree (now (f .entry)) k)) (now (out .entry)) (now (out .exit)) r ⌝ }
 {
-    let start = 16 * k;
-    let end = start + 16 * table[8 * k];
+    let start = NODE_SIZE * k;
+    let end = start + NODE_SIZE * table[8 * k];
     copy(&f[start..end], out)
 }
 
@@ -121,7 +122,7 @@ fn put_child(f: &[u8], k: usize, i: usize, table: &[usize], out: &mut [u8]) -> u
     requires { ⌜ Owned (now f) (now table) k × (length (encode (child-of (tree (now f) k) i)) ≤ length (now out)) ⌝ }
     ensures { λ r. ⌜ Writes (encode (child-of (tree (now (f .entry)) k) i)) (now (out .entry)) (now (out .exit)) r ⌝ }
 {
-    if i < half(f, 16 * k + 2) {
+    if i < half(f, NODE_SIZE * k + 2) {
         return put_tree(f, child(f, k, i, table), table, out);
     }
     put_literal(0, out)
@@ -173,7 +174,7 @@ fn write_diff(
     requires { ⌜ Task (by .symbol) (by .state) (now f) (now table) k depth (encode (derived-of (by .symbol) (by .state) (tree (now f) k) i)) (now out) ⌝ }
     ensures { λ r. ⌜ Writes (encode (derived-of (by .symbol) (by .state) (tree (now (f .entry)) k) i)) (now (out .entry)) (now (out .exit)) r ⌝ }
 {
-    if i < half(f, 16 * k + 2) {
+    if i < half(f, NODE_SIZE * k + 2) {
         return differentiate(f, child(f, k, i, table), depth - 1, by, table, out);
     }
     put_literal(0, out)
@@ -365,7 +366,7 @@ fn write_extremum(
     requires { ⌜ Task (by .symbol) (by .state) (now f) (now table) k depth (encode (extremum-tree (by .symbol) (by .state) (tree (now f) k))) (now out) ⌝ }
     ensures { λ r. ⌜ Writes (encode (extremum-tree (by .symbol) (by .state) (tree (now (f .entry)) k))) (now (out .entry)) (now (out .exit)) r ⌝ }
 {
-    let n = half(f, 16 * k + 2);
+    let n = half(f, NODE_SIZE * k + 2);
     if n == 0 {
         return put_literal(0, out);
     }

@@ -10,6 +10,10 @@ use Rattle.formula.specs.Text.{byte-at, half-at, word-at, long-at, littl
 use Rattle.formula.specs.Operator.{Operation, unary, binary, compare, call, Positive, Negative, Not, Add, Subtract, Multiply, Divide, Power, Modulo, Lt, Le, Gt, Ge, Eq, Ne, And, Or, Unary, Binary, Compare, Junction, Exp, Log, Log10, Sqrt, Sin, Cos, Tan, Tanh, Abs, Floor, Ceil, Min, Max, Hill, InverseGaussianDensity, function-number}
 use Rattle.formula.specs.Formula.{Head, number, truth, symbol, operation, junction, ifelse, conditional, malformed, Formula, Formulas, node, last, next, count, size, well-formed}
 
+-- how many bytes a node has
+abbrev pub node-size : ℕ
+node-size = 16
+
 pub record Fields : Type 0 where
   pub kind : ℕ
   pub operator : ℕ
@@ -78,31 +82,31 @@ head-of f = getD (heads f) (f .kind) none
 -- k trees one after another, the first at a byte
 abbrev pub children-at : (ℕ → Formula) → ℕ → ℕ → Formulas
 children-at tree zero at = last
-children-at tree (suc k) at = let t = tree at in next t (children-at tree k (at + 16 * size t))
+children-at tree (suc k) at = let t = tree at in next t (children-at tree k (at + node-size * size t))
 
 abbrev pub rooted : (ℕ → Formula) → ℕ → ℕ → Option Head → Formula
 rooted tree k at none = node malformed last
 rooted tree k at (some h) = node h (children-at tree k at)
 
--- the head at a byte, where all 16 bytes are there
+-- the head at a byte, where all of its bytes are there
 unfoldable pub head-at : List ℕ → ℕ → Option Head
 unfolding head-of fields-at
-head-at b at = cond (leb (at + 16) (length b)) (head-of (fields-at b at)) none
+head-at b at = cond (leb (at + node-size) (length b)) (head-of (fields-at b at)) none
 
 -- the tree at a byte, of at most d levels
 unfoldable pub tree-in : ℕ → List ℕ → ℕ → Formula
 unfolding head-at fields-at
 tree-in zero b at = node malformed last
-tree-in (suc d) b at = rooted (λ a. tree-in d b a) (fields-at b at .children) (at + 16) (head-at b at)
+tree-in (suc d) b at = rooted (λ a. tree-in d b a) (fields-at b at .children) (at + node-size) (head-at b at)
 
--- the tree at a byte: each level has a node of 16 bytes, so there are levels enough
+-- the tree at a byte: each level has a node, so there are levels enough
 abbrev pub tree-at : List ℕ → ℕ → Formula
 tree-at b at = tree-in (length b) b at
 
 -- "formula bytes not as above (size and depth apart)" are none: refusal 2
 unfoldable pub formula-of : List ℕ → Option Formula
 unfolding tree-in
-formula-of b = let t = tree-at b 0 in cond (well-formed t && eqb (16 * size t) (length b)) (some t) none
+formula-of b = let t = tree-at b 0 in cond (well-formed t && eqb (node-size * size t) (length b)) (some t) none
 
 -- ---- writing
 

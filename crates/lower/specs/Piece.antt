@@ -16,7 +16,7 @@ use Rattle.layout.specs.Image.{below, below-all, entries, entry-count, entry-co
 use Rattle.paths.specs.Over.{over}
 use Rattle.paths.specs.Table.{Linked, linked, path-in-table}
 use Rattle.formula.specs.Formula.{Formulas, sizes}
-use Rattle.formula.specs.Node.{children-at, tree-in}
+use Rattle.formula.specs.Node.{children-at, node-size, tree-in}
 use Rattle.reader.specs.declared.Fields.{Fields}
 use Rattle.lower.specs.Bytes.{Chunk, written}
 use Rattle.lower.specs.Operators.{arity-at, gives-boolean, listing-at, opcode-at, stepped-at}
@@ -243,7 +243,7 @@ arm b d conjunction left at = joined (junction-of conjunction) (terms (kids b d 
 
 -- the byte after them
 abbrev pub past : List ℕ → ℕ → ℕ → ℕ → ℕ
-past b d left at = at + 16 * sizes (kids b d left at)
+past b d left at = at + node-size * sizes (kids b d left at)
 
 -- a site's path
 abbrev pub place : Layout → List ℕ → Site → Path

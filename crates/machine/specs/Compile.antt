@@ -7,15 +7,18 @@ use lib.ListN.{length}
 use lib.Dec.{ltb}
 use Rattle.formula.specs.Text.{zeros}
 use Rattle.formula.specs.Formula.{Formula, formula-limit}
-use Rattle.formula.specs.Node.{formula-of}
+use Rattle.formula.specs.Node.{formula-of, node-size}
 use Rattle.formula.specs.Names.{Symbol, symbols-of, kinds}
 use Rattle.formula.specs.Path.{Path, root, path-room, placed}
 use Rattle.formula.specs.Term.{term}
 use Rattle.machine.specs.Check.{Context, Fault, fault}
 
 -- "Its slice needs 240 bytes for each 16 bytes of formula, a last part counted as 16"
+abbrev pub node-room : ℕ
+node-room = 240
+
 abbrev pub program-room : ℕ → ℕ
-program-room formula-bytes = 240 * ((formula-bytes + 15) / 16)
+program-room formula-bytes = node-room * ((formula-bytes + (node-size - 1)) / node-size)
 
 abbrev pub own-context : List Symbol → Context
 own-context symbols = record { symbols = kinds symbols; generated = false }

@@ -5,7 +5,7 @@ use mathlib.Core.Option.{Option, none, some}
 use Prim.Native.Nat.{ℕ, _+_, _*_}
 use lib.Dec.{leb}
 use Rattle.formula.specs.Formula.{Formula, size, depth, within}
-use Rattle.formula.specs.Node.{tree-at}
+use Rattle.formula.specs.Node.{node-size, tree-at}
 use Rattle.formula.specs.Node as Node
 use Rattle.reader.specs.declared.Fields.{Fields}
 use Rattle.reader.specs.declared.Extent.{Extent}
@@ -15,7 +15,7 @@ abbrev pub is-some : {A : Type 0} → Option A → Bool
 is-some none = false
 is-some (some a) = true
 
--- the fields that a node's 16 bytes hold
+-- the fields that a node's bytes hold
 abbrev pub written : Fields → Node.Fields
 written f = record { kind = f .kind; operator = f .operator; children = f .children; symbol-number = f .symbol; value = f .value }
 
@@ -26,7 +26,7 @@ extent false end = Deeper
 
 -- the tree at a byte
 unfoldable pub extent-at : List ℕ → ℕ → ℕ → Extent
-extent-at b at levels = extent (leb (depth (tree-at b at)) levels) (at + 16 * size (tree-at b at))
+extent-at b at levels = extent (leb (depth (tree-at b at)) levels) (at + node-size * size (tree-at b at))
 
 -- "At most 256 nodes at depth 32 (root is 1); a derivative, 16,384 at depth 128."
 abbrev pub limited : ℕ → ℕ → Option Formula → Bool

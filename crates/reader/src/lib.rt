@@ -8,6 +8,9 @@ ghost use Rattle.formula.specs.Formula.{size, well-formed};
 ghost use Rattle.formula.specs.Node.{fields-at, head-of, head-at, tree-at, formula-of};
 ghost use Rattle.reader.specs.Read.{is-some, written, extent-at, limited};
 
+// How many bytes a node has.
+pub const NODE_SIZE: usize = 16;
+
 fn wide(x: u8) -> usize
     ensures { λ r. ⌜ (r ≡ x) × (r < 256) ⌝ }
 {
@@ -129,34 +132,34 @@ fn is_head(f: Fields) -> bool
     }
 }
 
-// Whether the 16 bytes at a byte are a node.
+// Whether the bytes at a byte are a node.
 pub fn is_node(b: &[u8], at: usize) -> bool
     ensures { λ r. ⌜ r ≡ is-some (head-at (now (b .entry)) at) ⌝ }
 {
-    if b.len() < 16 {
+    if b.len() < NODE_SIZE {
         return false;
     }
-    if b.len() - 16 < at {
+    if b.len() - NODE_SIZE < at {
         return false;
     }
     is_head(node(b, at))
 }
 
 // Whether the bytes are a formula: "Nodes of 16 bytes, each followed by its children, nothing after the root's last."
-// Each tree that is owed takes 16 bytes or more, so the count of them stays below the length.
+// Each tree that is owed takes a node's bytes or more, so the count of them stays below the length.
 pub fn is_formula(b: &[u8]) -> bool
     ensures { λ r. ⌜ r ≡ is-some (formula-of (now (b .entry))) ⌝ }
 {
     let mut at = 0;
     let mut owed = 1;
     while owed > 0 {
-        if owed > (b.len() - at) / 16 {
+        if owed > (b.len() - at) / NODE_SIZE {
             return false;
         }
         let ok = is_node(b, at);
         if ok {
             owed = owed - 1 + half(b, at + 2);
-            at += 16;
+            at += NODE_SIZE;
         } else {
             return false;
         }
@@ -193,7 +196,7 @@ fn extent_of(b: &[u8], at: usize, levels: usize) -> Extent
         return Extent::Deeper;
     }
     let mut left = half(b, at + 2);
-    let mut end = at + 16;
+    let mut end = at + NODE_SIZE;
     while left > 0 {
         let child = extent_of(b, end, levels - 1);
         let Extent::To(next) = child else {
@@ -210,7 +213,7 @@ fn extent_of(b: &[u8], at: usize, levels: usize) -> Extent
 pub fn within_limits(b: &[u8], nodes: usize, levels: usize) -> bool
     ensures { λ r. ⌜ r ≡ limited nodes levels (formula-of (now (b .entry))) ⌝ }
 {
-    if b.len() / 16 > nodes {
+    if b.len() / NODE_SIZE > nodes {
         return false;
     }
     let ok = is_formula(b);

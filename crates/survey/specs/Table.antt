@@ -9,7 +9,7 @@ use lib.ListN.{length, getD}
 use lib.Dec.{eqb}
 use Rattle.formula.specs.Formula.{Formula, Formulas, node, last, next, count, to-list, size, depth, depends, well-formed}
 use Rattle.formula.specs.Text.{byte-at}
-use Rattle.formula.specs.Node.{tree-at}
+use Rattle.formula.specs.Node.{node-size, tree-at}
 use Rattle.derivative.specs.Differentiate.{differentiate, first-depends, second-literal}
 use Rattle.derivative.specs.Attributes.{attributes-of}
 use Rattle.derivative.specs.Attributes as Spec
@@ -22,7 +22,7 @@ use Rattle.survey.specs.declared.Found.{Found}
 
 -- the tree of a node, by its number
 unfoldable pub tree : List ℕ → ℕ → Formula
-tree f k = tree-at f (16 * k)
+tree f k = tree-at f (node-size * k)
 
 -- so many trees one after another
 unfoldable pub trees : List ℕ → ℕ → ℕ → Formulas
@@ -95,7 +95,7 @@ unfoldable pub number-of : ℕ → Bool → List ℕ → ℕ → ℕ
 unfolding tree
 number-of s by-state f k =
     let ts = children-of (tree f k) in
-    rule-number by-state (first-depends s ts) (count ts) (second-literal ts) (byte-at f (16 * k)) (byte-at f (16 * k + 1))
+    rule-number by-state (first-depends s ts) (count ts) (second-literal ts) (byte-at f (node-size * k)) (byte-at f (node-size * k + 1))
 
 -- ---- filling the table
 

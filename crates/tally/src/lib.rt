@@ -78,7 +78,7 @@ pub fn tally(b: &[u8], d: usize, left: usize, at: usize) -> Counts
         };
     }
     let f = reader::node(b, at);
-    let inner = tally(b, d - 1, f.children, at + 16);
+    let inner = tally(b, d - 1, f.children, at + reader::NODE_SIZE);
     let first = weigh(f, inner);
     let rest = tally(b, d, left - 1, first.node);
     grown(rest, first.code, first.paths, first.entries)
