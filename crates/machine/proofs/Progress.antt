@@ -9,6 +9,7 @@ use lib.ListN.{length, getD, getElem?}
 use lib.Dec.{eqb, leb, ltb}
 use lib.Ieee.{Float, Format}
 use borrow.Author.Tests.{eqb-false, ltb-true, not-false}
+use Rattle.refusals.specs.Numbers.{invalid-input, no-program, slice-too-short, stale-state}
 use Rattle.arithmetic.specs.Value.{0f, finite, is-zero}
 use Rattle.formula.specs.Text.{all}
 use Rattle.formula.specs.Path.{Path, path-room}
@@ -167,10 +168,10 @@ module _ (F : Format) (inputs : List Float) (P : Program) where
   resume-lawful c st regs =
       let b = c .budget in
       let g = c .given in
-      unless-refused g st regs (ltb (c .room) path-room) 1 b _
-      (λ w. unless-refused g st regs (not (valid P)) 10 b _
-      (λ v. unless-refused g st regs (unfit F inputs P regs b) 5 b _
-      (λ u. unless-refused g st regs (stale F inputs P st regs g) 11 b _ (λ s. lawful-steps g st regs b (not-false _ v) (budgeted regs b u) s))))
+      unless-refused g st regs (ltb (c .room) path-room) slice-too-short b _
+      (λ w. unless-refused g st regs (not (valid P)) no-program b _
+      (λ v. unless-refused g st regs (unfit F inputs P regs b) invalid-input b _
+      (λ u. unless-refused g st regs (stale F inputs P st regs g) stale-state b _ (λ s. lawful-steps g st regs b (not-false _ v) (budgeted regs b u) s))))
 
   -- ---- a run is a resume of the fresh state
 
@@ -187,7 +188,7 @@ module _ (F : Format) (inputs : List Float) (P : Program) where
       same-unless (ltb (c .room) path-room) _ _ _
       (λ w. same-unless (not (valid P)) _ _ _
       (λ v. same-unless (unfit F inputs P regs (c .budget)) _ _ _
-      (λ u. ap (λ (x : Bool). cond x (refuse 11 fresh regs) r) (sym (not-stale regs (not-false _ v))))))
+      (λ u. ap (λ (x : Bool). cond x (refuse stale-state fresh regs) r) (sym (not-stale regs (not-false _ v))))))
 
   pub run-lawful : (c : Call) (regs : List Float) → Lawful F inputs P (c .budget) none fresh regs (run F inputs P c regs)
   run-lawful c regs =
