@@ -8,6 +8,7 @@ use Prim.Native.Nat.{ℕ, _+_, _≤_}
 use lib.ListN.{length}
 use lib.Dec.{ltb, eqb}
 use lib.Ieee.{Float, Format, binary64}
+use Rattle.refusals.specs.Numbers.{invalid-input, slice-too-short, stale-state}
 use Rattle.arithmetic.specs.Value.{finite}
 use Rattle.formula.specs.Text.{all}
 use Rattle.formula.specs.Formula.{Formula}
@@ -72,12 +73,12 @@ after h c r = noted h c r (r .answer)
 -- "a call is refused just where 01 gives 1, 5 or 11, never by 10": the number, from the history alone
 abbrev pub out-of-turn : Stage → Option Float → Option ℕ
 out-of-turn ready none = none
-out-of-turn ready (some x) = some 11
+out-of-turn ready (some x) = some stale-state
 out-of-turn waiting given = none
-out-of-turn over given = some 11
+out-of-turn over given = some stale-state
 
 abbrev pub refusal : Stage → Call → Option ℕ
-refusal s c = cond (ltb (c .room) path-room) (some 1) (cond (eqb (c .budget) 0) (some 5) (out-of-turn s (c .given)))
+refusal s c = cond (ltb (c .room) path-room) (some slice-too-short) (cond (eqb (c .budget) 0) (some invalid-input) (out-of-turn s (c .given)))
 
 -- "that value, Domain at that path, or that next question"
 abbrev pub shown : Outcome Float → Answer

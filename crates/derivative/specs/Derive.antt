@@ -7,6 +7,7 @@ use mathlib.Core.Option.{Option, none, some}
 use Prim.Native.Nat.{ℕ, _*_, _-_}
 use lib.ListN.{length, getD}
 use lib.Dec.{ltb}
+use Rattle.refusals.specs.Numbers.{expression-limit, slice-too-short, unknown-symbol, unsupported, wrong-type}
 use Rattle.formula.specs.Operator.{ValueKind, Number, Boolean, same-kind}
 use Rattle.formula.specs.Text.{zeros}
 use Rattle.formula.specs.Formula.{Formula, size, derivative-limit}
@@ -36,17 +37,17 @@ abbrev pub tree-room : Formula → ℕ
 tree-room d = node-size * size d
 
 abbrev pub fitted : ℕ → ℕ → List Symbol → Option Formula → Derived
-fitted tree-length program-length symbols none = refused 8 (some root)
+fitted tree-length program-length symbols none = refused unsupported (some root)
 fitted tree-length program-length symbols (some d) =
     cond (derivative-limit d)
-    (cond (ltb tree-length (tree-room d) || ltb program-length (program-room (tree-room d))) (refused 1 none) (derived d symbols))
-    (refused 4 (some root))
+    (cond (ltb tree-length (tree-room d) || ltb program-length (program-room (tree-room d))) (refused slice-too-short none) (derived d symbols))
+    (refused expression-limit (some root))
 
 abbrev pub continued : ℕ → ℕ → ℕ → Compiled → Derived
 continued tree-length program-length s (Compile.refused n place) = formula-refused n place
 continued tree-length program-length s (accepted f symbols) =
-    cond (same-kind (kind (term f)) Boolean) (refused 7 (some root))
-    (cond (ltb s (length symbols)) (fitted tree-length program-length symbols (derivative s (by-state symbols s) f)) (refused 6 (some root)))
+    cond (same-kind (kind (term f)) Boolean) (refused wrong-type (some root))
+    (cond (ltb s (length symbols)) (fitted tree-length program-length symbols (derivative s (by-state symbols s) f)) (refused unknown-symbol (some root)))
 
 -- of formula bytes, a name line and a symbol number, with slices of these lengths
 unfoldable pub derive : List ℕ → List ℕ → ℕ → ℕ → ℕ → ℕ → Derived

@@ -48,7 +48,7 @@ fn run_values(p: &[u8], inputs: &[f64], regs: &mut [f64]) -> Outcome
     }
 }
 
-fn refused(n: usize) -> Outcome
+fn refused(n: u8) -> Outcome
     ensures { λ r. ⌜ r ≡ record { answer = Answer.Refused n; count = 0 } ⌝ }
 {
     Outcome {

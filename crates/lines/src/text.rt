@@ -54,7 +54,7 @@ fn put_power(out: &mut [u8], at: usize, x: f64, y: f64) -> usize
     put_bits(out, exponent, y)
 }
 
-fn put_bad(out: &mut [u8], at: usize, n: usize) -> usize
+fn put_bad(out: &mut [u8], at: usize, n: u8) -> usize
     requires { ⌜ at + 24 ≤ length (now out) ⌝ }
     ensures { λ r. ⌜ Wrote (now (out .entry)) at (shown (line-of (refused n) 0)) (now (out .exit)) r ⌝ }
     ensures room { λ r. ⌜ r ≤ at + 24 ⌝ }

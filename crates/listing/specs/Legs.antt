@@ -7,6 +7,7 @@ use Prim.Native.Nat.{ℕ, suc}
 use lib.ListN.{length, replicate}
 use lib.Dec.{eqb, ltb}
 use lib.Ieee.{Float, binary64, ofBits, toBits}
+use Rattle.refusals.specs.Numbers.{malformed-line, slice-too-short}
 use Rattle.arithmetic.specs.Value.{0f, finite}
 use Rattle.formula.specs.Text.{all, ascii, decimal}
 use Rattle.formula.specs.Formula.{Formula}
@@ -48,7 +49,7 @@ question-text (power a b) = ascii "16" ++ colon ++ bits-text a ++ colon ++ bits-
 abbrev pub bad : ℕ → Line
 bad n = record { answer = ascii "bad"; detail = decimal n; steps = 0 }
 
--- a run whose budget is all of the code is never spent
+-- a run whose budget is all of the code is never spent (`never-spent` in proofs/Answers), so no line shows the third
 abbrev pub line-of : Answer → ℕ → Line
 line-of (gives v) count = record { answer = ascii "value"; detail = bits-text v; steps = count }
 line-of (asks q) count = record { answer = ascii "ask"; detail = question-text q; steps = count }
@@ -68,7 +69,7 @@ run-line P inputs =
 
 -- "A value line that isn't hex digits and commas as said shows `bad` with 3; otherwise a wrong count of values or a value that isn't finite shows 5."
 abbrev pub value-record : Program → Option (List ℕ) → Line
-value-record P none = bad 3
+value-record P none = bad malformed-line
 value-record P (some bits) = run-line P (map (λ b. ofBits binary64 b) bits)
 
 abbrev pub records : Program → ℕ → List (List ℕ) → List ℕ
@@ -106,8 +107,8 @@ with-input formula (names ∷ value-lines) = listed value-lines (compiled formul
 
 -- "a longer one, or none, prints `0,refused,1:,0` after the header"
 abbrev pub with-file : Option (List ℕ) → List (List ℕ) → List ℕ
-with-file none lines = refusal-line 1 none
-with-file (some formula) lines = cond (ltb formula-room (length formula)) (refusal-line 1 none) (with-input formula lines)
+with-file none lines = refusal-line slice-too-short none
+with-file (some formula) lines = cond (ltb formula-room (length formula)) (refusal-line slice-too-short none) (with-input formula lines)
 
 -- the output for a formula file, where there is one that can be read, and standard input
 unfoldable pub legs : Option (List ℕ) → List ℕ → List ℕ

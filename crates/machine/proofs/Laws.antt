@@ -15,6 +15,10 @@ pub use Rattle.formula.proofs.Tests.{and-first as and-l, and-second as and-r, a
 
 -- ---- tests
 
+-- from equal constructors that differ: `unlike cc`
+pub unlike : {A : Type 0} → _≡_ {A = ℕ} 0 1 → A
+unlike e = absurd (omega arith)
+
 pub and-false : (a : Bool) → (a && false) ≡ false
 and-false true = refl
 and-false false = refl
@@ -85,7 +89,7 @@ none-at (i ∷ l) zero e = absurd (omega arith)
 none-at (i ∷ l) (suc n) e = none-at l n (omega arith)
 
 pub some-lt : (l : List Instruction) (n : ℕ) (i : Instruction) → getElem? l n ≡ some i → n < length l
-some-lt [] n i e = absurd (let z : _≡_ {A = ℕ} 0 1 = cc in omega arith)
+some-lt [] n i e = unlike cc
 some-lt (j ∷ l) zero i e = omega arith
 some-lt (j ∷ l) (suc n) i e = omega (arith, some-lt l n i e)
 

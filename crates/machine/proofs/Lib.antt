@@ -3,3 +3,4 @@ pub mod Size
 pub mod Valid
 pub mod Accepted
 pub mod Simulation
+pub mod Progress

@@ -6,6 +6,7 @@ use mathlib.Core.Option.{Option, none, some}
 use Prim.Native.Nat.{ℕ, suc}
 use lib.ListN.{length, getD}
 use lib.Dec.{ltb}
+use Rattle.refusals.specs.Numbers.{invalid-input, outside-domain, unknown-symbol, unsupported, wrong-type}
 use Rattle.arithmetic.specs.Value.{finite}
 use Rattle.arithmetic.specs.Constant
 use Rattle.formula.specs.Operator.{ValueKind, Number, Boolean, same-kind, result-kind, argument-kind, arity, stepped}
@@ -64,21 +65,21 @@ supported C jumps-and-varies = C .generated || not jumps-and-varies
 
 abbrev mutual
   pub fault : Context → Term → Path → Option Fault
-  fault C (literal b) p = unless (finite (Constant.literal b)) 9 p
+  fault C (literal b) p = unless (finite (Constant.literal b)) outside-domain p
   fault C (truth b) p = none
-  fault C (symbol i) p = unless (ltb i (length (C .symbols))) 6 p
+  fault C (symbol i) p = unless (ltb i (length (C .symbols))) unknown-symbol p
   -- children, then arity, then types, then 8
   fault C (apply o ts) p =
       or-else (faults C ts p 0)
-      (or-else (unless (arity o (term-count ts)) 5 p)
-      (or-else (unless (all-kind (argument-kind o) ts) 7 p) (unless (supported C (stepped o && any-dynamic C ts)) 8 p)))
+      (or-else (unless (arity o (term-count ts)) invalid-input p)
+      (or-else (unless (all-kind (argument-kind o) ts) wrong-type p) (unless (supported C (stepped o && any-dynamic C ts)) unsupported p)))
   -- the condition, its type, its 8, the arms, and that they are of one type
   fault C (branch c y e) p =
       or-else (fault C c (p ▸ condition))
-      (or-else (unless (same-kind (kind c) Boolean) 7 p)
-      (or-else (unless (supported C (dynamic C c)) 8 p)
-      (or-else (fault C y (p ▸ then-arm)) (or-else (fault C e (p ▸ else-arm)) (unless (same-kind (kind e) (kind y)) 7 p)))))
-  fault C miscounted p = some (record { number = 5; place = p })
+      (or-else (unless (same-kind (kind c) Boolean) wrong-type p)
+      (or-else (unless (supported C (dynamic C c)) unsupported p)
+      (or-else (fault C y (p ▸ then-arm)) (or-else (fault C e (p ▸ else-arm)) (unless (same-kind (kind e) (kind y)) wrong-type p)))))
+  fault C miscounted p = some (record { number = invalid-input; place = p })
 
   pub faults : Context → Terms → Path → ℕ → Option Fault
   faults C end p i = none

@@ -5,6 +5,7 @@ use mathlib.Core.Option.{Option, none, some}
 use Prim.Native.Nat.{ℕ, _+_, _-_, _*_, _/_}
 use lib.ListN.{length}
 use lib.Dec.{ltb}
+use Rattle.refusals.specs.Numbers.{expression-limit, invalid-input, malformed-line, no-formula, slice-too-short}
 use Rattle.formula.specs.Text.{zeros}
 use Rattle.formula.specs.Formula.{Formula, formula-limit}
 use Rattle.formula.specs.Node.{formula-of, node-size}
@@ -34,18 +35,18 @@ lowered-or f symbols (some x) = refused (x .number) (some (x .place))
 
 -- "4 `ExpressionLimit` at `root`; then the first fault in `lower`'s order"
 abbrev pub sized : Formula → List Symbol → Compiled
-sized f symbols = cond (formula-limit f) (lowered-or f symbols (fault (own-context symbols) (term f) root)) (refused 4 (some root))
+sized f symbols = cond (formula-limit f) (lowered-or f symbols (fault (own-context symbols) (term f) root)) (refused expression-limit (some root))
 
 -- "2, formula bytes not as above (size and depth apart); 3, name line not as above"
 abbrev pub read : Option Formula → Option (List Symbol) → Compiled
-read none symbols = refused 2 none
-read (some f) none = refused 3 none
+read none symbols = refused no-formula none
+read (some f) none = refused malformed-line none
 read (some f) (some symbols) = sized f symbols
 
 -- of formula bytes and a name line, with slices of these lengths: "1, path slice or program slice too short"
 unfoldable pub compile : List ℕ → List ℕ → ℕ → ℕ → Compiled
 compile formula names path-length program-length =
-    cond (ltb path-length path-room || ltb program-length (program-room (length formula))) (refused 1 none)
+    cond (ltb path-length path-room || ltb program-length (program-room (length formula))) (refused slice-too-short none)
     (read (formula-of formula) (symbols-of names))
 
 -- ---- what the slices hold after
@@ -63,5 +64,5 @@ filled image slice = image ++ zeros (length slice - length image)
 
 -- "Refusals 1 to 4 change no program byte; 5 to 9 leave the slice all zero." The layout gives the bytes of a program.
 abbrev pub program-after : (Context → Formula → List ℕ) → Compiled → List ℕ → List ℕ
-program-after layout (refused n place) slice = cond (ltb n 5) slice (zeros (length slice))
+program-after layout (refused n place) slice = cond (ltb n invalid-input) slice (zeros (length slice))
 program-after layout (accepted f symbols) slice = filled (layout (own-context symbols) f) slice

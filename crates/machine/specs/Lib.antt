@@ -3,4 +3,5 @@ pub mod Check
 pub mod Program
 pub mod Lower
 pub mod Machine
+pub mod Progress
 pub mod Compile

@@ -6,6 +6,7 @@ use Prim.Native.Nat.{ℕ, zero, suc}
 use lib.ListN.{length, getD, set, getElem?}
 use lib.Dec.{leb, ltb, eqb}
 use lib.Ieee.{Float, Format}
+use Rattle.refusals.specs.Numbers.{invalid-input, no-program, outside-domain, slice-too-short, stale-state}
 use Rattle.arithmetic.specs.Value.{finite, is-zero, 0f}
 use Rattle.formula.specs.Text.{all}
 use Rattle.formula.specs.Path.{Path, root, path-room}
@@ -44,7 +45,7 @@ pub record State : Type 0 where
 abbrev pub fresh : State
 fresh = record { position = 0; kept = []; pending = none }
 
--- `outside` is 9 at the instruction's path; `refused` is 1, 10, 5 or 11
+-- "Otherwise: a value, a question, spent, or 9 at the instruction's path"; `outside` is that 9, `refused` any other refusal
 pub data Answer : Type 0 where
   gives : Float → Answer
   asks : Question → Answer
@@ -52,13 +53,21 @@ pub data Answer : Type 0 where
   outside : Path → Answer
   refused : ℕ → Answer
 
+-- the number of an answer that is a refusal
+abbrev pub number-of : Answer → Option ℕ
+number-of (gives v) = none
+number-of (asks q) = none
+number-of spent = none
+number-of (outside p) = some outside-domain
+number-of (refused n) = some n
+
 -- the place of a refusal: 9 has the instruction's, 5 has `root`, "Refusals 1, 2, 3, 10 and 11 have no place."
 abbrev pub place-of : Answer → Option Path
 place-of (gives v) = none
 place-of (asks q) = none
 place-of spent = none
 place-of (outside p) = some p
-place-of (refused n) = cond (eqb n 5) (some root) none
+place-of (refused n) = cond (eqb n invalid-input) (some root) none
 
 pub record Reply : Type 0 where
   pub answer : Answer
@@ -147,8 +156,8 @@ module _ (F : Format) (inputs : List Float) (P : Program) where
   -- "In order: 1, path slice too short; 10, not a program; 5; 11 (resume)."
   abbrev pub checked : Call → State → List Float → Reply → Reply
   checked c st regs r =
-      cond (ltb (c .room) path-room) (refuse 1 st regs)
-      (cond (not (valid P)) (refuse 10 st regs) (cond (unfit regs (c .budget)) (refuse 5 st regs) r))
+      cond (ltb (c .room) path-room) (refuse slice-too-short st regs)
+      (cond (not (valid P)) (refuse no-program st regs) (cond (unfit regs (c .budget)) (refuse invalid-input st regs) r))
 
   abbrev pub run : Call → List Float → Reply
   run c regs = checked c fresh regs (steps (c .budget) 0 [] regs)
@@ -156,4 +165,4 @@ module _ (F : Format) (inputs : List Float) (P : Program) where
   abbrev pub resume : Call → State → List Float → Reply
   resume c st regs =
       checked c st regs
-      (cond (stale st regs (c .given)) (refuse 11 st regs) (steps (c .budget) (st .position) (more (st .kept) (c .given)) regs))
+      (cond (stale st regs (c .given)) (refuse stale-state st regs) (steps (c .budget) (st .position) (more (st .kept) (c .given)) regs))

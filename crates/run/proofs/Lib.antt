@@ -2,3 +2,4 @@ pub mod Tags
 pub mod Looping
 pub mod Late
 pub mod Whole
+pub mod Progress

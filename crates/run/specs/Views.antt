@@ -4,6 +4,7 @@ use mathlib.Core.List.{List}
 use mathlib.Core.Option.{Option, none, some}
 use Prim.Native.Nat.{ℕ, _<_, _≤_}
 use lib.Ieee.{Float}
+use Rattle.refusals.specs.Numbers.{invalid-input, outside-domain}
 use Rattle.meaning.specs.Work.{Question, elementary, power}
 use Rattle.machine.specs.Machine as Machine
 use Rattle.machine.specs.Machine.{asks, gives, outside, refused, spent}
@@ -30,7 +31,7 @@ abbrev pub supplied-of : Supplied → Option Float
 supplied-of Supplied.Nothing = none
 supplied-of (Supplied.Value x) = some x
 
--- "Where an answer is an enum, a definition sets out this paper's number and values for each of its cases": Domain is 9, at the path of a record
+-- "Where an answer is an enum, a definition sets out this paper's number and values for each of its cases": the values
 abbrev pub answer-of : List ℕ → Answer → Machine.Answer
 answer-of b (Value v) = gives v
 answer-of b (Elementary f x) = asks (elementary f x)
@@ -38,6 +39,15 @@ answer-of b (Power x y) = asks (power x y)
 answer-of b Spent = spent
 answer-of b (Domain k) = outside (path-of b k)
 answer-of b (Refused n) = refused n
+
+-- and the number of a refusal: Domain is 9
+abbrev pub refusal-number : Answer → Option ℕ
+refusal-number (Value v) = none
+refusal-number (Elementary f x) = none
+refusal-number (Power x y) = none
+refusal-number Spent = none
+refusal-number (Domain k) = some outside-domain
+refusal-number (Refused n) = some n
 
 -- a reply, with the registers after it
 abbrev pub reply-of : List ℕ → Reply → List Float → Machine.Reply
@@ -50,7 +60,7 @@ Writable b room (Elementary f x) = Unit {0}
 Writable b room (Power x y) = Unit {0}
 Writable b room Spent = Unit {0}
 Writable b room (Domain k) = (k < path-total b) × (length-at b k ≤ room)
-Writable b room (Refused n) = n ≡ 5 → 4 ≤ room
+Writable b room (Refused n) = n ≡ invalid-input → 4 ≤ room
 
 -- "hand the state back unaltered": the very state, bit for bit
 abbrev pub Hands-back : State → Reply → Type 0

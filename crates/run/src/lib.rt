@@ -1,6 +1,7 @@
 // Run and resume of a program's bytes (reference `evaluate_into`).
 ghost use mathlib.Core.Path.{_≡_};
 ghost use mathlib.Core.Bool.{true, not};
+ghost use mathlib.Core.Option.{none};
 ghost use lib.ListN.{length};
 ghost use lib.Ieee.{binary64};
 ghost use Rattle.arithmetic.specs.Value.{finite};
@@ -8,15 +9,20 @@ ghost use Rattle.formula.specs.Text.{all};
 ghost use Rattle.formula.specs.Path.{placed};
 ghost use Rattle.meaning.specs.Work.{elementary, power, same-bits};
 ghost use Rattle.machine.specs.Program.{valid};
-ghost use Rattle.machine.specs.Machine.{fresh, place-of};
+ghost use Rattle.machine.specs.Machine.{fresh, number-of, place-of};
+ghost use Rattle.machine.specs.Progress.{Lawful};
 ghost use Rattle.layout.specs.Decode.{code-count, program-at};
 ghost use Rattle.work.specs.View.{kept-values};
 ghost use Rattle.instruction.specs.declared.Effect.the-variants.{Work};
-ghost use Rattle.run.specs.Views.{Hands-back, Writable, answer-of, pending-of, reply-of, state-of, supplied-of};
+ghost use Rattle.run.specs.Views.{Hands-back, Writable, answer-of, pending-of, refusal-number, reply-of, state-of, supplied-of};
 ghost use Rattle.run.specs.Calls.{Finished, Known-place, putting, refusing, replying, resume-at, run-at, stale-at, steps-at, stopping, supplying, unasked, unfit-at};
 use instruction::Effect;
 use instruction::Progress;
 use program::word;
+use refusals::INVALID_INPUT;
+use refusals::NO_PROGRAM;
+use refusals::SLICE_TOO_SHORT;
+use refusals::STALE_STATE;
 use work::Kept;
 use work::Outcome;
 
@@ -49,7 +55,7 @@ pub enum Answer {
     Power(f64, f64),
     Spent,
     Domain(usize),
-    Refused(usize),
+    Refused(u8),
 }
 
 // "The count returned is the instructions completed by this call."
@@ -281,7 +287,7 @@ pub fn fresh_state() -> State
 }
 
 // "These change no register and hand the state back unaltered."
-fn refusal(n: usize, state: State) -> Reply
+fn refusal(n: u8, state: State) -> Reply
     ensures { λ r. ⌜ r ≡ refusing n state ⌝ }
 {
     Reply {
@@ -299,7 +305,7 @@ fn write_place(p: &[u8], answer: Answer, path: &mut [u8])
     match answer {
         Answer::Domain(k) => program::write_place(p, k, path),
         Answer::Refused(n) => {
-            if n == 5 {
+            if n == INVALID_INPUT {
                 paths::write_root(path);
             }
         }
@@ -325,11 +331,11 @@ pub fn run_reply(
     ensures state { λ r. ⌜ Hands-back state r ⌝ }
 {
     if room < 8192 {
-        return refusal(1, state);
+        return refusal(SLICE_TOO_SHORT, state);
     }
     let bad = unfit(p, inputs, regs, budget);
     if bad {
-        return refusal(5, state);
+        return refusal(INVALID_INPUT, state);
     }
     let kept = state.kept;
     steps(p, inputs, regs, budget, 0, kept)
@@ -350,15 +356,15 @@ fn resume_reply(
     ensures state { λ r. ⌜ Hands-back state r ⌝ }
 {
     if room < 8192 {
-        return refusal(1, state);
+        return refusal(SLICE_TOO_SHORT, state);
     }
     let bad = unfit(p, inputs, regs, budget);
     if bad {
-        return refusal(5, state);
+        return refusal(INVALID_INPUT, state);
     }
     let late = stale(p, inputs, regs, state, supplied);
     if late {
-        return refusal(11, state);
+        return refusal(STALE_STATE, state);
     }
     let position = state.position;
     let kept = state.kept;
@@ -377,6 +383,8 @@ pub fn run_checked(
     requires { ⌜ valid (program-at (now p)) ≡ true ⌝ }
     ensures reply { λ r. ⌜ reply-of (now (p .entry)) r (now (regs .exit)) ≡ run-at (now (inputs .entry)) (now (p .entry)) (length (now (path .entry))) budget (now (regs .entry)) ⌝ }
     ensures place { λ r. ⌜ now (path .exit) ≡ placed (place-of (answer-of (now (p .entry)) (r .answer))) (now (path .entry)) ⌝ }
+    ensures number { λ r. ⌜ refusal-number (r .answer) ≡ number-of (run-at (now (inputs .entry)) (now (p .entry)) (length (now (path .entry))) budget (now (regs .entry)) .answer) ⌝ }
+    ensures lawful { λ r. ⌜ Lawful binary64 (now (inputs .entry)) (program-at (now (p .entry))) budget none fresh (now (regs .entry)) (reply-of (now (p .entry)) r (now (regs .exit))) ⌝ }
 {
     let room = path.len();
     let r = run_reply(p, inputs, regs, room, budget, fresh_state());
@@ -399,6 +407,8 @@ pub fn resume_checked(
     ensures reply { λ r. ⌜ reply-of (now (p .entry)) r (now (regs .exit)) ≡ resume-at (now (inputs .entry)) (now (p .entry)) (length (now (path .entry))) budget (supplied-of supplied) (state-of state) (now (regs .entry)) ⌝ }
     ensures place { λ r. ⌜ now (path .exit) ≡ placed (place-of (answer-of (now (p .entry)) (r .answer))) (now (path .entry)) ⌝ }
     ensures state { λ r. ⌜ Hands-back state r ⌝ }
+    ensures number { λ r. ⌜ refusal-number (r .answer) ≡ number-of (resume-at (now (inputs .entry)) (now (p .entry)) (length (now (path .entry))) budget (supplied-of supplied) (state-of state) (now (regs .entry)) .answer) ⌝ }
+    ensures lawful { λ r. ⌜ Lawful binary64 (now (inputs .entry)) (program-at (now (p .entry))) budget (supplied-of supplied) (state-of state) (now (regs .entry)) (reply-of (now (p .entry)) r (now (regs .exit))) ⌝ }
 {
     let room = path.len();
     let r = resume_reply(p, inputs, regs, room, budget, state, supplied);
@@ -412,15 +422,17 @@ pub fn resume_checked(
 pub fn run(p: &[u8], inputs: &[f64], regs: &mut [f64], path: &mut [u8], budget: usize) -> Reply
     ensures reply { λ r. ⌜ reply-of (now (p .entry)) r (now (regs .exit)) ≡ run-at (now (inputs .entry)) (now (p .entry)) (length (now (path .entry))) budget (now (regs .entry)) ⌝ }
     ensures place { λ r. ⌜ now (path .exit) ≡ placed (place-of (answer-of (now (p .entry)) (r .answer))) (now (path .entry)) ⌝ }
+    ensures number { λ r. ⌜ refusal-number (r .answer) ≡ number-of (run-at (now (inputs .entry)) (now (p .entry)) (length (now (path .entry))) budget (now (regs .entry)) .answer) ⌝ }
+    ensures lawful { λ r. ⌜ Lawful binary64 (now (inputs .entry)) (program-at (now (p .entry))) budget none fresh (now (regs .entry)) (reply-of (now (p .entry)) r (now (regs .exit))) ⌝ }
 {
     if path.len() < 8192 {
-        return refusal(1, fresh_state());
+        return refusal(SLICE_TOO_SHORT, fresh_state());
     }
     let ok = program::is_program(p);
     if ok {
         return run_checked(p, inputs, regs, path, budget);
     }
-    refusal(10, fresh_state())
+    refusal(NO_PROGRAM, fresh_state())
 }
 
 pub fn resume(
@@ -435,13 +447,15 @@ pub fn resume(
     ensures reply { λ r. ⌜ reply-of (now (p .entry)) r (now (regs .exit)) ≡ resume-at (now (inputs .entry)) (now (p .entry)) (length (now (path .entry))) budget (supplied-of supplied) (state-of state) (now (regs .entry)) ⌝ }
     ensures place { λ r. ⌜ now (path .exit) ≡ placed (place-of (answer-of (now (p .entry)) (r .answer))) (now (path .entry)) ⌝ }
     ensures state { λ r. ⌜ Hands-back state r ⌝ }
+    ensures number { λ r. ⌜ refusal-number (r .answer) ≡ number-of (resume-at (now (inputs .entry)) (now (p .entry)) (length (now (path .entry))) budget (supplied-of supplied) (state-of state) (now (regs .entry)) .answer) ⌝ }
+    ensures lawful { λ r. ⌜ Lawful binary64 (now (inputs .entry)) (program-at (now (p .entry))) budget (supplied-of supplied) (state-of state) (now (regs .entry)) (reply-of (now (p .entry)) r (now (regs .exit))) ⌝ }
 {
     if path.len() < 8192 {
-        return refusal(1, state);
+        return refusal(SLICE_TOO_SHORT, state);
     }
     let ok = program::is_program(p);
     if ok {
         return resume_checked(p, inputs, regs, path, budget, state, supplied);
     }
-    refusal(10, state)
+    refusal(NO_PROGRAM, state)
 }

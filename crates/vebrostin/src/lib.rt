@@ -248,7 +248,7 @@ fn number_of(given: Answer) -> usize
         Answer::Power(x, y) => 100,
         Answer::Spent => 101,
         Answer::Domain(k) => 9,
-        Answer::Refused(n) => n,
+        Answer::Refused(n) => n as usize,
     }
 }
 

@@ -3,6 +3,7 @@ use native.Mathlib.Omega.{arith}
 use lib.ListN.{length}
 use Rattle.run.specs.Views.{state-of, supplied-of}
 use Rattle.run.proofs.Whole.{refused-back, refused-is, refused-unplaced, resume-1, resume-10}
+use Rattle.run.proofs.Progress.{resume-promises}
 use borrow.Author.Needs.{needs}
 use Rattle.run.proofs.resume.Statement.{statement}
 use Rattle.run.proofs.resume.Tie as tie
@@ -11,7 +12,14 @@ refusal-requires : tie.Need-refusal-requires
 refusal-requires c κs = search needs
 
 returns : tie.Need-returns
-returns c = (refused-is (c .before .before .before .before .before .before .args .p .now) 1 (c .before .before .before .before .before .before .args .state) (state-of (c .before .before .before .before .before .before .args .state)) (c .before .before .before .before .before .before .args .regs .now) (c .refusal .ensures) refl ∙ resume-1 (c .before .before .before .before .before .before .args .inputs .now) (c .before .before .before .before .before .before .args .p .now) (length (c .before .before .before .before .before .before .args .path .now)) (c .before .before .before .before .before .before .args .budget) (c .before .before .before .before .before .before .args .regs .now) (supplied-of (c .before .before .before .before .before .before .args .supplied)) (state-of (c .before .before .before .before .before .before .args .state)) (c .before .if1 .taken), (refused-unplaced (c .before .before .before .before .before .before .args .p .now) 1 (c .before .before .before .before .before .before .args .state) (c .before .before .before .before .before .before .args .path .now) (c .refusal .ensures) (λ z. omega arith), refused-back 1 (c .before .before .before .before .before .before .args .state) (c .refusal .ensures)))
+returns c =
+    let a = c .before .before .before .before .before .before .args in
+    let b = a .p .now in
+    let g = supplied-of (a .supplied) in
+    let s = a .state in
+    let e = refused-is b 1 s (state-of s) (a .regs .now) (c .refusal .ensures) refl ∙ resume-1 (a .inputs .now) b (length (a .path .now)) (a .budget) (a .regs .now) g (state-of s) (c .before .if1 .taken) in
+    resume-promises (a .inputs .now) b (length (a .path .now)) (a .budget) (a .regs .now) g (state-of s) (c .refusal .result) (a .regs .now) (a .path .now) (a .path .now) s e
+    (refused-unplaced b 1 s (a .path .now) (c .refusal .ensures) (λ z. omega arith)) (refused-back 1 s (c .refusal .ensures))
 
 is-program-requires : tie.Need-is-program-requires
 is-program-requires c κs = search needs
@@ -32,7 +40,14 @@ refusal-requires-2 : tie.Need-refusal-requires-2
 refusal-requires-2 c κs = search needs
 
 returns-3 : tie.Need-returns-3
-returns-3 c = (refused-is (c .before .before .before .before .before .before .before .before .args .p .now) 10 (c .before .before .before .before .before .before .before .before .args .state) (state-of (c .before .before .before .before .before .before .before .before .args .state)) (c .before .before .before .before .before .before .before .before .args .regs .now) (c .refusal2 .ensures) refl ∙ resume-10 (c .before .before .before .before .before .before .before .before .args .inputs .now) (c .before .before .before .before .before .before .before .before .args .p .now) (length (c .before .before .before .before .before .before .before .before .args .path .now)) (c .before .before .before .before .before .before .before .before .args .budget) (c .before .before .before .before .before .before .before .before .args .regs .now) (supplied-of (c .before .before .before .before .before .before .before .before .args .supplied)) (state-of (c .before .before .before .before .before .before .before .before .args .state)) (c .before .before .before .if1 .left) (sym (c .before .before .is-program .ensures) ∙ c .before .if2 .left), (refused-unplaced (c .before .before .before .before .before .before .before .before .args .p .now) 10 (c .before .before .before .before .before .before .before .before .args .state) (c .before .before .before .before .before .before .before .before .args .path .now) (c .refusal2 .ensures) (λ z. omega arith), refused-back 10 (c .before .before .before .before .before .before .before .before .args .state) (c .refusal2 .ensures)))
+returns-3 c =
+    let a = c .before .before .before .before .before .before .before .before .args in
+    let b = a .p .now in
+    let g = supplied-of (a .supplied) in
+    let s = a .state in
+    let e = refused-is b 10 s (state-of s) (a .regs .now) (c .refusal2 .ensures) refl ∙ resume-10 (a .inputs .now) b (length (a .path .now)) (a .budget) (a .regs .now) g (state-of s) (c .before .before .before .if1 .left) (sym (c .before .before .is-program .ensures) ∙ c .before .if2 .left) in
+    resume-promises (a .inputs .now) b (length (a .path .now)) (a .budget) (a .regs .now) g (state-of s) (c .refusal2 .result) (a .regs .now) (a .path .now) (a .path .now) s e
+    (refused-unplaced b 10 s (a .path .now) (c .refusal2 .ensures) (λ z. omega arith)) (refused-back 10 s (c .refusal2 .ensures))
 
 pub resume-spec : {M : Type 1} → statement M
 resume-spec =

@@ -3,6 +3,7 @@ use native.Mathlib.Omega.{arith}
 use lib.ListN.{length}
 use Rattle.machine.specs.Machine.{fresh}
 use Rattle.run.proofs.Whole.{refused-is, refused-unplaced, run-1, run-10}
+use Rattle.run.proofs.Progress.{run-promises}
 use borrow.Author.Needs.{needs}
 use Rattle.run.proofs.run.Statement.{statement}
 use Rattle.run.proofs.run.Tie as tie
@@ -14,7 +15,12 @@ refusal-requires : tie.Need-refusal-requires
 refusal-requires c κs = search needs
 
 returns : tie.Need-returns
-returns c = (refused-is (c .before .before .before .before .before .before .before .args .p .now) 1 (c .before .fresh-state .result) fresh (c .before .before .before .before .before .before .before .args .regs .now) (c .refusal .ensures) (c .before .fresh-state .ensures) ∙ run-1 (c .before .before .before .before .before .before .before .args .inputs .now) (c .before .before .before .before .before .before .before .args .p .now) (length (c .before .before .before .before .before .before .before .args .path .now)) (c .before .before .before .before .before .before .before .args .budget) (c .before .before .before .before .before .before .before .args .regs .now) (c .before .before .if1 .taken), refused-unplaced (c .before .before .before .before .before .before .before .args .p .now) 1 (c .before .fresh-state .result) (c .before .before .before .before .before .before .before .args .path .now) (c .refusal .ensures) (λ z. omega arith))
+returns c =
+    let a = c .before .before .before .before .before .before .before .args in
+    let b = a .p .now in
+    let e = refused-is b 1 (c .before .fresh-state .result) fresh (a .regs .now) (c .refusal .ensures) (c .before .fresh-state .ensures) ∙ run-1 (a .inputs .now) b (length (a .path .now)) (a .budget) (a .regs .now) (c .before .before .if1 .taken) in
+    run-promises (a .inputs .now) b (length (a .path .now)) (a .budget) (a .regs .now) (c .refusal .result) (a .regs .now) (a .path .now) (a .path .now) e
+    (refused-unplaced b 1 (c .before .fresh-state .result) (a .path .now) (c .refusal .ensures) (λ z. omega arith))
 
 is-program-requires : tie.Need-is-program-requires
 is-program-requires c κs = search needs
@@ -38,7 +44,12 @@ refusal-requires-2 : tie.Need-refusal-requires-2
 refusal-requires-2 c κs = search needs
 
 returns-3 : tie.Need-returns-3
-returns-3 c = (refused-is (c .before .before .before .before .before .before .before .before .before .args .p .now) 10 (c .before .fresh-state2 .result) fresh (c .before .before .before .before .before .before .before .before .before .args .regs .now) (c .refusal2 .ensures) (c .before .fresh-state2 .ensures) ∙ run-10 (c .before .before .before .before .before .before .before .before .before .args .inputs .now) (c .before .before .before .before .before .before .before .before .before .args .p .now) (length (c .before .before .before .before .before .before .before .before .before .args .path .now)) (c .before .before .before .before .before .before .before .before .before .args .budget) (c .before .before .before .before .before .before .before .before .before .args .regs .now) (c .before .before .before .before .if1 .left) (sym (c .before .before .before .is-program .ensures) ∙ c .before .before .if2 .left), refused-unplaced (c .before .before .before .before .before .before .before .before .before .args .p .now) 10 (c .before .fresh-state2 .result) (c .before .before .before .before .before .before .before .before .before .args .path .now) (c .refusal2 .ensures) (λ z. omega arith))
+returns-3 c =
+    let a = c .before .before .before .before .before .before .before .before .before .args in
+    let b = a .p .now in
+    let e = refused-is b 10 (c .before .fresh-state2 .result) fresh (a .regs .now) (c .refusal2 .ensures) (c .before .fresh-state2 .ensures) ∙ run-10 (a .inputs .now) b (length (a .path .now)) (a .budget) (a .regs .now) (c .before .before .before .before .if1 .left) (sym (c .before .before .before .is-program .ensures) ∙ c .before .before .if2 .left) in
+    run-promises (a .inputs .now) b (length (a .path .now)) (a .budget) (a .regs .now) (c .refusal2 .result) (a .regs .now) (a .path .now) (a .path .now) e
+    (refused-unplaced b 10 (c .before .fresh-state2 .result) (a .path .now) (c .refusal2 .ensures) (λ z. omega arith))
 
 pub run-spec : {M : Type 1} → statement M
 run-spec =
