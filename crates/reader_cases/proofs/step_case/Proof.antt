@@ -23,10 +23,17 @@ put-step-requires : tie.Need-put-step-requires
 put-step-requires c κs = let h = step-length-any (c .before .number .result % 4294967296) (omega arith) in omega (arith, h)
 
 array-share-prefix-out : tie.Need-array-share-prefix-out
-array-share-prefix-out c = let h = step-length-any (c .before .before .before .number .result % 4294967296) (omega arith) in omega (arith, h, c .before .put-step .ensures .0, c .before .put-step .kept .0)
+array-share-prefix-out c =
+    let number = c .before .before .before .number in
+    let put-step = c .before .put-step in
+    let h = step-length-any (number .result % 4294967296) (omega arith) in omega (arith, h, put-step .ensures .0, put-step .kept .0)
 
 slice-aggregate-ends-with : tie.Need-slice-aggregate-ends-with
-slice-aggregate-ends-with c = let h = step-length-any (c .before .before .before .before .number .result % 4294967296) (omega arith) in sym (length-take-le (c .before .before .put-step .result) (c .before .before .put-step .last .0) (omega (arith, h, c .before .before .put-step .ensures .0, c .before .before .put-step .kept .0)))
+slice-aggregate-ends-with c =
+    let number = c .before .before .before .before .number in
+    let put-step = c .before .before .put-step in
+    let h = step-length-any (number .result % 4294967296) (omega arith) in
+    sym (length-take-le (put-step .result) (put-step .last .0) (omega (arith, h, put-step .ensures .0, put-step .kept .0)))
 
 ends-with-requires : tie.Need-ends-with-requires
 ends-with-requires c κs = search needs
