@@ -19,7 +19,8 @@ use Rattle.survey.proofs.Steps.{tested}
 use Rattle.differentiate.specs.Written.{part, parts-bytes, node-of, extremum-bytes, tie-bytes}
 use Rattle.differentiate.proofs.Lists.{as-text, room-as, writes-none, same, free-start, free-room, then-writes}
 use Rattle.differentiate.proofs.Leaves.{literal-room, node-length}
-use Rattle.differentiate.proofs.Texts.{text-none, text-long, text-zero, text-child, text-diff, text-whole, text-extremum, text-literal, text-unless-yes, text-unless-no, text-sum, text-product, text-node, none-left, next-part, zero-test, one-test, sum-left, sum-right, sum-kept, product-left, product-right, one-left, one-right, product-kept, last-tie, next-tie, no-ties, all-ties, ready-of, has-not, without-rule, by-rule, known-child, diff-text, no-diff, task-as}
+use Rattle.differentiate.proofs.Texts.{text-none, text-long, text-zero, text-child, text-diff, text-whole, text-extremum, text-literal, text-unless-yes, text-unless-no, text-sum, text-product, text-node}
+use Rattle.differentiate.proofs.Texts.{none-left, next-part, zero-test, one-test, sum-left, sum-right, sum-kept, product-left, product-right, one-left, one-right, product-kept, last-tie, next-tie, no-ties, all-ties, ready-of, has-not, without-rule, by-rule, known-child, diff-text, no-diff, task-as}
 use Prim.Native.Nat.{ℕ, _<_}
 use borrow.Fn.Kinds.{In}
 use borrow.Fn.PlainCycle.{Measures, is, falls, and}
@@ -654,6 +655,7 @@ write-node-write-rules-requires t c κs =
 write-node-add-result : (t : ℕ) → write-node-lts.Need-add-result (write-node-calls t) (write-node-at t) write-node.Post
 write-node-add-result t c =
     let args = c .before .before .before .before .before .before .before .before .before .before .before .args in
+    let good = c .before .before .before .before .before .before .before .before .before .before .before .good in
     let pre = c .before .before .before .before .before .before .before .before .before .before .before .pre in
     let put-node = c .before .before .before .before .before .before .put-node in
     let write-rules = c .before .before .write-rules in
@@ -664,6 +666,7 @@ write-node-add-result t c =
       pre .1 .1 .room,
       length-append (node-bytes (inner-fields (args .kind) (args .operator) (args .children)))
           (parts-bytes (args .by .symbol) (args .by .state) (tree (args .f .now) (args .k)) (args .levels) (args .q) (args .children) (args .i)),
+      good .1 .1 .1 .1 .1 .1 .1 .1 .1 .1 .1 .0 .0,
     )
 
 write-node-same-length : (t : ℕ) → write-node-lts.Need-same-length (write-node-calls t) (write-node-at t) write-node.Post
@@ -1591,6 +1594,7 @@ write-rules-write-rules-requires t c κs =
 write-rules-add-result : (t : ℕ) → write-rules-lts.Need-add-result (write-rules-calls t) (write-rules-at t) write-rules.Post
 write-rules-add-result t c =
     let args = c .before .before .before .before .before .before .before .before .before .before .before .before .before .args in
+    let good = c .before .before .before .before .before .before .before .before .before .before .before .before .before .good in
     let pre = c .before .before .before .before .before .before .before .before .before .before .before .before .before .pre in
     let if1 = c .before .before .before .before .before .before .before .before .before .if1 in
     let write-rule = c .before .before .before .before .before .before .before .write-rule in
@@ -1606,6 +1610,7 @@ write-rules-add-result t c =
           (next-part (args .by .symbol) (args .by .state) the-tree (args .levels) (args .q) (args .left) (args .i) (end-of .result) (if1 .left) (end-of .ensures)),
       length-append (encode (part (args .by .symbol) (args .by .state) the-tree (args .levels) (args .q) (args .i)))
           (parts-bytes (args .by .symbol) (args .by .state) the-tree (args .levels) (args .q) (args .left - 1) (end-of .result)),
+      good .1 .1 .1 .1 .1 .1 .1 .1 .1 .0 .0,
     )
 
 write-rules-same-length : (t : ℕ) → write-rules-lts.Need-same-length (write-rules-calls t) (write-rules-at t) write-rules.Post
@@ -1921,6 +1926,7 @@ write-ties-write-diff-requires-2 t c κs =
 write-ties-add-m : (t : ℕ) → write-ties-lts.Need-add-m (write-ties-calls t) (write-ties-at t) write-ties.Post
 write-ties-add-m t c =
     let args = c .before .before .before .before .before .before .before .before .before .before .before .before .args in
+    let good = c .before .before .before .before .before .before .before .before .before .before .before .before .good in
     let pre = c .before .before .before .before .before .before .before .before .before .before .before .before .pre in
     let if1 = c .before .before .before .before .before .before .before .before .if1 in
     let put-tie = c .before .before .before .before .before .before .put-tie in
@@ -1936,6 +1942,7 @@ write-ties-add-m t c =
       length-append (the-tie-bytes ++ the-encode) (extremum-bytes (args .by .symbol) (args .by .state) the-tree (args .i + 1) (args .left - 1)),
       length-append the-tie-bytes the-encode,
       pre .1 .1 .room,
+      good .1 .1 .1 .1 .1 .1 .1 .0 .0,
     )
 
 write-ties-add-write-ties : (t : ℕ) → write-ties-lts.Need-add-write-ties (write-ties-calls t) (write-ties-at t) write-ties.Post

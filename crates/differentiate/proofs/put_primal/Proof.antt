@@ -474,6 +474,7 @@ put-tree-requires c κs =
 add-result : tie.Need-add-result
 add-result c =
     let args = c .before .before .before .before .before .before .before .before .before .before .before .before .before .before .before .before .before .before .before .args in
+    let good = c .before .before .before .before .before .before .before .before .before .before .before .before .before .before .before .before .before .before .before .good in
     let pre = c .before .before .before .before .before .before .before .before .before .before .before .before .before .before .before .before .before .before .before .pre in
     let put-node = c .before .before .before .before .before .before .before .before .before .before .before .before .before .before .put-node in
     let put-node2 = c .before .before .before .before .before .before .before .before .before .before .put-node2 in
@@ -495,6 +496,7 @@ add-result c =
       node-length (inner-fields 4 0 2),
       node-length (inner-fields 4 2 2),
       literal-length 0,
+      good .1 .1 .0 .0,
     )
 
 same-length : tie.Need-same-length

@@ -272,6 +272,7 @@ put-child-requires c κs =
 add-c : tie.Need-add-c
 add-c c =
     let args = c .before .before .before .before .before .before .before .before .before .before .before .before .before .before .before .args in
+    let good = c .before .before .before .before .before .before .before .before .before .before .before .before .before .before .before .good in
     let pre = c .before .before .before .before .before .before .before .before .before .before .before .before .before .before .before .pre in
     let put-node = c .before .before .before .before .before .before .before .before .before .before .put-node in
     let put-node2 = c .before .before .before .before .before .before .put-node2 in
@@ -292,6 +293,7 @@ add-c c =
       length-append the-node-bytes the-node-bytes2,
       node-length (inner-fields 8 0 3),
       node-length (inner-fields 5 4 2),
+      good .1 .1 .1 .1 .0 .0,
     )
 
 sub-put-tree : tie.Need-sub-put-tree
@@ -464,6 +466,7 @@ put-tree-requires c κs =
 add-result : tie.Need-add-result
 add-result c =
     let args = c .before .before .before .before .before .before .before .before .before .before .before .before .before .before .before .before .before .before .before .args in
+    let good = c .before .before .before .before .before .before .before .before .before .before .before .before .before .before .before .before .before .before .before .good in
     let pre = c .before .before .before .before .before .before .before .before .before .before .before .before .before .before .before .before .before .before .before .pre in
     let put-node = c .before .before .before .before .before .before .before .before .before .before .before .before .before .before .put-node in
     let put-node2 = c .before .before .before .before .before .before .before .before .before .before .put-node2 in
@@ -486,6 +489,7 @@ add-result c =
       length-append the-node-bytes the-node-bytes2,
       node-length (inner-fields 8 0 3),
       node-length (inner-fields 5 4 2),
+      good .1 .1 .1 .1 .0 .0,
     )
 
 same-length : tie.Need-same-length
