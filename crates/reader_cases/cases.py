@@ -82,11 +82,8 @@ def names(line):
     lines.append("n0 " + line if k is None else "n1" + k + " " + line)
 
 
-def values(places, line):
-    pieces = [] if line == "" else line.split(",")
-    good = all(len(p) == 16 and all(c in "0123456789abcdef" for c in p) for p in pieces)
-    answer = "M" if not good else "V" if len(pieces) == places else "C"
-    lines.append("v%d%s %s" % (places, answer, line))
+def digits(text):
+    lines.append("h%d %s" % (all(c in "0123456789abcdef" for c in text), text))
 
 
 def step(n):
@@ -163,20 +160,21 @@ names(",".join("n%d:p" % (i % 255) for i in range(256)))
 names("x" * 63 + "a:p," + "x" * 63 + "b:p")
 names("x" * 63 + "a:p," + "x" * 63 + "a:p")
 
-# lines of values
-v = "4056800000000000"
-for line in ["", v, v + "," + v, v + ",", "," + v, v + ",," + v, v[:15], v + "0", v[:15] + "," + v, v + "," + v[:15], v.upper(), "405680000000000A",
-             "405680000000000g", "40568000000000/0", "4056800000000:00", "4056800000000`00", v + ";" + v, v + "\r", v + " ", " " + v, "0123456789abcdef",
-             "fedcba9876543210", "ffffffffffffffff", "0" * 16, "7ff0000000000000", v + "," + "g" * 16, "g" * 16 + "," + v]:
-    for places in (0, 1, 2, 3):
-        values(places, line)
-for n in (9, 10, 11, 300):
-    values(9, ",".join("%016x" % rng.getrandbits(64) for _ in range(n)))
-    values(9, ",".join("%016x" % rng.getrandbits(64) for _ in range(n)) + "g")
+# hexadecimal digits: every printable byte, then values
+for b in range(32, 127):
+    digits("0" * 15 + chr(b))
+for text in ["0123456789abcdef", "fedcba9876543210", "f" * 16, "0" * 16, "7ff0000000000000", "4056800000000000", "405680000000000A", "g" + "0" * 15]:
+    digits(text)
+for _ in range(20):
+    digits("%016x" % rng.getrandbits(64))
 
 # steps of paths
 for n in (0, 1, 2, 3, 4, 5, 12, 13, 102, 103, 255, 1002, 1003, 65538, 65539, 10002, 10003, 999999, 4294967294, 4294967295):
     step(n)
+
+# numbers in decimal
+for n in (0, 1, 9, 10, 11, 99, 100, 101, 255, 256, 999, 1000, 65535, 1000000, 4294967295, 4294967296, 9999999999):
+    lines.append("d%d" % n)
 
 with open(__file__.rsplit("/", 1)[0] + "/stdin", "w", newline="") as f:
     f.write("\n".join(lines) + "\n")

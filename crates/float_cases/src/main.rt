@@ -45,14 +45,13 @@ fn truth(b: bool) -> u64 {
 fn outcome(letter: u8, a: u64, b: u64) -> u64 {
     let x = floats::value::of_bits(a);
     let y = floats::value::of_bits(b);
-    let pair = [x, y];
     match letter {
         b's' => floats::value::bits_of(floats::root::sqrt(x)),
         b'f' => floats::value::bits_of(floats::whole::floor(x)),
         b'c' => floats::value::bits_of(floats::whole::ceil(x)),
         b'm' => floats::value::bits_of(floats::modulo::modulo(x, y)),
-        b'l' => floats::value::bits_of(floats::extremum::minimum(&pair)),
-        b'g' => floats::value::bits_of(floats::extremum::maximum(&pair)),
+        b'l' => floats::value::bits_of(floats::extremum::hold_below(x, y)),
+        b'g' => floats::value::bits_of(floats::extremum::hold_above(x, y)),
         b'a' => floats::value::bits_of(floats::value::abs(x)),
         b'w' => truth(floats::whole::is_whole(x)),
         b'i' => truth(floats::value::is_finite(x)),

@@ -1,5 +1,4 @@
 mod Zero
-pub mod Fold
 mod Truncate
 mod Bits
 mod RootSteps

@@ -5,14 +5,14 @@ use mathlib.Core.List.{List, [], _∷_, _++_, map, append-assoc, append-nil}
 use mathlib.Core.Option.{Option, none, some}
 use Prim.Native.Nat.{ℕ, zero, suc, _+_, _-_, _*_, _/_, _%_, _≤_, _<_}
 use native.Mathlib.Omega.{arith}
-use lib.ListN.{length, getD, take, drop, set, length-drop, length-set}
-use lib.Seq.{drop-cons, getD-take, getD-drop, length-take-le, drop-set-lt, getD-set-same, drop-length}
+use lib.ListN.{length, getD, drop, set, length-set}
+use lib.Seq.{drop-cons, drop-set-lt, getD-set-same, drop-length}
 use lib.Dec.{eqb, ltb}
 use borrow.Author.Tests.{eqb-true, eqb-false, ltb-true, ltb-false, ne-eqb, eq-eqb}
-use Rattle.formula.specs.Text.{joined, all-some}
-use Rattle.formula.specs.Values.{hex-digits, found, place-in, digit-of, of-digits, numbered, value-of, digits-in, hex}
-use Rattle.names.specs.Lines.{place, bits}
-use Rattle.names.specs.declared.Value.the-variants.{Bits, NoValue}
+use Rattle.formula.specs.Text.{all-some}
+use Rattle.formula.specs.Values.{hex-digits, found, place-in, digit-of, numbered, value-of, digits-in, hex}
+use Rattle.names.specs.Lines.{place}
+unfoldable pub use Rattle.names.specs.Lines.{cap}
 
 -- ---- the table
 
@@ -87,113 +87,8 @@ digit-nowhere b l e =
 
 -- ---- a value
 
-abbrev pub numbered-from : ℕ → Option (List ℕ) → Option ℕ
-numbered-from n none = none
-numbered-from n (some ds) = some (of-digits n ds)
-
--- the number n with more digits behind it
-unfoldable pub reading : ℕ → List ℕ → Option ℕ
-reading n xs = numbered-from n (all-some (map digit-of xs))
-
-step-by : (n d : ℕ) (o : Option (List ℕ)) → numbered-from n (joined (some d) o) ≡ numbered-from (16 * n + d) o
-step-by n d none = refl
-step-by n d (some ds) = refl
-
-reading-digit : (n x d : ℕ) (xs : List ℕ) → digit-of x ≡ some d → reading n (x ∷ xs) ≡ reading (16 * n + d) xs
-unfolding reading
-reading-digit n x d xs e =
-    ap (λ (o : Option ℕ). numbered-from n (joined o (all-some (map digit-of xs)))) e ∙ step-by n d (all-some (map digit-of xs))
-
-reading-none : (n x : ℕ) (xs : List ℕ) → digit-of x ≡ none → reading n (x ∷ xs) ≡ none
-unfolding reading
-reading-none n x xs e = ap (λ (o : Option ℕ). numbered-from n (joined o (all-some (map digit-of xs)))) e
-
-numbered-zero : (o : Option (List ℕ)) → numbered o ≡ numbered-from 0 o
-numbered-zero none = refl
-numbered-zero (some ds) = refl
-
-value-reading : (xs : List ℕ) → length xs ≡ 16 → value-of xs ≡ reading 0 xs
-unfolding reading
-value-reading xs e =
-    ap (λ (t : Bool). cond t (numbered (all-some (map digit-of xs))) none) (eq-eqb (length xs) 16 e) ∙ numbered-zero (all-some (map digit-of xs))
-
 pub value-length : (xs : List ℕ) → (length xs ≡ 16 → ⊥) → value-of xs ≡ none
 value-length xs h = ap (λ (t : Bool). cond t (numbered (all-some (map digit-of xs))) none) (ne-eqb (length xs) 16 h)
-
--- 16 ^ i
-unfoldable pub cap : ℕ → ℕ
-cap zero = 1
-cap (suc i) = 16 * cap i
-
-cap-by : (t : Bool) (i j : ℕ) → eqb i j ≡ t → i < suc j → (i < j → 16 * cap i ≤ cap j) → 16 * cap i ≤ 16 * cap j
-cap-by true i j e h k = let q = eqb-true i j e in omega (arith, ap cap q)
-cap-by false i j e h k = let z = eqb-false i j e in let q = k (omega arith) in omega arith
-
-cap-more : (i j : ℕ) → i < j → 16 * cap i ≤ cap j
-unfolding cap
-cap-more i zero h = absurd (omega arith)
-cap-more i (suc j) h = cap-by (eqb i j) i j refl h (λ l. cap-more i j l)
-
--- i digits of the 16 at a byte were read, with the number n
-pub record Reading (line : List ℕ) (at n i : ℕ) : Type 0 where
-  pub room : at + 16 ≤ length line
-  pub below : i ≤ 16
-  pub small : n < cap i
-  pub same : value-of (take 16 (drop at line)) ≡ reading n (drop i (take 16 (drop at line)))
-
-sixteen : (line : List ℕ) (at : ℕ) → at + 16 ≤ length line → length (take 16 (drop at line)) ≡ 16
-sixteen line at h = length-take-le 16 (drop at line) (omega (arith, length-drop at line))
-
-next-digit : (line : List ℕ) (at i : ℕ) → at + 16 ≤ length line → i < 16
-    → drop i (take 16 (drop at line)) ≡ getD line (at + i) 0 ∷ drop (i + 1) (take 16 (drop at line))
-next-digit line at i h l =
-    let xs = take 16 (drop at line) in
-    let e : suc i ≡ i + 1 = omega arith in
-    drop-cons xs i 0 (omega (arith, sixteen line at h))
-    ∙ ap (λ (j : ℕ). getD xs i 0 ∷ drop j xs) e
-    ∙ ap (λ (x : ℕ). x ∷ drop (i + 1) xs) (getD-take 16 (drop at line) i 0 l ∙ getD-drop at line i 0)
-
-module _ (line : List ℕ) (at : ℕ) where
-  pub too-short : at ≤ length line → length line - at < 16 → NoValue ≡ bits (value-of (take 16 (drop at line)))
-  too-short l h =
-      let xs = take 16 (drop at line) in
-      let n : length xs ≡ 16 → ⊥ = λ e. omega (arith, lib.ListN.length-take 16 (drop at line), length-drop at line) in
-      sym (ap bits (value-length xs n))
-
-  pub reading-start : at + 16 ≤ length line → Reading line at 0 0
-  unfolding cap
-  reading-start h =
-      record { room = h; below = omega arith; small = omega arith; same = value-reading (take 16 (drop at line)) (sixteen line at h) }
-
-  module _ (n i : ℕ) (g : Reading line at n i) where
-    pub reading-fits : (d : ℕ) → i < 16 → d < 16 → 16 * n + d < 18446744073709551616
-    unfolding cap
-    reading-fits d l h = omega (arith, g .small, cap-more i 16 l)
-
-    pub reading-more : (d : ℕ) → i < 16 → digit-of (getD line (at + i) 0) ≡ some d → d < 16 → Reading line at (16 * n + d) (i + 1)
-    unfolding cap
-    reading-more d l e h =
-        let z : suc i ≡ i + 1 = omega arith in
-        record {
-          room = g .room;
-          below = omega arith;
-          small = omega (arith, g .small, ap cap z);
-          same =
-              g .same
-              ∙ ap (reading n) (next-digit line at i (g .room) l)
-              ∙ reading-digit n (getD line (at + i) 0) d (drop (i + 1) (take 16 (drop at line))) e;
-        }
-
-    pub reading-stop : i < 16 → digit-of (getD line (at + i) 0) ≡ none → NoValue ≡ bits (value-of (take 16 (drop at line)))
-    reading-stop l e =
-        sym (ap bits (g .same ∙ ap (reading n) (next-digit line at i (g .room) l) ∙ reading-none n (getD line (at + i) 0) (drop (i + 1) (take 16 (drop at line))) e))
-
-    pub reading-end : 16 ≤ i → Bits n ≡ bits (value-of (take 16 (drop at line)))
-    unfolding reading
-    reading-end l =
-        let xs = take 16 (drop at line) in
-        let z : i ≡ length xs = omega (arith, g .below, sixteen line at (g .room)) in
-        sym (ap bits (g .same ∙ ap (λ (j : ℕ). reading n (drop j xs)) z ∙ ap (reading n) (drop-length xs)))
 
 -- ---- writing
 

@@ -1,7 +1,5 @@
 pub mod Splits
 pub mod Digits
-pub mod Pieces
-pub mod Filling
 pub mod Letters
 pub mod Entries
 pub mod Marks

@@ -1,23 +1,21 @@
 -- Pieces between separators.
 use mathlib.Core.Path.{_≡_, refl, sym, ap, _∙_}
-use mathlib.Core.Bool.{Bool, true, false, cond, not, _&&_}
+use mathlib.Core.Bool.{Bool, true, false, cond, not}
 use mathlib.Core.List.{List, [], _∷_, _++_}
 use mathlib.Core.Option.{Option, none, some}
-use Prim.Native.Nat.{ℕ, zero, suc, _+_, _-_, _≤_, _<_}
+use Prim.Native.Nat.{ℕ, zero, suc, _<_}
 use native.Mathlib.Omega.{arith}
-use lib.ListN.{length, getD, take}
+use lib.ListN.{length, getD}
 use lib.Dec.{eqb}
 use borrow.Author.Tests.{eqb-false, ne-eqb, eq-eqb}
-use Rattle.formula.specs.Text.{all, glue, parted, split, joined}
+use Rattle.formula.specs.Text.{glue, parted, split, joined}
+pub use Rattle.names.specs.Lines.{free}
+unfoldable pub use Rattle.names.specs.Lines.{prefixed}
 pub use Rattle.formula.proofs.Tests.{no-true, and-first, and-second, and-both}
 
 not-true : (a : Bool) → not a ≡ true → a ≡ false
 not-true true e = sym e
 not-true false e = refl
-
--- no byte is c
-abbrev pub free : ℕ → List ℕ → Bool
-free c xs = all (λ x. not (eqb x c)) xs
 
 pub split-end : (c : ℕ) (xs : List ℕ) → free c xs ≡ true → split c xs ≡ xs ∷ []
 split-end c [] h = refl
@@ -55,26 +53,6 @@ pub pieces : (c : ℕ) (xs : List ℕ) → split c xs ≡ first-piece c xs ∷ l
 pieces c [] = refl
 pieces c (x ∷ xs) = pieces-by (eqb x c) c x xs (pieces c xs)
 
--- the first piece is the front of the list
-first-front-by : (b : Bool) (x : ℕ) (p xs : List ℕ) → p ≡ take (length p) xs → first-of b x p ≡ take (length (first-of b x p)) (x ∷ xs)
-first-front-by true x p xs e = refl
-first-front-by false x p xs e = ap (λ (q : List ℕ). x ∷ q) e
-
-pub first-front : (c : ℕ) (xs : List ℕ) → first-piece c xs ≡ take (length (first-piece c xs)) xs
-first-front c [] = refl
-first-front c (x ∷ xs) = first-front-by (eqb x c) x (first-piece c xs) xs (first-front c xs)
-
-first-long-by : (b : Bool) (x k : ℕ) (p : List ℕ) → b ≡ false → k ≤ length p → suc k ≤ length (first-of b x p)
-first-long-by true x k p e l = absurd (no-true (sym e))
-first-long-by false x k p e l = omega arith
-
--- it has all bytes before the first c
-pub first-long : (c k : ℕ) (xs : List ℕ) → k ≤ length xs → ((i : ℕ) → i < k → getD xs i 0 ≡ c → ⊥) → k ≤ length (first-piece c xs)
-first-long c zero xs l h = omega arith
-first-long c (suc k) [] l h = absurd (omega arith)
-first-long c (suc k) (x ∷ xs) l h =
-    first-long-by (eqb x c) x k (first-piece c xs) (ne-eqb x c (h 0 (omega arith))) (first-long c k xs (omega arith) (λ i j. h (suc i) (omega arith)))
-
 pub free-at : (c : ℕ) (xs : List ℕ) → free c xs ≡ true → (i : ℕ) → i < length xs → getD xs i 0 ≡ c → ⊥
 free-at c [] h i l e = absurd (omega arith)
 free-at c (x ∷ xs) h zero l e = eqb-false x c (not-true (eqb x c) (and-first (not (eqb x c)) (free c xs) h)) e
@@ -86,10 +64,6 @@ free-from c (x ∷ xs) h =
     and-both (not (eqb x c)) (free c xs) (ap not (ne-eqb x c (h 0 (omega arith)))) (free-from c xs (λ i l. h (suc i) (omega arith)))
 
 -- ---- every one of them, or none
-
-pub prefixed : {A : Type 0} → List A → Option (List A) → Option (List A)
-prefixed [] r = r
-prefixed (a ∷ as′) r = joined (some a) (prefixed as′ r)
 
 pub prefixed-start : {A : Type 0} (r : Option (List A)) → r ≡ prefixed [] r
 unfolding prefixed

@@ -1,4 +1,4 @@
--- What an answer tells of the line.
+-- What the table tells of the name line.
 use mathlib.Core.Path.{_≡_, refl, sym, ap, _∙_}
 use mathlib.Core.Bool.{Bool, true, false, cond, not, _&&_}
 use mathlib.Core.List.{List, [], _∷_, map}
@@ -7,14 +7,11 @@ use Prim.Native.Nat.{ℕ, zero, suc, _-_, _≤_, _<_}
 use native.Mathlib.Omega.{arith}
 use lib.ListN.{length, getD, List·getD-append}
 use lib.Dec.{eqb, leb}
-use borrow.Author.Tests.{eqb-true, eqb-false, leb-true}
+use borrow.Author.Tests.{leb-true}
 use Rattle.formula.specs.Text.{zeros, split, all-some}
 use Rattle.formula.specs.Names.{Symbol, SymbolKind, Parameter, State, Time, Input, symbol-of, table, none-twice, symbols-of, kinds, varies, is-state}
-use Rattle.names.specs.Lines.{kind-number, names-of, answer, refusal, filled}
-use Rattle.names.specs.declared.Answer.the-variants.{Values, WrongCount}
+use Rattle.names.specs.Lines.{kind-number, names-of}
 use Rattle.names.proofs.Splits.{no-true, and-first}
-
--- ---- a name line
 
 pub names-ok : (o : Option (List Symbol)) → names-of o .ok ≡ true → (ss : List Symbol) × (o ≡ some ss)
 names-ok none e = absurd (no-true e)
@@ -72,38 +69,3 @@ number-state Parameter = refl
 number-state State = refl
 number-state Time = refl
 number-state Input = refl
-
--- ---- a line of values
-
-pub record Told (n : ℕ) (o : Option (List ℕ)) : Type 0 where
-  pub values : List ℕ
-  pub all : o ≡ some values
-  pub count : length values ≡ n
-  pub slice : filled n o ≡ values
-
-told-by : (t : Bool) (n : ℕ) (vs : List ℕ) → eqb (length vs) n ≡ t → cond t Values WrongCount ≡ Values → Told n (some vs)
-told-by true n vs q e =
-    record { values = vs; all = refl; count = eqb-true (length vs) n q; slice = ap (λ (t : Bool). cond t vs (zeros n)) q }
-told-by false n vs q e = let z : _≡_ {A = ℕ} 0 1 = cc in absurd (omega arith)
-
-pub values-told : (n : ℕ) (o : Option (List ℕ)) → answer n o ≡ Values → Told n o
-values-told n none e = let z : _≡_ {A = ℕ} 0 1 = cc in absurd (omega arith)
-values-told n (some vs) e = told-by (eqb (length vs) n) n vs refl e
-
--- each number means that its fault is there
-
-five-by : (t : Bool) (n : ℕ) (vs : List ℕ) → eqb (length vs) n ≡ t → refusal (cond t Values WrongCount) ≡ some 5 → length vs ≡ n → ⊥
-five-by true n vs q e = let z : _≡_ {A = ℕ} 0 1 = cc in absurd (omega arith)
-five-by false n vs q e = eqb-false (length vs) n q
-
-pub refusal-five : (n : ℕ) (o : Option (List ℕ)) → refusal (answer n o) ≡ some 5 → (vs : List ℕ) × (o ≡ some vs) × (length vs ≡ n → ⊥)
-refusal-five n none e = let z : _≡_ {A = ℕ} 3 5 = cc in absurd (omega arith)
-refusal-five n (some vs) e = (vs, refl, five-by (eqb (length vs) n) n vs refl e)
-
-three-by : (t : Bool) → refusal (cond t Values WrongCount) ≡ some 3 → ⊥
-three-by true e = let z : _≡_ {A = ℕ} 0 1 = cc in omega arith
-three-by false e = let z : _≡_ {A = ℕ} 5 3 = cc in omega arith
-
-pub refusal-three : (n : ℕ) (o : Option (List ℕ)) → refusal (answer n o) ≡ some 3 → o ≡ none
-refusal-three n none e = refl
-refusal-three n (some vs) e = absurd (three-by (eqb (length vs) n) e)

@@ -1,61 +1,39 @@
--- What the readers of the name line and of lines of values answer, in the words of their definitions.
+-- What the readers of the name line and of digits answer, in the words of their definitions.
 use mathlib.Core.Path.{_≡_}
-use mathlib.Core.Bool.{Bool, true, false, cond, _||_}
+use mathlib.Core.Bool.{Bool, true, false, not, _||_}
 use mathlib.Core.List.{List, [], _∷_, _++_, map}
 use mathlib.Core.Option.{Option, none, some}
 use Prim.Native.Nat.{ℕ, zero, suc, _+_, _-_, _*_, _%_, _≤_, _<_}
 use lib.ListN.{length, getD, take, drop}
 use lib.Dec.{eqb}
-use Rattle.formula.specs.Text.{same-bytes, split, joined, all-some, zeros}
+use Rattle.formula.specs.Text.{all, same-bytes, joined, zeros}
 use Rattle.formula.specs.Names.{SymbolKind, Parameter, State, Time, Input, Symbol, kinds}
-use Rattle.formula.specs.Values.{value-of}
 use Rattle.names.specs.declared.Names.{Names}
 use Rattle.names.specs.declared.Entry.{Entry}
 use Rattle.names.specs.declared.Entry.the-variants.{Named, NoEntry}
-use Rattle.names.specs.declared.Value.{Value}
-use Rattle.names.specs.declared.Value.the-variants.{Bits, NoValue}
-use Rattle.names.specs.declared.Piece.{Piece}
-use Rattle.names.specs.declared.Piece.the-variants.{Last, More}
-use Rattle.names.specs.declared.Piece.the-variants as Piece-variants
-use Rattle.names.specs.declared.Answer.{Answer}
-use Rattle.names.specs.declared.Answer.the-variants.{Values, Malformed, WrongCount}
 
--- ---- lines of values
+-- ---- digits
 
 -- a place in the table of sixteen digits; 16 is none
 abbrev pub place : Option ℕ → ℕ
 place none = 16
 place (some d) = d
 
-abbrev pub bits : Option ℕ → Value
-bits none = NoValue
-bits (some n) = Bits n
+-- 16 ^ i, above every number of i digits
+unfoldable pub cap : ℕ → ℕ
+cap zero = 1
+cap (suc i) = 16 * cap i
 
--- the values from a byte on
-unfoldable pub values-from : List ℕ → ℕ → Option (List ℕ)
-values-from line at = all-some (map value-of (split 44 (drop at line)))
+-- ---- parts of a line
 
--- what a value of a line says of those from its first byte on
-abbrev pub Piece-read : List ℕ → ℕ → Piece → Type 0
-Piece-read line at (Last v) = values-from line at ≡ some (v ∷ [])
-Piece-read line at (More v) = (values-from line at ≡ joined (some v) (values-from line (at + 17))) × (at + 17 ≤ length line)
-Piece-read line at Piece-variants.Malformed = values-from line at ≡ none
+-- no byte is c
+abbrev pub free : ℕ → List ℕ → Bool
+free c xs = all (λ x. not (eqb x c)) xs
 
--- "A value line that isn't hex digits and commas as said shows `bad` with 3; otherwise a wrong count of values .. shows 5."
-abbrev pub answer : ℕ → Option (List ℕ) → Answer
-answer n none = Malformed
-answer n (some vs) = cond (eqb (length vs) n) Values WrongCount
-
--- the refusal that an answer is
-abbrev pub refusal : Answer → Option ℕ
-refusal Values = none
-refusal Malformed = some 3
-refusal WrongCount = some 5
-
--- what the slice of n places holds then
-abbrev pub filled : ℕ → Option (List ℕ) → List ℕ
-filled n none = zeros n
-filled n (some vs) = cond (eqb (length vs) n) vs (zeros n)
+-- some that are read, before what comes of the rest of the line
+unfoldable pub prefixed : {A : Type 0} → List A → Option (List A) → Option (List A)
+prefixed [] r = r
+prefixed (a ∷ as′) r = joined (some a) (prefixed as′ r)
 
 -- ---- the name line
 

@@ -1,14 +1,13 @@
 ghost use mathlib.Core.Path.{_≡_};
 ghost use mathlib.Core.Bool.{false, _||_};
-ghost use mathlib.Core.List.{_++_};
-ghost use Prim.Native.Nat.{_+_, _≤_, _<_};
-ghost use lib.ListN.{length, take, drop, set};
+ghost use Prim.Native.Nat.{_+_, _≤_};
+ghost use lib.ListN.{length, take, drop};
 ghost use Rattle.formula.specs.Text.{same-bytes, split, zeros};
 ghost use Rattle.formula.specs.Names.{is-letter, is-digit, is-name, kind-of, symbol-of, symbols-of};
-ghost use Rattle.formula.specs.Values.{digit-of, value-of, values-of, hex as hex-text};
-ghost use Rattle.names.specs.Lines.{place, bits, Piece-read, answer, filled, kind-place, part, Ends, entry, repeats, Listed, Marked, mark, names-of};
+ghost use Rattle.formula.specs.Values.{digit-of, hex as hex-text};
+ghost use Rattle.names.specs.Lines.{place, kind-place, part, Ends, entry, repeats, Listed, Marked, mark, names-of};
 
-// ---- Lines of values: "each value is 16 lower-case hexadecimal digits, the bits of an f64, joined by commas."
+// ---- Digits of values: "each value is 16 lower-case hexadecimal digits, the bits of an f64, joined by commas."
 
 // "Hex digits come from a table of sixteen bytes."
 const DIGITS: [u8; 16] = *b"0123456789abcdef";
@@ -23,120 +22,6 @@ pub fn digit(b: u8) -> u64
         return i as u64;
     }
     16
-}
-
-enum Value {
-    Bits(u64),
-    NoValue,
-}
-
-// The value whose 16 digits start at a byte.
-fn value_at(line: &[u8], at: usize) -> Value
-    requires { ⌜ at ≤ length (now line) ⌝ }
-    ensures { λ r. ⌜ r ≡ bits (value-of (take 16 (drop at (now (line .entry))))) ⌝ }
-{
-    if line.len() - at < 16 {
-        return Value::NoValue;
-    }
-    let mut n: u64 = 0;
-    let mut i = 0;
-    while i < 16 {
-        let d = digit(line[at + i]);
-        if d == 16 {
-            return Value::NoValue;
-        }
-        n = 16 * n + d;
-        i += 1;
-    }
-    Value::Bits(n)
-}
-
-// A value of a line: the last one, one that a comma follows, or none.
-enum Piece {
-    Last(u64),
-    More(u64),
-    Malformed,
-}
-
-fn piece_at(line: &[u8], at: usize) -> Piece
-    requires { ⌜ at ≤ length (now line) ⌝ }
-    ensures { λ r. ⌜ Piece-read (now (line .entry)) at r ⌝ }
-{
-    let v = value_at(line, at);
-    let Value::Bits(n) = v else {
-        return Piece::Malformed;
-    };
-    if line.len() - at == 16 {
-        return Piece::Last(n);
-    }
-    if line[at + 16] == b',' {
-        return Piece::More(n);
-    }
-    Piece::Malformed
-}
-
-// Stores a value, if there is a place for it.
-fn store(out: &mut [u64], i: usize, v: u64)
-    ensures { λ _. ⌜ now (out .exit) ≡ set (now (out .entry)) i v ⌝ }
-{
-    if i < out.len() {
-        out[i] = v;
-    }
-}
-
-fn clear(out: &mut [u64])
-    ensures { λ _. ⌜ now (out .exit) ≡ zeros (length (now (out .entry))) ⌝ }
-{
-    let mut i = 0;
-    while i < out.len() {
-        out[i] = 0;
-        i += 1;
-    }
-}
-
-// What a line of values is found to be. Its form is judged to the end before its count.
-pub enum Answer {
-    Values,
-    Malformed,
-    WrongCount,
-}
-
-// Reads a line of as many values as the slice has places. The slice then holds them, or zeros where the answer is another.
-pub fn read_values(line: &[u8], out: &mut [u64]) -> Answer
-    ensures { λ r. ⌜ r ≡ answer (length (now (out .entry))) (values-of (now (line .entry))) ⌝ }
-    ensures { λ _. ⌜ now (out .exit) ≡ filled (length (now (out .entry))) (values-of (now (line .entry))) ⌝ }
-{
-    if line.len() == 0 {
-        if out.len() == 0 {
-            return Answer::Values;
-        }
-        clear(out);
-        return Answer::WrongCount;
-    }
-    let mut at = 0;
-    let mut n = 0;
-    loop {
-        let p = piece_at(line, at);
-        match p {
-            Piece::More(v) => {
-                store(out, n, v);
-                n += 1;
-                at += 17;
-            }
-            Piece::Last(v) => {
-                store(out, n, v);
-                if n + 1 == out.len() {
-                    return Answer::Values;
-                }
-                clear(out);
-                return Answer::WrongCount;
-            }
-            Piece::Malformed => {
-                clear(out);
-                return Answer::Malformed;
-            }
-        }
-    }
 }
 
 // The 16 digits of a value.

@@ -13,7 +13,7 @@ use Rattle.formula.specs.Text.{half-at}
 use Rattle.formula.specs.Node.{Fields, fields-at, head-of, head-at, children-at, rooted, tree-in, tree-at, formula-of}
 use Rattle.reader.specs.Read.{is-some}
 use Rattle.reader.proofs.Heads.{no-true, and-first, and-second}
-use Rattle.reader.proofs.Trees.{head-past, headed, tree-by-node, node-at, children-next, children-none, count-le, children-end, fewer-levels}
+use Rattle.reader.proofs.Trees.{head-past, headed, tree-by-node, children-next, children-none, count-le, fewer-levels}
 
 -- ---- trees one after another
 
@@ -177,48 +177,6 @@ formula-in b f d e l =
       sym (ap well-formed q) ∙ w .0,
       sym (ap (λ (t : Formula). 16 * size t) q) ∙ w .1,
     )
-
--- ---- going over one tree
-
--- what is left of the tree that starts at `start`, where so many trees are owed from a byte on
-pub record Going (b : List ℕ) (start owed at : ℕ) : Type 0 where
-  pub all : all-well-formed (trees b owed at) ≡ true
-  pub inside : at ≤ length b
-  pub end : at + 16 * sizes (trees b owed at) ≡ start + 16 * size (tree-at b start)
-
-pub going-start : (b : List ℕ) (start : ℕ) → well-formed (tree-at b start) ≡ true → Going b start 1 start
-unfolding trees
-going-start b start w =
-    let n = node-at b start w in
-    record { all = and-true (well-formed (tree-at b start)) ∙ w; inside = omega (arith, n .headed .inside); end = omega arith }
-
--- where a tree is owed a node stands, with room for all that is owed
-pub record Standing (b : List ℕ) (owed at : ℕ) : Type 0 where
-  pub node : is-some (head-at b at) ≡ true
-  pub inside : at + 16 ≤ length b
-  pub room : at + 16 * owed ≤ length b
-
-pub standing : (b : List ℕ) (start owed at : ℕ) → Going b start owed at → (owed ≡ 0 → ⊥) → Standing b owed at
-unfolding trees
-standing b start owed at g z =
-    let e = ap all-well-formed (children-next (λ a. tree-at b a) owed at z) in
-    let w = and-first (well-formed (tree-at b at)) _ (sym e ∙ g .all) in
-    let n = node-at b at w in
-    record {
-      node = ap (λ (o : Option Head). is-some o) (n .at-head);
-      inside = n .headed .inside;
-      room = omega (arith, children-end b owed at (g .inside) (g .all), count-le (λ a. tree-at b a) owed at);
-    }
-
-pub going-on : (b : List ℕ) (start owed at n : ℕ) → Going b start owed at → (owed ≡ 0 → ⊥) → n ≡ half-at b (at + 2) → Going b start (owed - 1 + n) (at + 16)
-going-on b start owed at n g z m =
-    let s = standing b start owed at g z in
-    let p = passed b owed at n z (s .node) m in
-    record { all = sym (p .all) ∙ g .all; inside = s .inside; end = sym (p .end) ∙ g .end }
-
-pub going-end : (b : List ℕ) (start owed at : ℕ) → Going b start owed at → owed ≡ 0 → at ≡ start + 16 * size (tree-at b start)
-unfolding trees
-going-end b start owed at g z = omega (arith, g .end, ap sizes (children-none (λ a. tree-at b a) owed at z))
 
 -- ---- the node at a byte
 

@@ -1,10 +1,10 @@
 ghost use mathlib.Core.Path.{_≡_};
 ghost use mathlib.Core.Bool.{true, _&&_};
-ghost use Prim.Native.Nat.{_+_, _*_, _^_, _<_, _≤_};
+ghost use Prim.Native.Nat.{_+_, _*_, _^_, _<_};
 ghost use lib.ListN.{length};
 ghost use lib.Dec.{ltb, eqb};
 ghost use Rattle.formula.specs.Text.{byte-at, half-at, word-at, long-at};
-ghost use Rattle.formula.specs.Formula.{size, well-formed};
+ghost use Rattle.formula.specs.Formula.{well-formed};
 ghost use Rattle.formula.specs.Node.{fields-at, head-of, head-at, tree-at, formula-of};
 ghost use Rattle.reader.specs.Read.{is-some, written, extent-at, limited};
 
@@ -165,20 +165,6 @@ pub fn is_formula(b: &[u8]) -> bool
         }
     }
     at == b.len()
-}
-
-// The byte after the tree at a byte.
-pub fn skip(b: &[u8], at: usize) -> usize
-    requires { ⌜ well-formed (tree-at (now b) at) ≡ true ⌝ }
-    ensures { λ r. ⌜ r ≡ at + 16 * size (tree-at (now (b .entry)) at) ⌝ }
-{
-    let mut end = at;
-    let mut owed = 1;
-    while owed > 0 {
-        owed = owed - 1 + half(b, end + 2);
-        end += 16;
-    }
-    end
 }
 
 // Where a tree ends, or that it is deeper than it may be.

@@ -2,8 +2,9 @@
 //   f111 HEX          formula bytes: whether they are a formula, and whether it is within a formula's and a derivative's limits
 //   g111 A B HEX      the same, where the first of the nodes stands A times and the last B times
 //   n1KINDS LINE      a name line and the kinds of its names, or `n0 LINE`
-//   vNX LINE          a line for N values: X is V (values), M (malformed) or C (wrong count)
-//   sNUMBER TEXT      a step of a path and its text
+//   h1 TEXT           16 hexadecimal digits, or `h0 TEXT` where a byte is none
+//   sNUMBER TEXT      a step of a path and its text, of which the length is compared
+//   dNUMBER           a number in decimal
 ghost use mathlib.Core.Path.{_≡_};
 ghost use Prim.Native.Nat.{_≤_, _<_};
 ghost use lib.ListN.{length};
@@ -222,41 +223,19 @@ fn same_hex(line: &[u8], at: usize, value: u64) -> bool {
     true
 }
 
-// Whether the values are those whose digits stand in the line, or zeros.
-fn same_values(line: &[u8], values: &[u64], read: bool) -> bool {
-    let mut i = 0;
-    let mut at = 0;
-    while i < values.len() {
-        if read {
-            if !same_hex(line, at, values[i]) {
-                return false;
-            }
-        } else {
-            if values[i] != 0 {
-                return false;
-            }
+fn hex_case(line: &[u8]) -> bool {
+    let at = after_space(line, 0);
+    let mut value: u64 = 0;
+    let mut i = at;
+    while i < line.len() {
+        let d = names::digit(line[i]);
+        if d == 16 {
+            return reader::byte(line, 1) == b'0';
         }
-        at = num::wrapping_add_usize(at, 17);
+        value = value % 0x1000_0000_0000_0000 * 16 + d;
         i += 1;
     }
-    true
-}
-
-fn read_case(letter: u8, text: &[u8], values: &mut [u64]) -> bool {
-    let a = names::read_values(text, values);
-    match a {
-        names::Answer::Values => letter == b'V' && same_values(text, values, true),
-        names::Answer::Malformed => letter == b'M' && same_values(text, values, false),
-        names::Answer::WrongCount => letter == b'C' && same_values(text, values, false),
-    }
-}
-
-fn values_case(line: &[u8]) -> bool {
-    let at = after_space(line, 0);
-    let n = number(line, 1) as usize % 16;
-    let letter = reader::byte(line, num::wrapping_sub_usize(at, 2));
-    let mut values = [7u64; 16];
-    read_case(letter, &line[at..], &mut values[..n])
+    reader::byte(line, 1) == b'1' && same_hex(line, at, value)
 }
 
 // Whether the bytes stand in the line from a place to its end.
@@ -273,10 +252,14 @@ fn ends_with(line: &[u8], at: usize, bytes: &[u8]) -> bool {
 
 fn step_case(line: &[u8]) -> bool {
     let at = after_space(line, 0);
-    let step = (number(line, 1) % 4294967296) as u32;
-    let mut out = [0u8; 22];
-    let end = steps::put_step(&mut out, 0, step);
-    ends_with(line, at, &out[..end]) && end == steps::step_length(step)
+    let step = (number(line, 1) % 4294967296) as usize;
+    line.len() - at == paths::step_length(step)
+}
+
+fn decimal_case(line: &[u8]) -> bool {
+    let mut out = [0u8; 10];
+    let end = steps::put_decimal(&mut out, 0, number(line, 1));
+    ends_with(line, 1, &out[..end])
 }
 
 fn case_of(line: &[u8], work: &mut [u8]) -> bool {
@@ -284,8 +267,9 @@ fn case_of(line: &[u8], work: &mut [u8]) -> bool {
         b'f' => formula_case(line, work),
         b'g' => repeated_case(line, work),
         b'n' => names_case(line),
-        b'v' => values_case(line),
+        b'h' => hex_case(line),
         b's' => step_case(line),
+        b'd' => decimal_case(line),
         _ => false,
     }
 }

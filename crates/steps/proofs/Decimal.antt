@@ -1,19 +1,17 @@
--- Decimal numbers, and the text of a step.
-use mathlib.Core.Path.{_≡_, refl, sym, ap, _∙_, subst}
+-- Decimal numbers.
+use mathlib.Core.Path.{_≡_, refl, sym, ap, _∙_}
 use mathlib.Core.Bool.{Bool, true, false}
-use mathlib.Core.List.{List, [], _∷_, _++_}
-use Prim.Native.Nat.{ℕ, zero, suc, _+_, _-_, _*_, _/_, _%_, _≤_, _<_}
+use mathlib.Core.List.{List, [], _∷_}
+use Prim.Native.Nat.{ℕ, zero, suc, _+_, _*_, _/_, _%_, _≤_, _<_}
 use native.Mathlib.Omega.{arith}
-use lib.ListN.{length, set, length-append}
+use lib.ListN.{length, set}
 use lib.Dec.{ltb}
-use borrow.Author.Tests.{ltb-true, ltb-false, ne-eqb}
-use Rattle.formula.specs.Text.{ascii, decimal}
-use Rattle.formula.specs.Path.{Step, step-text, argument}
-use Rattle.layout.specs.Opcode.{step-of}
+use borrow.Author.Tests.{ltb-true, ltb-false}
+use Rattle.formula.specs.Text.{decimal}
 use Rattle.paths.specs.Over.{over}
 use Rattle.paths.proofs.Over.{over-over, over-one, over-length}
-use Rattle.paths.proofs.Decimal.{argument-length}
-pub use Rattle.paths.proofs.Decimal.{decimal-small, decimal-large as decimal-more, length-small, length-large as length-more, step-length-le}
+use Rattle.paths.proofs.Decimal.{decimal-small, decimal-large as decimal-more}
+pub use Rattle.paths.proofs.Decimal.{length-small, length-large as length-more}
 
 -- ---- digits
 
@@ -55,50 +53,4 @@ put-more out mid at end n h l e q =
           ∙ ap (λ (x : ℕ). over (over out at ds) x (d ∷ [])) e
           ∙ over-over out at ds (d ∷ []) (omega arith)
           ∙ ap (over out at) (sym (decimal-more n h)),
-    )
-
--- ---- steps
-
-pub argument-step : (n : ℕ) → (n ≡ 0 → ⊥) → (n ≡ 1 → ⊥) → (n ≡ 2 → ⊥) → step-of n ≡ argument (n - 3)
-argument-step n a b c = rw (ne-eqb n 0 a, ne-eqb n 1 b, ne-eqb n 2 c)
-
-pub step-argument-length : (n : ℕ) → (n ≡ 0 → ⊥) → (n ≡ 1 → ⊥) → (n ≡ 2 → ⊥) → length (step-text (step-of n)) ≡ length (decimal (n - 3)) + 12
-step-argument-length n a b c = omega (arith, argument-length n (omega (arith, a, b, c)))
-
--- the step of any number of 32 bits has at most 22 bytes
-pub step-length-any : (n : ℕ) → n < 4294967296 → length (step-text (step-of n)) ≤ 22
-step-length-any zero h = omega arith
-step-length-any (suc zero) h = omega arith
-step-length-any (suc (suc zero)) h = omega arith
-step-length-any (suc (suc (suc i))) h =
-    omega (arith, argument-length (suc (suc (suc i))) (omega arith), decimal-length-le 10 (suc (suc (suc i)) - 3) (omega arith) (omega arith))
-
--- a step of fixed text
-module _ (out : List ℕ) (at n k : ℕ) (e : n ≡ k) where
-  pub fixed-room : at + length (step-text (step-of n)) ≤ length out → at + length (step-text (step-of k)) ≤ length out
-  fixed-room h = subst (λ (j : ℕ). at + length (step-text (step-of j)) ≤ length out) e h
-
-  pub put-fixed : (o : List ℕ) (r : ℕ) → r ≡ at + length (step-text (step-of k)) → o ≡ over out at (step-text (step-of k))
-      → (r ≡ at + length (step-text (step-of n))) × (o ≡ over out at (step-text (step-of n)))
-  put-fixed o r h q = subst (λ (j : ℕ). (r ≡ at + length (step-text (step-of j))) × (o ≡ over out at (step-text (step-of j)))) (sym e) (h, q)
-
--- three parts, one after another
-pub put-argument : (out o1 o2 o3 : List ℕ) (at p q n : ℕ) → (n ≡ 0 → ⊥) → (n ≡ 1 → ⊥) → (n ≡ 2 → ⊥) → at + length (step-text (step-of n)) ≤ length out
-    → o1 ≡ over out at (ascii ".arguments[") → p ≡ at + 11 → o2 ≡ over o1 p (decimal (n - 3)) → q ≡ p + length (decimal (n - 3)) → o3 ≡ over o2 q (ascii "]")
-    → (q + 1 ≡ at + length (step-text (step-of n))) × (o3 ≡ over out at (step-text (step-of n)))
-put-argument out o1 o2 o3 at p q n a b c h e1 ep e2 eq e3 =
-    let x = ascii ".arguments[" in
-    let d = decimal (n - 3) in
-    let y = ascii "]" in
-    let l = step-argument-length n a b c in
-    let m = length-append x d in
-    let f2 : o2 ≡ over out at (x ++ d) =
-    e2 ∙ ap (λ (o : List ℕ). over o p d) e1 ∙ ap (λ (j : ℕ). over (over out at x) j d) ep ∙ over-over out at x d (omega arith) in
-    let z : q ≡ at + length (x ++ d) = omega arith in (
-      omega arith,
-      e3
-          ∙ ap (λ (o : List ℕ). over o q y) f2
-          ∙ ap (λ (j : ℕ). over (over out at (x ++ d)) j y) z
-          ∙ over-over out at (x ++ d) y (omega arith)
-          ∙ ap (over out at) (sym (ap step-text (argument-step n a b c))),
     )

@@ -1,3 +1,2 @@
--- Steps of a path as numbers are `layout`'s, and bytes written over a part of a slice are `paths`'.
-pub use Rattle.layout.specs.Opcode.{step-of}
+-- Bytes written over a part of a slice are `paths`'.
 unfoldable pub use Rattle.paths.specs.Over.{over}

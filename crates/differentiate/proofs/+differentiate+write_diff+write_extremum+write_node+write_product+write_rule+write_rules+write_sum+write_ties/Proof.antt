@@ -19,7 +19,8 @@ use Rattle.survey.proofs.Steps.{tested}
 use Rattle.differentiate.specs.Written.{part, parts-bytes, node-of, extremum-bytes, tie-bytes}
 use Rattle.differentiate.proofs.Lists.{as-text, room-as, writes-none, same, free-start, free-room, then-writes}
 use Rattle.differentiate.proofs.Leaves.{literal-room, node-length}
-use Rattle.differentiate.proofs.Texts.{text-none, text-long, text-zero, text-child, text-diff, text-whole, text-extremum, text-literal, text-unless-yes, text-unless-no, text-sum, text-product, text-node, none-left, next-part, zero-test, one-test, sum-left, sum-right, sum-kept, product-left, product-right, one-left, one-right, product-kept, last-tie, next-tie, no-ties, all-ties, ready-of, has-not, without-rule, by-rule, known-child, diff-text, no-diff, task-as}
+use Rattle.differentiate.proofs.Texts.{text-none, text-long, text-zero, text-child, text-diff, text-whole, text-extremum, text-literal, text-unless-yes, text-unless-no, text-sum, text-product, text-node}
+use Rattle.differentiate.proofs.Texts.{none-left, next-part, zero-test, one-test, sum-left, sum-right, sum-kept, product-left, product-right, one-left, one-right, product-kept, last-tie, next-tie, no-ties, all-ties, ready-of, has-not, without-rule, by-rule, known-child, diff-text, no-diff, task-as}
 use Prim.Native.Nat.{ℕ, _<_}
 use borrow.Fn.Kinds.{In}
 use borrow.Fn.PlainCycle.{Measures, is, falls, and}
@@ -188,7 +189,8 @@ abbrev write-ties-below : ℕ → In 3 write-ties-kinds.ps
 write-ties-below t =
     and 3 write-ties-kinds.ps (falls 3 write-ties-kinds.ps _<_ μ-write-ties t) write-ties.Pre
 
-differentiate-mul-if1 : (t : ℕ) → differentiate-lts.Need-mul-if1 (
+abbrev differentiate-calls : ℕ → differentiate-lts.Claims
+differentiate-calls t = (
   rule-of-reads.Asked,
   rule-of-reads.Learnt,
   code-reads.Asked,
@@ -197,508 +199,504 @@ differentiate-mul-if1 : (t : ℕ) → differentiate-lts.Need-mul-if1 (
   put-literal-reads.Learnt,
   write-rule-below t,
   write-rule.Post,
-) (differentiate-at t) differentiate.Post
-differentiate-mul-if1 t c = omega (arith, row-inside (c .before .before .before .args .f .now) (c .before .before .before .args .table .now) (c .before .before .before .args .k) (c .before .before .before .pre .1 .known .owned))
+)
 
-differentiate-add-if1 : (t : ℕ) → differentiate-lts.Need-add-if1 (
-  rule-of-reads.Asked,
-  rule-of-reads.Learnt,
-  code-reads.Asked,
-  code-reads.Learnt,
+abbrev write-diff-calls : ℕ → write-diff-lts.Claims
+write-diff-calls t = (
+  half-reads.Asked,
+  half-reads.Learnt,
+  child-reads.Asked,
+  child-reads.Learnt,
+  differentiate-below t,
+  differentiate.Post,
   put-literal-reads.Asked,
   put-literal-reads.Learnt,
-  write-rule-below t,
-  write-rule.Post,
-) (differentiate-at t) differentiate.Post
-differentiate-add-if1 t c = omega (arith, row-inside (c .before .before .before .args .f .now) (c .before .before .before .args .table .now) (c .before .before .before .args .k) (c .before .before .before .pre .1 .known .owned))
+)
 
-differentiate-mul-if1-2 : (t : ℕ) → differentiate-lts.Need-mul-if1-2 (
-  rule-of-reads.Asked,
-  rule-of-reads.Learnt,
-  code-reads.Asked,
-  code-reads.Learnt,
+abbrev write-extremum-calls : ℕ → write-extremum-lts.Claims
+write-extremum-calls t = (
+  half-reads.Asked,
+  half-reads.Learnt,
   put-literal-reads.Asked,
   put-literal-reads.Learnt,
-  write-rule-below t,
-  write-rule.Post,
-) (differentiate-at t) differentiate.Post
-differentiate-mul-if1-2 t c = omega (arith, row-inside (c .before .before .before .args .f .now) (c .before .before .before .args .table .now) (c .before .before .before .args .k) (c .before .before .before .pre .1 .known .owned))
+  write-ties-below t,
+  write-ties.Post,
+)
 
-differentiate-shared-slice-read-if1 : (t : ℕ) → differentiate-lts.Need-shared-slice-read-if1 (
-  rule-of-reads.Asked,
-  rule-of-reads.Learnt,
-  code-reads.Asked,
-  code-reads.Learnt,
-  put-literal-reads.Asked,
-  put-literal-reads.Learnt,
-  write-rule-below t,
-  write-rule.Post,
-) (differentiate-at t) differentiate.Post
-differentiate-shared-slice-read-if1 t c = omega (arith, row-inside (c .before .before .before .before .args .f .now) (c .before .before .before .before .args .table .now) (c .before .before .before .before .args .k) (c .before .before .before .before .pre .1 .known .owned))
+abbrev write-node-calls : ℕ → write-node-lts.Claims
+write-node-calls t = (
+  put-node-reads.Asked,
+  put-node-reads.Learnt,
+  write-rules-below t,
+  write-rules.Post,
+)
 
-differentiate-rule-of-requires : (t : ℕ) → differentiate-lts.Need-rule-of-requires (
-  rule-of-reads.Asked,
-  rule-of-reads.Learnt,
-  code-reads.Asked,
-  code-reads.Learnt,
+abbrev write-product-calls : ℕ → write-product-lts.Claims
+write-product-calls t = (
+  end-of-reads.Asked,
+  end-of-reads.Learnt,
+  rule-attributes-reads.Asked,
+  rule-attributes-reads.Learnt,
+  is-zero-reads.Asked,
+  is-zero-reads.Learnt,
   put-literal-reads.Asked,
   put-literal-reads.Learnt,
+  is-one-reads.Asked,
+  is-one-reads.Learnt,
   write-rule-below t,
   write-rule.Post,
-) (differentiate-at t) differentiate.Post
-differentiate-rule-of-requires t c κs = ready-of (c .before .before .before .before .before .args .by .symbol) (c .before .before .before .before .before .args .by .state) (c .before .before .before .before .before .args .f .now) (c .before .before .before .before .before .args .table .now) (c .before .before .before .before .before .args .k) (c .before .before .before .before .before .pre .1 .known)
+  write-node-below t,
+  write-node.Post,
+)
 
-differentiate-code-requires : (t : ℕ) → differentiate-lts.Need-code-requires (
-  rule-of-reads.Asked,
-  rule-of-reads.Learnt,
-  code-reads.Asked,
-  code-reads.Learnt,
+abbrev write-rule-calls : ℕ → write-rule-lts.Claims
+write-rule-calls t = (
   put-literal-reads.Asked,
   put-literal-reads.Learnt,
+  code-reads.Asked,
+  code-reads.Learnt,
+  wide-reads.Asked,
+  wide-reads.Learnt,
+  literal-bits-reads.Asked,
+  literal-bits-reads.Learnt,
+  put-child-reads.Asked,
+  put-child-reads.Learnt,
+  write-diff-below t,
+  write-diff.Post,
+  put-tree-reads.Asked,
+  put-tree-reads.Learnt,
+  diff-attributes-reads.Asked,
+  diff-attributes-reads.Learnt,
+  is-zero-reads.Asked,
+  is-zero-reads.Learnt,
   write-rule-below t,
   write-rule.Post,
-) (differentiate-at t) differentiate.Post
+  write-sum-below t,
+  write-sum.Post,
+  write-product-below t,
+  write-product.Post,
+  write-extremum-below t,
+  write-extremum.Post,
+  parts-of-reads.Asked,
+  parts-of-reads.Learnt,
+  write-node-below t,
+  write-node.Post,
+)
+
+abbrev write-rules-calls : ℕ → write-rules-lts.Claims
+write-rules-calls t = (
+  write-rule-below t,
+  write-rule.Post,
+  end-of-reads.Asked,
+  end-of-reads.Learnt,
+  write-rules-below t,
+  write-rules.Post,
+)
+
+abbrev write-sum-calls : ℕ → write-sum-lts.Claims
+write-sum-calls t = (
+  end-of-reads.Asked,
+  end-of-reads.Learnt,
+  rule-attributes-reads.Asked,
+  rule-attributes-reads.Learnt,
+  is-zero-reads.Asked,
+  is-zero-reads.Learnt,
+  write-rule-below t,
+  write-rule.Post,
+  write-node-below t,
+  write-node.Post,
+)
+
+abbrev write-ties-calls : ℕ → write-ties-lts.Claims
+write-ties-calls t = (
+  write-diff-below t,
+  write-diff.Post,
+  put-tie-reads.Asked,
+  put-tie-reads.Learnt,
+  write-ties-below t,
+  write-ties.Post,
+)
+
+differentiate-mul-if1 : (t : ℕ) → differentiate-lts.Need-mul-if1 (differentiate-calls t) (differentiate-at t) differentiate.Post
+differentiate-mul-if1 t c =
+    let args = c .before .before .before .args in
+    let pre = c .before .before .before .pre in
+    omega (arith, row-inside (args .f .now) (args .table .now) (args .k) (pre .1 .known .owned))
+
+differentiate-add-if1 : (t : ℕ) → differentiate-lts.Need-add-if1 (differentiate-calls t) (differentiate-at t) differentiate.Post
+differentiate-add-if1 t c =
+    let args = c .before .before .before .args in
+    let pre = c .before .before .before .pre in
+    omega (arith, row-inside (args .f .now) (args .table .now) (args .k) (pre .1 .known .owned))
+
+differentiate-mul-if1-2 : (t : ℕ) → differentiate-lts.Need-mul-if1-2 (differentiate-calls t) (differentiate-at t) differentiate.Post
+differentiate-mul-if1-2 t c =
+    let args = c .before .before .before .args in
+    let pre = c .before .before .before .pre in
+    omega (arith, row-inside (args .f .now) (args .table .now) (args .k) (pre .1 .known .owned))
+
+differentiate-shared-slice-read-if1 : (t : ℕ) → differentiate-lts.Need-shared-slice-read-if1 (differentiate-calls t) (differentiate-at t) differentiate.Post
+differentiate-shared-slice-read-if1 t c =
+    let args = c .before .before .before .before .args in
+    let pre = c .before .before .before .before .pre in
+    omega (arith, row-inside (args .f .now) (args .table .now) (args .k) (pre .1 .known .owned))
+
+differentiate-rule-of-requires : (t : ℕ) → differentiate-lts.Need-rule-of-requires (differentiate-calls t) (differentiate-at t) differentiate.Post
+differentiate-rule-of-requires t c κs =
+    let args = c .before .before .before .before .before .args in
+    let pre = c .before .before .before .before .before .pre in
+    ready-of (args .by .symbol) (args .by .state) (args .f .now) (args .table .now) (args .k) (pre .1 .known)
+
+differentiate-code-requires : (t : ℕ) → differentiate-lts.Need-code-requires (differentiate-calls t) (differentiate-at t) differentiate.Post
 differentiate-code-requires t c κs = search needs
 
-differentiate-put-literal-requires : (t : ℕ) → differentiate-lts.Need-put-literal-requires (
-  rule-of-reads.Asked,
-  rule-of-reads.Learnt,
-  code-reads.Asked,
-  code-reads.Learnt,
-  put-literal-reads.Asked,
-  put-literal-reads.Learnt,
-  write-rule-below t,
-  write-rule.Post,
-) (differentiate-at t) differentiate.Post
-differentiate-put-literal-requires t c κs = literal-room _ _ 0 (without-rule (c .before .before .before .before .before .before .before .before .before .args .by .symbol) (c .before .before .before .before .before .before .before .before .before .args .by .state) (c .before .before .before .before .before .before .before .before .before .args .f .now) (c .before .before .before .before .before .before .before .before .before .args .table .now) (c .before .before .before .before .before .before .before .before .before .args .k) (c .before .before .before .before .before .before .before .before .before .pre .1 .known) (c .before .before .before .before .if1 .taken) (c .before .before .before .rule-of .result) (c .before .before .before .rule-of .ensures) (sym (c .before .before .code .ensures) ∙ c .before .if2 .taken)) (c .before .before .before .before .before .before .before .before .before .pre .1 .room)
+differentiate-put-literal-requires : (t : ℕ) → differentiate-lts.Need-put-literal-requires (differentiate-calls t) (differentiate-at t) differentiate.Post
+differentiate-put-literal-requires t c κs =
+    let args = c .before .before .before .before .before .before .before .before .before .args in
+    let pre = c .before .before .before .before .before .before .before .before .before .pre in
+    let if1 = c .before .before .before .before .if1 in
+    let rule-of = c .before .before .before .rule-of in
+    let code = c .before .before .code in
+    literal-room _ _ 0
+    (without-rule (args .by .symbol) (args .by .state) (args .f .now) (args .table .now) (args .k) (pre .1 .known) (if1 .taken) (rule-of .result)
+    (rule-of .ensures) (sym (code .ensures) ∙ c .before .if2 .taken))
+    (pre .1 .room)
 
-differentiate-same-length : (t : ℕ) → differentiate-lts.Need-same-length (
-  rule-of-reads.Asked,
-  rule-of-reads.Learnt,
-  code-reads.Asked,
-  code-reads.Learnt,
-  put-literal-reads.Asked,
-  put-literal-reads.Learnt,
-  write-rule-below t,
-  write-rule.Post,
-) (differentiate-at t) differentiate.Post
+differentiate-same-length : (t : ℕ) → differentiate-lts.Need-same-length (differentiate-calls t) (differentiate-at t) differentiate.Post
 differentiate-same-length t c = c .before .before .put-literal .kept .1 .0
 
-differentiate-returns : (t : ℕ) → differentiate-lts.Need-returns (
-  rule-of-reads.Asked,
-  rule-of-reads.Learnt,
-  code-reads.Asked,
-  code-reads.Learnt,
-  put-literal-reads.Asked,
-  put-literal-reads.Learnt,
-  write-rule-below t,
-  write-rule.Post,
-) (differentiate-at t) differentiate.Post
-differentiate-returns t c = as-text _ _ _ _ _ (without-rule (c .before .before .before .before .before .before .before .before .before .before .before .before .args .by .symbol) (c .before .before .before .before .before .before .before .before .before .before .before .before .args .by .state) (c .before .before .before .before .before .before .before .before .before .before .before .before .args .f .now) (c .before .before .before .before .before .before .before .before .before .before .before .before .args .table .now) (c .before .before .before .before .before .before .before .before .before .before .before .before .args .k) (c .before .before .before .before .before .before .before .before .before .before .before .before .pre .1 .known) (c .before .before .before .before .before .before .before .if1 .taken) (c .before .before .before .before .before .before .rule-of .result) (c .before .before .before .before .before .before .rule-of .ensures) (sym (c .before .before .before .before .before .code .ensures) ∙ c .before .before .before .before .if2 .taken)) (c .before .before .put-literal .ensures)
+differentiate-returns : (t : ℕ) → differentiate-lts.Need-returns (differentiate-calls t) (differentiate-at t) differentiate.Post
+differentiate-returns t c =
+    let args = c .before .before .before .before .before .before .before .before .before .before .before .before .args in
+    let pre = c .before .before .before .before .before .before .before .before .before .before .before .before .pre in
+    let if1 = c .before .before .before .before .before .before .before .if1 in
+    let rule-of = c .before .before .before .before .before .before .rule-of in
+    let code = c .before .before .before .before .before .code in
+    let if2 = c .before .before .before .before .if2 in
+    let put-literal = c .before .before .put-literal in
+    as-text _ _ _ _ _
+    (without-rule (args .by .symbol) (args .by .state) (args .f .now) (args .table .now) (args .k) (pre .1 .known) (if1 .taken) (rule-of .result)
+    (rule-of .ensures) (sym (code .ensures) ∙ if2 .taken))
+    (put-literal .ensures)
 
-differentiate-write-rule-requires : (t : ℕ) → differentiate-lts.Need-write-rule-requires (
-  rule-of-reads.Asked,
-  rule-of-reads.Learnt,
-  code-reads.Asked,
-  code-reads.Learnt,
-  put-literal-reads.Asked,
-  put-literal-reads.Learnt,
-  write-rule-below t,
-  write-rule.Post,
-) (differentiate-at t) differentiate.Post
-differentiate-write-rule-requires t c κs = (omega (arith, c .before .before .before .before .before .before .before .before .before .pre .0), task-as (c .before .before .before .before .before .before .before .before .before .args .by .symbol) (c .before .before .before .before .before .before .before .before .before .args .by .state) (c .before .before .before .before .before .before .before .before .before .args .f .now) (c .before .before .before .before .before .before .before .before .before .args .table .now) (c .before .before .before .before .before .before .before .before .before .args .k) (c .before .before .before .before .before .before .before .before .before .args .depth) _ _ (c .before .before .before .before .before .before .before .before .before .args .out .now) (by-rule (c .before .before .before .before .before .before .before .before .before .args .by .symbol) (c .before .before .before .before .before .before .before .before .before .args .by .state) (c .before .before .before .before .before .before .before .before .before .args .f .now) (c .before .before .before .before .before .before .before .before .before .args .table .now) (c .before .before .before .before .before .before .before .before .before .args .k) (c .before .before .before .before .before .before .before .before .before .pre .1 .known) (c .before .before .before .before .if1 .taken) (c .before .before .before .rule-of .result) (c .before .before .before .rule-of .ensures) (λ z. c .before .if2 .left (c .before .before .code .ensures ∙ z))) (c .before .before .before .before .before .before .before .before .before .pre .1))
+differentiate-write-rule-requires : (t : ℕ) → differentiate-lts.Need-write-rule-requires (differentiate-calls t) (differentiate-at t) differentiate.Post
+differentiate-write-rule-requires t c κs =
+    let args = c .before .before .before .before .before .before .before .before .before .args in
+    let pre = c .before .before .before .before .before .before .before .before .before .pre in
+    let if1 = c .before .before .before .before .if1 in
+    let rule-of = c .before .before .before .rule-of in
+    let code = c .before .before .code in (
+      omega (arith, pre .0),
+      task-as (args .by .symbol) (args .by .state) (args .f .now) (args .table .now) (args .k) (args .depth) _ _ (args .out .now)
+          (by-rule (args .by .symbol) (args .by .state) (args .f .now) (args .table .now) (args .k) (pre .1 .known) (if1 .taken) (rule-of .result)
+          (rule-of .ensures) (λ z. c .before .if2 .left (code .ensures ∙ z)))
+          (pre .1),
+    )
 
-differentiate-same-length-2 : (t : ℕ) → differentiate-lts.Need-same-length-2 (
-  rule-of-reads.Asked,
-  rule-of-reads.Learnt,
-  code-reads.Asked,
-  code-reads.Learnt,
-  put-literal-reads.Asked,
-  put-literal-reads.Learnt,
-  write-rule-below t,
-  write-rule.Post,
-) (differentiate-at t) differentiate.Post
+differentiate-same-length-2 : (t : ℕ) → differentiate-lts.Need-same-length-2 (differentiate-calls t) (differentiate-at t) differentiate.Post
 differentiate-same-length-2 t c = c .before .before .write-rule .kept .1 .1 .1 .1 .1 .1 .1 .1 .0
 
-differentiate-returns-2 : (t : ℕ) → differentiate-lts.Need-returns-2 (
-  rule-of-reads.Asked,
-  rule-of-reads.Learnt,
-  code-reads.Asked,
-  code-reads.Learnt,
-  put-literal-reads.Asked,
-  put-literal-reads.Learnt,
-  write-rule-below t,
-  write-rule.Post,
-) (differentiate-at t) differentiate.Post
-differentiate-returns-2 t c = as-text _ _ _ _ _ (by-rule (c .before .before .before .before .before .before .before .before .before .before .before .before .args .by .symbol) (c .before .before .before .before .before .before .before .before .before .before .before .before .args .by .state) (c .before .before .before .before .before .before .before .before .before .before .before .before .args .f .now) (c .before .before .before .before .before .before .before .before .before .before .before .before .args .table .now) (c .before .before .before .before .before .before .before .before .before .before .before .before .args .k) (c .before .before .before .before .before .before .before .before .before .before .before .before .pre .1 .known) (c .before .before .before .before .before .before .before .if1 .taken) (c .before .before .before .before .before .before .rule-of .result) (c .before .before .before .before .before .before .rule-of .ensures) (λ z. c .before .before .before .before .if2 .left (c .before .before .before .before .before .code .ensures ∙ z))) (c .before .before .write-rule .ensures)
+differentiate-returns-2 : (t : ℕ) → differentiate-lts.Need-returns-2 (differentiate-calls t) (differentiate-at t) differentiate.Post
+differentiate-returns-2 t c =
+    let args = c .before .before .before .before .before .before .before .before .before .before .before .before .args in
+    let pre = c .before .before .before .before .before .before .before .before .before .before .before .before .pre in
+    let if1 = c .before .before .before .before .before .before .before .if1 in
+    let rule-of = c .before .before .before .before .before .before .rule-of in
+    let code = c .before .before .before .before .before .code in
+    let if2 = c .before .before .before .before .if2 in
+    let write-rule = c .before .before .write-rule in
+    as-text _ _ _ _ _
+    (by-rule (args .by .symbol) (args .by .state) (args .f .now) (args .table .now) (args .k) (pre .1 .known) (if1 .taken) (rule-of .result)
+    (rule-of .ensures) (λ z. if2 .left (code .ensures ∙ z)))
+    (write-rule .ensures)
 
-differentiate-put-literal-requires-2 : (t : ℕ) → differentiate-lts.Need-put-literal-requires-2 (
-  rule-of-reads.Asked,
-  rule-of-reads.Learnt,
-  code-reads.Asked,
-  code-reads.Learnt,
-  put-literal-reads.Asked,
-  put-literal-reads.Learnt,
-  write-rule-below t,
-  write-rule.Post,
-) (differentiate-at t) differentiate.Post
-differentiate-put-literal-requires-2 t c κs = literal-room _ _ 0 (has-not (c .before .before .before .before .before .before .args .by .symbol) (c .before .before .before .before .before .before .args .by .state) (c .before .before .before .before .before .before .args .f .now) (c .before .before .before .before .before .before .args .table .now) (c .before .before .before .before .before .before .args .k) (c .before .before .before .before .before .before .pre .1 .known) (c .before .if1 .left)) (c .before .before .before .before .before .before .pre .1 .room)
+differentiate-put-literal-requires-2 : (t : ℕ) → differentiate-lts.Need-put-literal-requires-2 (differentiate-calls t) (differentiate-at t) differentiate.Post
+differentiate-put-literal-requires-2 t c κs =
+    let args = c .before .before .before .before .before .before .args in
+    let pre = c .before .before .before .before .before .before .pre in
+    literal-room _ _ 0 (has-not (args .by .symbol) (args .by .state) (args .f .now) (args .table .now) (args .k) (pre .1 .known) (c .before .if1 .left))
+    (pre .1 .room)
 
-differentiate-same-length-3 : (t : ℕ) → differentiate-lts.Need-same-length-3 (
-  rule-of-reads.Asked,
-  rule-of-reads.Learnt,
-  code-reads.Asked,
-  code-reads.Learnt,
-  put-literal-reads.Asked,
-  put-literal-reads.Learnt,
-  write-rule-below t,
-  write-rule.Post,
-) (differentiate-at t) differentiate.Post
+differentiate-same-length-3 : (t : ℕ) → differentiate-lts.Need-same-length-3 (differentiate-calls t) (differentiate-at t) differentiate.Post
 differentiate-same-length-3 t c = c .before .before .put-literal2 .kept .1 .0
 
-differentiate-returns-3 : (t : ℕ) → differentiate-lts.Need-returns-3 (
-  rule-of-reads.Asked,
-  rule-of-reads.Learnt,
-  code-reads.Asked,
-  code-reads.Learnt,
-  put-literal-reads.Asked,
-  put-literal-reads.Learnt,
-  write-rule-below t,
-  write-rule.Post,
-) (differentiate-at t) differentiate.Post
-differentiate-returns-3 t c = as-text _ _ _ _ _ (has-not (c .before .before .before .before .before .before .before .before .before .args .by .symbol) (c .before .before .before .before .before .before .before .before .before .args .by .state) (c .before .before .before .before .before .before .before .before .before .args .f .now) (c .before .before .before .before .before .before .before .before .before .args .table .now) (c .before .before .before .before .before .before .before .before .before .args .k) (c .before .before .before .before .before .before .before .before .before .pre .1 .known) (c .before .before .before .before .if1 .left)) (c .before .before .put-literal2 .ensures)
+differentiate-returns-3 : (t : ℕ) → differentiate-lts.Need-returns-3 (differentiate-calls t) (differentiate-at t) differentiate.Post
+differentiate-returns-3 t c =
+    let args = c .before .before .before .before .before .before .before .before .before .args in
+    let pre = c .before .before .before .before .before .before .before .before .before .pre in
+    let if1 = c .before .before .before .before .if1 in
+    let put-literal2 = c .before .before .put-literal2 in
+    as-text _ _ _ _ _ (has-not (args .by .symbol) (args .by .state) (args .f .now) (args .table .now) (args .k) (pre .1 .known) (if1 .left))
+    (put-literal2 .ensures)
 
-write-diff-mul-half : (t : ℕ) → write-diff-lts.Need-mul-half (
-  half-reads.Asked,
-  half-reads.Learnt,
-  child-reads.Asked,
-  child-reads.Learnt,
-  differentiate-below t,
-  differentiate.Post,
-  put-literal-reads.Asked,
-  put-literal-reads.Learnt,
-) (write-diff-at t) write-diff.Post
+write-diff-mul-half : (t : ℕ) → write-diff-lts.Need-mul-half (write-diff-calls t) (write-diff-at t) write-diff.Post
 write-diff-mul-half t c = omega (arith, first-inside (c .before .before .before .args .f .now) (c .before .before .before .args .k) (c .before .before .before .pre .1 .known .owned .formed))
 
-write-diff-add-half : (t : ℕ) → write-diff-lts.Need-add-half (
-  half-reads.Asked,
-  half-reads.Learnt,
-  child-reads.Asked,
-  child-reads.Learnt,
-  differentiate-below t,
-  differentiate.Post,
-  put-literal-reads.Asked,
-  put-literal-reads.Learnt,
-) (write-diff-at t) write-diff.Post
+write-diff-add-half : (t : ℕ) → write-diff-lts.Need-add-half (write-diff-calls t) (write-diff-at t) write-diff.Post
 write-diff-add-half t c = omega (arith, first-inside (c .before .before .before .args .f .now) (c .before .before .before .args .k) (c .before .before .before .pre .1 .known .owned .formed))
 
-write-diff-half-requires : (t : ℕ) → write-diff-lts.Need-half-requires (
-  half-reads.Asked,
-  half-reads.Learnt,
-  child-reads.Asked,
-  child-reads.Learnt,
-  differentiate-below t,
-  differentiate.Post,
-  put-literal-reads.Asked,
-  put-literal-reads.Learnt,
-) (write-diff-at t) write-diff.Post
+write-diff-half-requires : (t : ℕ) → write-diff-lts.Need-half-requires (write-diff-calls t) (write-diff-at t) write-diff.Post
 write-diff-half-requires t c κs = search needs
 
-write-diff-child-requires : (t : ℕ) → write-diff-lts.Need-child-requires (
-  half-reads.Asked,
-  half-reads.Learnt,
-  child-reads.Asked,
-  child-reads.Learnt,
-  differentiate-below t,
-  differentiate.Post,
-  put-literal-reads.Asked,
-  put-literal-reads.Learnt,
-) (write-diff-at t) write-diff.Post
+write-diff-child-requires : (t : ℕ) → write-diff-lts.Need-child-requires (write-diff-calls t) (write-diff-at t) write-diff.Post
 write-diff-child-requires t c κs = (c .before .before .before .before .before .pre .1 .known .owned, omega (arith, c .before .half .ensures .0, c .if1 .taken))
 
-write-diff-sub-differentiate : (t : ℕ) → write-diff-lts.Need-sub-differentiate (
-  half-reads.Asked,
-  half-reads.Learnt,
-  child-reads.Asked,
-  child-reads.Learnt,
-  differentiate-below t,
-  differentiate.Post,
-  put-literal-reads.Asked,
-  put-literal-reads.Learnt,
-) (write-diff-at t) write-diff.Post
-write-diff-sub-differentiate t c = omega (arith, depth-pos (tree (c .before .before .before .before .before .before .args .f .now) (c .before .before .before .before .before .before .args .k)), c .before .before .before .before .before .before .pre .1 .deep)
+write-diff-sub-differentiate : (t : ℕ) → write-diff-lts.Need-sub-differentiate (write-diff-calls t) (write-diff-at t) write-diff.Post
+write-diff-sub-differentiate t c =
+    let args = c .before .before .before .before .before .before .args in
+    let pre = c .before .before .before .before .before .before .pre in
+    omega (arith, depth-pos (tree (args .f .now) (args .k)), pre .1 .deep)
 
-write-diff-differentiate-requires : (t : ℕ) → write-diff-lts.Need-differentiate-requires (
-  half-reads.Asked,
-  half-reads.Learnt,
-  child-reads.Asked,
-  child-reads.Learnt,
-  differentiate-below t,
-  differentiate.Post,
-  put-literal-reads.Asked,
-  put-literal-reads.Learnt,
-) (write-diff-at t) write-diff.Post
-write-diff-differentiate-requires t c κs = (omega (arith, c .before .before .before .before .before .before .before .pre .0), record { known = known-child (c .before .before .before .before .before .before .before .args .by .symbol) (c .before .before .before .before .before .before .before .args .by .state) (c .before .before .before .before .before .before .before .args .f .now) (c .before .before .before .before .before .before .before .args .table .now) (c .before .before .before .before .before .before .before .args .k) (c .before .before .before .before .before .before .before .pre .1 .known) (c .before .before .before .before .before .before .before .args .i) (c .before .child .result) (c .before .child .ensures); deep = omega (arith, c .before .child .ensures .shallower, c .before .before .before .before .before .before .before .pre .1 .deep); room = room-as _ _ _ (diff-text (c .before .before .before .before .before .before .before .args .by .symbol) (c .before .before .before .before .before .before .before .args .by .state) (c .before .before .before .before .before .before .before .args .f .now) (c .before .before .before .before .before .before .before .args .k) (c .before .before .before .before .before .before .before .args .i) (c .before .child .result) (c .before .child .ensures)) (c .before .before .before .before .before .before .before .pre .1 .room) })
+write-diff-differentiate-requires : (t : ℕ) → write-diff-lts.Need-differentiate-requires (write-diff-calls t) (write-diff-at t) write-diff.Post
+write-diff-differentiate-requires t c κs =
+    let args = c .before .before .before .before .before .before .before .args in
+    let pre = c .before .before .before .before .before .before .before .pre in
+    let child = c .before .child in (
+      omega (arith, pre .0),
+      record {
+        known =
+            known-child (args .by .symbol) (args .by .state) (args .f .now) (args .table .now) (args .k) (pre .1 .known) (args .i) (child .result)
+            (child .ensures);
+        deep = omega (arith, child .ensures .shallower, pre .1 .deep);
+        room = room-as _ _ _ (diff-text (args .by .symbol) (args .by .state) (args .f .now) (args .k) (args .i) (child .result) (child .ensures)) (pre .1 .room);
+      },
+    )
 
-write-diff-same-length : (t : ℕ) → write-diff-lts.Need-same-length (
-  half-reads.Asked,
-  half-reads.Learnt,
-  child-reads.Asked,
-  child-reads.Learnt,
-  differentiate-below t,
-  differentiate.Post,
-  put-literal-reads.Asked,
-  put-literal-reads.Learnt,
-) (write-diff-at t) write-diff.Post
+write-diff-same-length : (t : ℕ) → write-diff-lts.Need-same-length (write-diff-calls t) (write-diff-at t) write-diff.Post
 write-diff-same-length t c = c .before .before .differentiate .kept .1 .1 .1 .1 .1 .0
 
-write-diff-returns : (t : ℕ) → write-diff-lts.Need-returns (
-  half-reads.Asked,
-  half-reads.Learnt,
-  child-reads.Asked,
-  child-reads.Learnt,
-  differentiate-below t,
-  differentiate.Post,
-  put-literal-reads.Asked,
-  put-literal-reads.Learnt,
-) (write-diff-at t) write-diff.Post
-write-diff-returns t c = as-text _ _ _ _ _ (diff-text (c .before .before .before .before .before .before .before .before .before .before .args .by .symbol) (c .before .before .before .before .before .before .before .before .before .before .args .by .state) (c .before .before .before .before .before .before .before .before .before .before .args .f .now) (c .before .before .before .before .before .before .before .before .before .before .args .k) (c .before .before .before .before .before .before .before .before .before .before .args .i) (c .before .before .before .before .child .result) (c .before .before .before .before .child .ensures)) (c .before .before .differentiate .ensures)
+write-diff-returns : (t : ℕ) → write-diff-lts.Need-returns (write-diff-calls t) (write-diff-at t) write-diff.Post
+write-diff-returns t c =
+    let args = c .before .before .before .before .before .before .before .before .before .before .args in
+    let child = c .before .before .before .before .child in
+    let differentiate = c .before .before .differentiate in
+    as-text _ _ _ _ _ (diff-text (args .by .symbol) (args .by .state) (args .f .now) (args .k) (args .i) (child .result) (child .ensures))
+    (differentiate .ensures)
 
-write-diff-put-literal-requires : (t : ℕ) → write-diff-lts.Need-put-literal-requires (
-  half-reads.Asked,
-  half-reads.Learnt,
-  child-reads.Asked,
-  child-reads.Learnt,
-  differentiate-below t,
-  differentiate.Post,
-  put-literal-reads.Asked,
-  put-literal-reads.Learnt,
-) (write-diff-at t) write-diff.Post
-write-diff-put-literal-requires t c κs = literal-room _ _ 0 (no-diff (c .before .before .before .before .before .before .args .by .symbol) (c .before .before .before .before .before .before .args .by .state) (c .before .before .before .before .before .before .args .f .now) (c .before .before .before .before .before .before .args .k) (c .before .before .before .before .before .before .args .i) (c .before .before .before .before .before .before .pre .1 .known .owned .formed) (omega (arith, c .before .before .half .ensures .0, c .before .if1 .left))) (c .before .before .before .before .before .before .pre .1 .room)
+write-diff-put-literal-requires : (t : ℕ) → write-diff-lts.Need-put-literal-requires (write-diff-calls t) (write-diff-at t) write-diff.Post
+write-diff-put-literal-requires t c κs =
+    let args = c .before .before .before .before .before .before .args in
+    let pre = c .before .before .before .before .before .before .pre in
+    let half = c .before .before .half in
+    literal-room _ _ 0
+    (no-diff (args .by .symbol) (args .by .state) (args .f .now) (args .k) (args .i) (pre .1 .known .owned .formed)
+    (omega (arith, half .ensures .0, c .before .if1 .left)))
+    (pre .1 .room)
 
-write-diff-same-length-2 : (t : ℕ) → write-diff-lts.Need-same-length-2 (
-  half-reads.Asked,
-  half-reads.Learnt,
-  child-reads.Asked,
-  child-reads.Learnt,
-  differentiate-below t,
-  differentiate.Post,
-  put-literal-reads.Asked,
-  put-literal-reads.Learnt,
-) (write-diff-at t) write-diff.Post
+write-diff-same-length-2 : (t : ℕ) → write-diff-lts.Need-same-length-2 (write-diff-calls t) (write-diff-at t) write-diff.Post
 write-diff-same-length-2 t c = c .before .before .put-literal .kept .1 .0
 
-write-diff-returns-2 : (t : ℕ) → write-diff-lts.Need-returns-2 (
-  half-reads.Asked,
-  half-reads.Learnt,
-  child-reads.Asked,
-  child-reads.Learnt,
-  differentiate-below t,
-  differentiate.Post,
-  put-literal-reads.Asked,
-  put-literal-reads.Learnt,
-) (write-diff-at t) write-diff.Post
-write-diff-returns-2 t c = as-text _ _ _ _ _ (no-diff (c .before .before .before .before .before .before .before .before .before .args .by .symbol) (c .before .before .before .before .before .before .before .before .before .args .by .state) (c .before .before .before .before .before .before .before .before .before .args .f .now) (c .before .before .before .before .before .before .before .before .before .args .k) (c .before .before .before .before .before .before .before .before .before .args .i) (c .before .before .before .before .before .before .before .before .before .pre .1 .known .owned .formed) (omega (arith, c .before .before .before .before .before .half .ensures .0, c .before .before .before .before .if1 .left))) (c .before .before .put-literal .ensures)
+write-diff-returns-2 : (t : ℕ) → write-diff-lts.Need-returns-2 (write-diff-calls t) (write-diff-at t) write-diff.Post
+write-diff-returns-2 t c =
+    let args = c .before .before .before .before .before .before .before .before .before .args in
+    let pre = c .before .before .before .before .before .before .before .before .before .pre in
+    let half = c .before .before .before .before .before .half in
+    let if1 = c .before .before .before .before .if1 in
+    let put-literal = c .before .before .put-literal in
+    as-text _ _ _ _ _
+    (no-diff (args .by .symbol) (args .by .state) (args .f .now) (args .k) (args .i) (pre .1 .known .owned .formed)
+    (omega (arith, half .ensures .0, if1 .left)))
+    (put-literal .ensures)
 
-write-extremum-mul-half : (t : ℕ) → write-extremum-lts.Need-mul-half (
-  half-reads.Asked,
-  half-reads.Learnt,
-  put-literal-reads.Asked,
-  put-literal-reads.Learnt,
-  write-ties-below t,
-  write-ties.Post,
-) (write-extremum-at t) write-extremum.Post
+write-extremum-mul-half : (t : ℕ) → write-extremum-lts.Need-mul-half (write-extremum-calls t) (write-extremum-at t) write-extremum.Post
 write-extremum-mul-half t c = omega (arith, first-inside (c .before .before .before .args .f .now) (c .before .before .before .args .k) (c .before .before .before .pre .1 .known .owned .formed))
 
-write-extremum-add-half : (t : ℕ) → write-extremum-lts.Need-add-half (
-  half-reads.Asked,
-  half-reads.Learnt,
-  put-literal-reads.Asked,
-  put-literal-reads.Learnt,
-  write-ties-below t,
-  write-ties.Post,
-) (write-extremum-at t) write-extremum.Post
+write-extremum-add-half : (t : ℕ) → write-extremum-lts.Need-add-half (write-extremum-calls t) (write-extremum-at t) write-extremum.Post
 write-extremum-add-half t c = omega (arith, first-inside (c .before .before .before .args .f .now) (c .before .before .before .args .k) (c .before .before .before .pre .1 .known .owned .formed))
 
-write-extremum-half-requires : (t : ℕ) → write-extremum-lts.Need-half-requires (
-  half-reads.Asked,
-  half-reads.Learnt,
-  put-literal-reads.Asked,
-  put-literal-reads.Learnt,
-  write-ties-below t,
-  write-ties.Post,
-) (write-extremum-at t) write-extremum.Post
+write-extremum-half-requires : (t : ℕ) → write-extremum-lts.Need-half-requires (write-extremum-calls t) (write-extremum-at t) write-extremum.Post
 write-extremum-half-requires t c κs = search needs
 
-write-extremum-put-literal-requires : (t : ℕ) → write-extremum-lts.Need-put-literal-requires (
-  half-reads.Asked,
-  half-reads.Learnt,
-  put-literal-reads.Asked,
-  put-literal-reads.Learnt,
-  write-ties-below t,
-  write-ties.Post,
-) (write-extremum-at t) write-extremum.Post
-write-extremum-put-literal-requires t c κs = literal-room _ _ 0 (no-ties (c .before .before .before .before .before .before .args .by .symbol) (c .before .before .before .before .before .before .args .by .state) (tree (c .before .before .before .before .before .before .args .f .now) (c .before .before .before .before .before .before .args .k)) (c .before .before .half .result) (c .before .before .half .ensures .0 ∙ sym (count-is (c .before .before .before .before .before .before .args .f .now) (c .before .before .before .before .before .before .args .k) (c .before .before .before .before .before .before .pre .1 .known .owned .formed))) (c .before .if1 .taken)) (c .before .before .before .before .before .before .pre .1 .room)
+write-extremum-put-literal-requires : (t : ℕ) → write-extremum-lts.Need-put-literal-requires (write-extremum-calls t) (write-extremum-at t) write-extremum.Post
+write-extremum-put-literal-requires t c κs =
+    let args = c .before .before .before .before .before .before .args in
+    let pre = c .before .before .before .before .before .before .pre in
+    let half = c .before .before .half in
+    literal-room _ _ 0
+    (no-ties (args .by .symbol) (args .by .state) (tree (args .f .now) (args .k)) (half .result)
+    (half .ensures .0 ∙ sym (count-is (args .f .now) (args .k) (pre .1 .known .owned .formed))) (c .before .if1 .taken))
+    (pre .1 .room)
 
-write-extremum-same-length : (t : ℕ) → write-extremum-lts.Need-same-length (
-  half-reads.Asked,
-  half-reads.Learnt,
-  put-literal-reads.Asked,
-  put-literal-reads.Learnt,
-  write-ties-below t,
-  write-ties.Post,
-) (write-extremum-at t) write-extremum.Post
+write-extremum-same-length : (t : ℕ) → write-extremum-lts.Need-same-length (write-extremum-calls t) (write-extremum-at t) write-extremum.Post
 write-extremum-same-length t c = c .before .before .put-literal .kept .1 .0
 
-write-extremum-returns : (t : ℕ) → write-extremum-lts.Need-returns (
-  half-reads.Asked,
-  half-reads.Learnt,
-  put-literal-reads.Asked,
-  put-literal-reads.Learnt,
-  write-ties-below t,
-  write-ties.Post,
-) (write-extremum-at t) write-extremum.Post
-write-extremum-returns t c = as-text _ _ _ _ _ (no-ties (c .before .before .before .before .before .before .before .before .before .args .by .symbol) (c .before .before .before .before .before .before .before .before .before .args .by .state) (tree (c .before .before .before .before .before .before .before .before .before .args .f .now) (c .before .before .before .before .before .before .before .before .before .args .k)) (c .before .before .before .before .before .half .result) (c .before .before .before .before .before .half .ensures .0 ∙ sym (count-is (c .before .before .before .before .before .before .before .before .before .args .f .now) (c .before .before .before .before .before .before .before .before .before .args .k) (c .before .before .before .before .before .before .before .before .before .pre .1 .known .owned .formed))) (c .before .before .before .before .if1 .taken)) (c .before .before .put-literal .ensures)
+write-extremum-returns : (t : ℕ) → write-extremum-lts.Need-returns (write-extremum-calls t) (write-extremum-at t) write-extremum.Post
+write-extremum-returns t c =
+    let args = c .before .before .before .before .before .before .before .before .before .args in
+    let pre = c .before .before .before .before .before .before .before .before .before .pre in
+    let half = c .before .before .before .before .before .half in
+    let if1 = c .before .before .before .before .if1 in
+    let put-literal = c .before .before .put-literal in
+    as-text _ _ _ _ _
+    (no-ties (args .by .symbol) (args .by .state) (tree (args .f .now) (args .k)) (half .result)
+    (half .ensures .0 ∙ sym (count-is (args .f .now) (args .k) (pre .1 .known .owned .formed))) (if1 .taken))
+    (put-literal .ensures)
 
-write-extremum-sub-write-ties : (t : ℕ) → write-extremum-lts.Need-sub-write-ties (
-  half-reads.Asked,
-  half-reads.Learnt,
-  put-literal-reads.Asked,
-  put-literal-reads.Learnt,
-  write-ties-below t,
-  write-ties.Post,
-) (write-extremum-at t) write-extremum.Post
+write-extremum-sub-write-ties : (t : ℕ) → write-extremum-lts.Need-sub-write-ties (write-extremum-calls t) (write-extremum-at t) write-extremum.Post
 write-extremum-sub-write-ties t c = omega (arith, c .if1 .left)
 
-write-extremum-write-ties-requires : (t : ℕ) → write-extremum-lts.Need-write-ties-requires (
-  half-reads.Asked,
-  half-reads.Learnt,
-  put-literal-reads.Asked,
-  put-literal-reads.Learnt,
-  write-ties-below t,
-  write-ties.Post,
-) (write-extremum-at t) write-extremum.Post
-write-extremum-write-ties-requires t c κs = (omega (arith, c .before .before .before .before .before .before .pre .0, c .before .before .half .ensures .1), (omega (arith, c .before .before .half .ensures .1, c .before .if1 .left), task-as (c .before .before .before .before .before .before .args .by .symbol) (c .before .before .before .before .before .before .args .by .state) (c .before .before .before .before .before .before .args .f .now) (c .before .before .before .before .before .before .args .table .now) (c .before .before .before .before .before .before .args .k) (c .before .before .before .before .before .before .args .depth) _ _ (c .before .before .before .before .before .before .args .out .now) (all-ties (c .before .before .before .before .before .before .args .by .symbol) (c .before .before .before .before .before .before .args .by .state) (tree (c .before .before .before .before .before .before .args .f .now) (c .before .before .before .before .before .before .args .k)) (c .before .before .half .result) (c .before .before .half .ensures .0 ∙ sym (count-is (c .before .before .before .before .before .before .args .f .now) (c .before .before .before .before .before .before .args .k) (c .before .before .before .before .before .before .pre .1 .known .owned .formed))) (c .before .if1 .left)) (c .before .before .before .before .before .before .pre .1)))
+write-extremum-write-ties-requires : (t : ℕ) → write-extremum-lts.Need-write-ties-requires (write-extremum-calls t) (write-extremum-at t) write-extremum.Post
+write-extremum-write-ties-requires t c κs =
+    let args = c .before .before .before .before .before .before .args in
+    let pre = c .before .before .before .before .before .before .pre in
+    let half = c .before .before .half in
+    let if1 = c .before .if1 in (
+      omega (arith, pre .0, half .ensures .1),
+      (
+        omega (arith, half .ensures .1, if1 .left),
+        task-as (args .by .symbol) (args .by .state) (args .f .now) (args .table .now) (args .k) (args .depth) _ _ (args .out .now)
+            (all-ties (args .by .symbol) (args .by .state) (tree (args .f .now) (args .k)) (half .result)
+            (half .ensures .0 ∙ sym (count-is (args .f .now) (args .k) (pre .1 .known .owned .formed))) (if1 .left))
+            (pre .1),
+      ),
+    )
 
-write-extremum-same-length-2 : (t : ℕ) → write-extremum-lts.Need-same-length-2 (
-  half-reads.Asked,
-  half-reads.Learnt,
-  put-literal-reads.Asked,
-  put-literal-reads.Learnt,
-  write-ties-below t,
-  write-ties.Post,
-) (write-extremum-at t) write-extremum.Post
+write-extremum-same-length-2 : (t : ℕ) → write-extremum-lts.Need-same-length-2 (write-extremum-calls t) (write-extremum-at t) write-extremum.Post
 write-extremum-same-length-2 t c = c .before .before .write-ties .kept .1 .1 .1 .1 .1 .1 .1 .0
 
-write-extremum-returns-2 : (t : ℕ) → write-extremum-lts.Need-returns-2 (
-  half-reads.Asked,
-  half-reads.Learnt,
-  put-literal-reads.Asked,
-  put-literal-reads.Learnt,
-  write-ties-below t,
-  write-ties.Post,
-) (write-extremum-at t) write-extremum.Post
-write-extremum-returns-2 t c = as-text _ _ _ _ _ (all-ties (c .before .before .before .before .before .before .before .before .before .args .by .symbol) (c .before .before .before .before .before .before .before .before .before .args .by .state) (tree (c .before .before .before .before .before .before .before .before .before .args .f .now) (c .before .before .before .before .before .before .before .before .before .args .k)) (c .before .before .before .before .before .half .result) (c .before .before .before .before .before .half .ensures .0 ∙ sym (count-is (c .before .before .before .before .before .before .before .before .before .args .f .now) (c .before .before .before .before .before .before .before .before .before .args .k) (c .before .before .before .before .before .before .before .before .before .pre .1 .known .owned .formed))) (c .before .before .before .before .if1 .left)) (c .before .before .write-ties .ensures)
+write-extremum-returns-2 : (t : ℕ) → write-extremum-lts.Need-returns-2 (write-extremum-calls t) (write-extremum-at t) write-extremum.Post
+write-extremum-returns-2 t c =
+    let args = c .before .before .before .before .before .before .before .before .before .args in
+    let pre = c .before .before .before .before .before .before .before .before .before .pre in
+    let half = c .before .before .before .before .before .half in
+    let if1 = c .before .before .before .before .if1 in
+    let write-ties = c .before .before .write-ties in
+    as-text _ _ _ _ _
+    (all-ties (args .by .symbol) (args .by .state) (tree (args .f .now) (args .k)) (half .result)
+    (half .ensures .0 ∙ sym (count-is (args .f .now) (args .k) (pre .1 .known .owned .formed))) (if1 .left))
+    (write-ties .ensures)
 
-write-node-put-node-requires : (t : ℕ) → write-node-lts.Need-put-node-requires (
-  put-node-reads.Asked,
-  put-node-reads.Learnt,
-  write-rules-below t,
-  write-rules.Post,
-) (write-node-at t) write-node.Post
-write-node-put-node-requires t c κs = (c .before .before .before .before .pre .1 .0 .kind-byte, c .before .before .before .before .pre .1 .0 .operator-byte, omega (arith, c .before .before .before .before .pre .1 .0 .few), omega (arith, c .before .before .before .before .pre .1 .1 .room, length-append (node-bytes (inner-fields (c .before .before .before .before .args .kind) (c .before .before .before .before .args .operator) (c .before .before .before .before .args .children))) (parts-bytes (c .before .before .before .before .args .by .symbol) (c .before .before .before .before .args .by .state) (tree (c .before .before .before .before .args .f .now) (c .before .before .before .before .args .k)) (c .before .before .before .before .args .levels) (c .before .before .before .before .args .q) (c .before .before .before .before .args .children) (c .before .before .before .before .args .i)), node-length (inner-fields (c .before .before .before .before .args .kind) (c .before .before .before .before .args .operator) (c .before .before .before .before .args .children))))
+write-node-put-node-requires : (t : ℕ) → write-node-lts.Need-put-node-requires (write-node-calls t) (write-node-at t) write-node.Post
+write-node-put-node-requires t c κs =
+    let args = c .before .before .before .before .args in
+    let pre = c .before .before .before .before .pre in
+    let the-inner-fields = inner-fields (args .kind) (args .operator) (args .children) in (
+      pre .1 .0 .kind-byte,
+      pre .1 .0 .operator-byte,
+      omega (arith, pre .1 .0 .few),
+      omega (
+        arith,
+        pre .1 .1 .room,
+        length-append (node-bytes the-inner-fields)
+            (parts-bytes (args .by .symbol) (args .by .state) (tree (args .f .now) (args .k)) (args .levels) (args .q) (args .children) (args .i)),
+        node-length the-inner-fields,
+      ),
+    )
 
-write-node-sub-write-rules : (t : ℕ) → write-node-lts.Need-sub-write-rules (
-  put-node-reads.Asked,
-  put-node-reads.Learnt,
-  write-rules-below t,
-  write-rules.Post,
-) (write-node-at t) write-node.Post
-write-node-sub-write-rules t c = let h = free-start (node-bytes (inner-fields (c .before .before .before .before .before .before .before .args .kind) (c .before .before .before .before .before .before .before .args .operator) (c .before .before .before .before .before .before .before .args .children))) (c .before .before .before .before .before .before .before .args .out .now) (c .before .before .put-node .last .1 .1 .1 .0) (c .before .before .put-node .result) (c .before .before .put-node .ensures) (omega (arith, c .before .before .before .before .before .before .before .pre .1 .1 .room, length-append (node-bytes (inner-fields (c .before .before .before .before .before .before .before .args .kind) (c .before .before .before .before .before .before .before .args .operator) (c .before .before .before .before .before .before .before .args .children))) (parts-bytes (c .before .before .before .before .before .before .before .args .by .symbol) (c .before .before .before .before .before .before .before .args .by .state) (tree (c .before .before .before .before .before .before .before .args .f .now) (c .before .before .before .before .before .before .before .args .k)) (c .before .before .before .before .before .before .before .args .levels) (c .before .before .before .before .before .before .before .args .q) (c .before .before .before .before .before .before .before .args .children) (c .before .before .before .before .before .before .before .args .i)))) in omega (arith, h)
+write-node-sub-write-rules : (t : ℕ) → write-node-lts.Need-sub-write-rules (write-node-calls t) (write-node-at t) write-node.Post
+write-node-sub-write-rules t c =
+    let args = c .before .before .before .before .before .before .before .args in
+    let pre = c .before .before .before .before .before .before .before .pre in
+    let put-node = c .before .before .put-node in
+    let the-node-bytes = node-bytes (inner-fields (args .kind) (args .operator) (args .children)) in
+    let h =
+    free-start the-node-bytes (args .out .now) (put-node .last .1 .1 .1 .0) (put-node .result) (put-node .ensures)
+    (omega (
+      arith,
+      pre .1 .1 .room,
+      length-append the-node-bytes
+          (parts-bytes (args .by .symbol) (args .by .state) (tree (args .f .now) (args .k)) (args .levels) (args .q) (args .children) (args .i)),
+    )) in
+    omega (arith, h)
 
-write-node-part-write-rules-start : (t : ℕ) → write-node-lts.Need-part-write-rules-start (
-  put-node-reads.Asked,
-  put-node-reads.Learnt,
-  write-rules-below t,
-  write-rules.Post,
-) (write-node-at t) write-node.Post
-write-node-part-write-rules-start t c = let h = free-start (node-bytes (inner-fields (c .before .before .before .before .before .before .before .args .kind) (c .before .before .before .before .before .before .before .args .operator) (c .before .before .before .before .before .before .before .args .children))) (c .before .before .before .before .before .before .before .args .out .now) (c .before .before .put-node .last .1 .1 .1 .0) (c .before .before .put-node .result) (c .before .before .put-node .ensures) (omega (arith, c .before .before .before .before .before .before .before .pre .1 .1 .room, length-append (node-bytes (inner-fields (c .before .before .before .before .before .before .before .args .kind) (c .before .before .before .before .before .before .before .args .operator) (c .before .before .before .before .before .before .before .args .children))) (parts-bytes (c .before .before .before .before .before .before .before .args .by .symbol) (c .before .before .before .before .before .before .before .args .by .state) (tree (c .before .before .before .before .before .before .before .args .f .now) (c .before .before .before .before .before .before .before .args .k)) (c .before .before .before .before .before .before .before .args .levels) (c .before .before .before .before .before .before .before .args .q) (c .before .before .before .before .before .before .before .args .children) (c .before .before .before .before .before .before .before .args .i)))) in omega (arith, h)
+write-node-part-write-rules-start : (t : ℕ) → write-node-lts.Need-part-write-rules-start (write-node-calls t) (write-node-at t) write-node.Post
+write-node-part-write-rules-start t c =
+    let args = c .before .before .before .before .before .before .before .args in
+    let pre = c .before .before .before .before .before .before .before .pre in
+    let put-node = c .before .before .put-node in
+    let the-node-bytes = node-bytes (inner-fields (args .kind) (args .operator) (args .children)) in
+    let h =
+    free-start the-node-bytes (args .out .now) (put-node .last .1 .1 .1 .0) (put-node .result) (put-node .ensures)
+    (omega (
+      arith,
+      pre .1 .1 .room,
+      length-append the-node-bytes
+          (parts-bytes (args .by .symbol) (args .by .state) (tree (args .f .now) (args .k)) (args .levels) (args .q) (args .children) (args .i)),
+    )) in
+    omega (arith, h)
 
-write-node-part-write-rules-end : (t : ℕ) → write-node-lts.Need-part-write-rules-end (
-  put-node-reads.Asked,
-  put-node-reads.Learnt,
-  write-rules-below t,
-  write-rules.Post,
-) (write-node-at t) write-node.Post
-write-node-part-write-rules-end t c = let h = free-start (node-bytes (inner-fields (c .before .before .before .before .before .before .before .args .kind) (c .before .before .before .before .before .before .before .args .operator) (c .before .before .before .before .before .before .before .args .children))) (c .before .before .before .before .before .before .before .args .out .now) (c .before .before .put-node .last .1 .1 .1 .0) (c .before .before .put-node .result) (c .before .before .put-node .ensures) (omega (arith, c .before .before .before .before .before .before .before .pre .1 .1 .room, length-append (node-bytes (inner-fields (c .before .before .before .before .before .before .before .args .kind) (c .before .before .before .before .before .before .before .args .operator) (c .before .before .before .before .before .before .before .args .children))) (parts-bytes (c .before .before .before .before .before .before .before .args .by .symbol) (c .before .before .before .before .before .before .before .args .by .state) (tree (c .before .before .before .before .before .before .before .args .f .now) (c .before .before .before .before .before .before .before .args .k)) (c .before .before .before .before .before .before .before .args .levels) (c .before .before .before .before .before .before .before .args .q) (c .before .before .before .before .before .before .before .args .children) (c .before .before .before .before .before .before .before .args .i)))) in omega (arith, h)
+write-node-part-write-rules-end : (t : ℕ) → write-node-lts.Need-part-write-rules-end (write-node-calls t) (write-node-at t) write-node.Post
+write-node-part-write-rules-end t c =
+    let args = c .before .before .before .before .before .before .before .args in
+    let pre = c .before .before .before .before .before .before .before .pre in
+    let put-node = c .before .before .put-node in
+    let the-node-bytes = node-bytes (inner-fields (args .kind) (args .operator) (args .children)) in
+    let h =
+    free-start the-node-bytes (args .out .now) (put-node .last .1 .1 .1 .0) (put-node .result) (put-node .ensures)
+    (omega (
+      arith,
+      pre .1 .1 .room,
+      length-append the-node-bytes
+          (parts-bytes (args .by .symbol) (args .by .state) (tree (args .f .now) (args .k)) (args .levels) (args .q) (args .children) (args .i)),
+    )) in
+    omega (arith, h)
 
-write-node-write-rules-requires : (t : ℕ) → write-node-lts.Need-write-rules-requires (
-  put-node-reads.Asked,
-  put-node-reads.Learnt,
-  write-rules-below t,
-  write-rules.Post,
-) (write-node-at t) write-node.Post
-write-node-write-rules-requires t c κs = (omega (arith, c .before .before .before .before .before .before .before .before .pre .0, c .before .before .before .before .before .before .before .before .pre .1 .0 .few), (c .before .before .before .before .before .before .before .before .pre .1 .0 .few, record { known = c .before .before .before .before .before .before .before .before .pre .1 .1 .known; deep = c .before .before .before .before .before .before .before .before .pre .1 .1 .deep; room = free-room (node-bytes (inner-fields (c .before .before .before .before .before .before .before .before .args .kind) (c .before .before .before .before .before .before .before .before .args .operator) (c .before .before .before .before .before .before .before .before .args .children))) (c .before .before .before .before .before .before .before .before .args .out .now) (c .before .before .before .put-node .last .1 .1 .1 .0) (c .before .before .before .put-node .result) (c .before .before .before .put-node .ensures) (omega (arith, c .before .before .before .before .before .before .before .before .pre .1 .1 .room, length-append (node-bytes (inner-fields (c .before .before .before .before .before .before .before .before .args .kind) (c .before .before .before .before .before .before .before .before .args .operator) (c .before .before .before .before .before .before .before .before .args .children))) (parts-bytes (c .before .before .before .before .before .before .before .before .args .by .symbol) (c .before .before .before .before .before .before .before .before .args .by .state) (tree (c .before .before .before .before .before .before .before .before .args .f .now) (c .before .before .before .before .before .before .before .before .args .k)) (c .before .before .before .before .before .before .before .before .args .levels) (c .before .before .before .before .before .before .before .before .args .q) (c .before .before .before .before .before .before .before .before .args .children) (c .before .before .before .before .before .before .before .before .args .i)))) (parts-bytes (c .before .before .before .before .before .before .before .before .args .by .symbol) (c .before .before .before .before .before .before .before .before .args .by .state) (tree (c .before .before .before .before .before .before .before .before .args .f .now) (c .before .before .before .before .before .before .before .before .args .k)) (c .before .before .before .before .before .before .before .before .args .levels) (c .before .before .before .before .before .before .before .before .args .q) (c .before .before .before .before .before .before .before .before .args .children) (c .before .before .before .before .before .before .before .before .args .i)) (omega (arith, c .before .before .before .before .before .before .before .before .pre .1 .1 .room, length-append (node-bytes (inner-fields (c .before .before .before .before .before .before .before .before .args .kind) (c .before .before .before .before .before .before .before .before .args .operator) (c .before .before .before .before .before .before .before .before .args .children))) (parts-bytes (c .before .before .before .before .before .before .before .before .args .by .symbol) (c .before .before .before .before .before .before .before .before .args .by .state) (tree (c .before .before .before .before .before .before .before .before .args .f .now) (c .before .before .before .before .before .before .before .before .args .k)) (c .before .before .before .before .before .before .before .before .args .levels) (c .before .before .before .before .before .before .before .before .args .q) (c .before .before .before .before .before .before .before .before .args .children) (c .before .before .before .before .before .before .before .before .args .i)))) }))
+write-node-write-rules-requires : (t : ℕ) → write-node-lts.Need-write-rules-requires (write-node-calls t) (write-node-at t) write-node.Post
+write-node-write-rules-requires t c κs =
+    let args = c .before .before .before .before .before .before .before .before .args in
+    let pre = c .before .before .before .before .before .before .before .before .pre in
+    let put-node = c .before .before .before .put-node in
+    let the-parts-bytes = parts-bytes (args .by .symbol) (args .by .state) (tree (args .f .now) (args .k)) (args .levels) (args .q) (args .children) (args .i) in
+    let the-node-bytes = node-bytes (inner-fields (args .kind) (args .operator) (args .children)) in (
+      omega (arith, pre .0, pre .1 .0 .few),
+      (
+        pre .1 .0 .few,
+        record {
+          known = pre .1 .1 .known;
+          deep = pre .1 .1 .deep;
+          room =
+              free-room the-node-bytes (args .out .now) (put-node .last .1 .1 .1 .0) (put-node .result) (put-node .ensures)
+              (omega (arith, pre .1 .1 .room, length-append the-node-bytes the-parts-bytes)) the-parts-bytes
+              (omega (arith, pre .1 .1 .room, length-append the-node-bytes the-parts-bytes));
+        },
+      ),
+    )
 
-write-node-add-result : (t : ℕ) → write-node-lts.Need-add-result (
-  put-node-reads.Asked,
-  put-node-reads.Learnt,
-  write-rules-below t,
-  write-rules.Post,
-) (write-node-at t) write-node.Post
-write-node-add-result t c = omega (arith, c .before .before .before .before .before .before .put-node .ensures .count, c .before .before .write-rules .ensures .count, c .before .before .before .before .before .before .before .before .before .before .before .pre .1 .1 .room, length-append (node-bytes (inner-fields (c .before .before .before .before .before .before .before .before .before .before .before .args .kind) (c .before .before .before .before .before .before .before .before .before .before .before .args .operator) (c .before .before .before .before .before .before .before .before .before .before .before .args .children))) (parts-bytes (c .before .before .before .before .before .before .before .before .before .before .before .args .by .symbol) (c .before .before .before .before .before .before .before .before .before .before .before .args .by .state) (tree (c .before .before .before .before .before .before .before .before .before .before .before .args .f .now) (c .before .before .before .before .before .before .before .before .before .before .before .args .k)) (c .before .before .before .before .before .before .before .before .before .before .before .args .levels) (c .before .before .before .before .before .before .before .before .before .before .before .args .q) (c .before .before .before .before .before .before .before .before .before .before .before .args .children) (c .before .before .before .before .before .before .before .before .before .before .before .args .i)))
+write-node-add-result : (t : ℕ) → write-node-lts.Need-add-result (write-node-calls t) (write-node-at t) write-node.Post
+write-node-add-result t c =
+    let args = c .before .before .before .before .before .before .before .before .before .before .before .args in
+    let good = c .before .before .before .before .before .before .before .before .before .before .before .good in
+    let pre = c .before .before .before .before .before .before .before .before .before .before .before .pre in
+    let put-node = c .before .before .before .before .before .before .put-node in
+    let write-rules = c .before .before .write-rules in
+    omega (
+      arith,
+      put-node .ensures .count,
+      write-rules .ensures .count,
+      pre .1 .1 .room,
+      length-append (node-bytes (inner-fields (args .kind) (args .operator) (args .children)))
+          (parts-bytes (args .by .symbol) (args .by .state) (tree (args .f .now) (args .k)) (args .levels) (args .q) (args .children) (args .i)),
+      good .1 .1 .1 .1 .1 .1 .1 .1 .1 .1 .1 .0 .0,
+    )
 
-write-node-same-length : (t : ℕ) → write-node-lts.Need-same-length (
-  put-node-reads.Asked,
-  put-node-reads.Learnt,
-  write-rules-below t,
-  write-rules.Post,
-) (write-node-at t) write-node.Post
-write-node-same-length t c = same-len-mid (c .before .before .before .before .before .before .put-node .result) (length (c .before .before .before .before .before .before .put-node .last .1 .1 .1 .0) - c .before .before .before .before .before .before .put-node .result) (c .before .before .before .before .before .before .put-node .last .1 .1 .1 .0) (c .before .before .write-rules .last .1 .1 .1 .1 .1 .1 .1 .1 .1 .0) (c .before .before .write-rules .kept .1 .1 .1 .1 .1 .1 .1 .1 .1 .0) ∙ c .before .before .before .before .before .before .put-node .kept .1 .1 .1 .0
+write-node-same-length : (t : ℕ) → write-node-lts.Need-same-length (write-node-calls t) (write-node-at t) write-node.Post
+write-node-same-length t c =
+    let put-node = c .before .before .before .before .before .before .put-node in
+    let write-rules = c .before .before .write-rules in
+    same-len-mid (put-node .result) (length (put-node .last .1 .1 .1 .0) - put-node .result) (put-node .last .1 .1 .1 .0)
+    (write-rules .last .1 .1 .1 .1 .1 .1 .1 .1 .1 .0) (write-rules .kept .1 .1 .1 .1 .1 .1 .1 .1 .1 .0)
+    ∙ put-node .kept .1 .1 .1 .0
 
-write-node-returns : (t : ℕ) → write-node-lts.Need-returns (
-  put-node-reads.Asked,
-  put-node-reads.Learnt,
-  write-rules-below t,
-  write-rules.Post,
-) (write-node-at t) write-node.Post
-write-node-returns t c = then-writes (node-bytes (inner-fields (c .before .before .before .before .before .before .before .before .before .before .before .args .kind) (c .before .before .before .before .before .before .before .before .before .before .before .args .operator) (c .before .before .before .before .before .before .before .before .before .before .before .args .children))) (c .before .before .before .before .before .before .before .before .before .before .before .args .out .now) (c .before .before .before .before .before .before .put-node .last .1 .1 .1 .0) (c .before .before .before .before .before .before .put-node .result) (c .before .before .before .before .before .before .put-node .ensures) (omega (arith, c .before .before .before .before .before .before .before .before .before .before .before .pre .1 .1 .room, length-append (node-bytes (inner-fields (c .before .before .before .before .before .before .before .before .before .before .before .args .kind) (c .before .before .before .before .before .before .before .before .before .before .before .args .operator) (c .before .before .before .before .before .before .before .before .before .before .before .args .children))) (parts-bytes (c .before .before .before .before .before .before .before .before .before .before .before .args .by .symbol) (c .before .before .before .before .before .before .before .before .before .before .before .args .by .state) (tree (c .before .before .before .before .before .before .before .before .before .before .before .args .f .now) (c .before .before .before .before .before .before .before .before .before .before .before .args .k)) (c .before .before .before .before .before .before .before .before .before .before .before .args .levels) (c .before .before .before .before .before .before .before .before .before .before .before .args .q) (c .before .before .before .before .before .before .before .before .before .before .before .args .children) (c .before .before .before .before .before .before .before .before .before .before .before .args .i)))) (parts-bytes (c .before .before .before .before .before .before .before .before .before .before .before .args .by .symbol) (c .before .before .before .before .before .before .before .before .before .before .before .args .by .state) (tree (c .before .before .before .before .before .before .before .before .before .before .before .args .f .now) (c .before .before .before .before .before .before .before .before .before .before .before .args .k)) (c .before .before .before .before .before .before .before .before .before .before .before .args .levels) (c .before .before .before .before .before .before .before .before .before .before .before .args .q) (c .before .before .before .before .before .before .before .before .before .before .before .args .children) (c .before .before .before .before .before .before .before .before .before .before .before .args .i)) (c .before .before .write-rules .last .1 .1 .1 .1 .1 .1 .1 .1 .1 .0) (c .before .before .write-rules .result) (c .before .before .write-rules .ensures)
+write-node-returns : (t : ℕ) → write-node-lts.Need-returns (write-node-calls t) (write-node-at t) write-node.Post
+write-node-returns t c =
+    let args = c .before .before .before .before .before .before .before .before .before .before .before .args in
+    let pre = c .before .before .before .before .before .before .before .before .before .before .before .pre in
+    let put-node = c .before .before .before .before .before .before .put-node in
+    let write-rules = c .before .before .write-rules in
+    let the-parts-bytes = parts-bytes (args .by .symbol) (args .by .state) (tree (args .f .now) (args .k)) (args .levels) (args .q) (args .children) (args .i) in
+    let the-node-bytes = node-bytes (inner-fields (args .kind) (args .operator) (args .children)) in
+    then-writes the-node-bytes (args .out .now) (put-node .last .1 .1 .1 .0) (put-node .result) (put-node .ensures)
+    (omega (arith, pre .1 .1 .room, length-append the-node-bytes the-parts-bytes)) the-parts-bytes (write-rules .last .1 .1 .1 .1 .1 .1 .1 .1 .1 .0)
+    (write-rules .result) (write-rules .ensures)
 
-write-product-end-of-requires : (t : ℕ) → write-product-lts.Need-end-of-requires (
-  end-of-reads.Asked,
-  end-of-reads.Learnt,
-  rule-attributes-reads.Asked,
-  rule-attributes-reads.Learnt,
-  is-zero-reads.Asked,
-  is-zero-reads.Learnt,
-  put-literal-reads.Asked,
-  put-literal-reads.Learnt,
-  is-one-reads.Asked,
-  is-one-reads.Learnt,
-  write-rule-below t,
-  write-rule.Post,
-  write-node-below t,
-  write-node.Post,
-) (write-product-at t) write-product.Post
+write-product-end-of-requires : (t : ℕ) → write-product-lts.Need-end-of-requires (write-product-calls t) (write-product-at t) write-product.Post
 write-product-end-of-requires t c κs = search needs
 
-write-product-rule-attributes-requires : (t : ℕ) → write-product-lts.Need-rule-attributes-requires (
-  end-of-reads.Asked,
-  end-of-reads.Learnt,
-  rule-attributes-reads.Asked,
-  rule-attributes-reads.Learnt,
-  is-zero-reads.Asked,
-  is-zero-reads.Learnt,
-  put-literal-reads.Asked,
-  put-literal-reads.Learnt,
-  is-one-reads.Asked,
-  is-one-reads.Learnt,
-  write-rule-below t,
-  write-rule.Post,
-  write-node-below t,
-  write-node.Post,
-) (write-product-at t) write-product.Post
-write-product-rule-attributes-requires t c κs = ready-of (c .before .before .before .before .args .by .symbol) (c .before .before .before .before .args .by .state) (c .before .before .before .before .args .f .now) (c .before .before .before .before .args .table .now) (c .before .before .before .before .args .k) (c .before .before .before .before .pre .1 .known)
+write-product-rule-attributes-requires : (t : ℕ) → write-product-lts.Need-rule-attributes-requires (write-product-calls t) (write-product-at t) write-product.Post
+write-product-rule-attributes-requires t c κs =
+    let args = c .before .before .before .before .args in
+    let pre = c .before .before .before .before .pre in
+    ready-of (args .by .symbol) (args .by .state) (args .f .now) (args .table .now) (args .k) (pre .1 .known)
 
 write-product-rule-attributes-requires-2 :
     (t : ℕ) → write-product-lts.Need-rule-attributes-requires-2 (
@@ -717,2535 +715,1507 @@ write-product-rule-attributes-requires-2 :
       write-node-below t,
       write-node.Post,
     ) (write-product-at t) write-product.Post
-write-product-rule-attributes-requires-2 t c κs = ready-of (c .before .before .before .before .before .args .by .symbol) (c .before .before .before .before .before .args .by .state) (c .before .before .before .before .before .args .f .now) (c .before .before .before .before .before .args .table .now) (c .before .before .before .before .before .args .k) (c .before .before .before .before .before .pre .1 .known)
+write-product-rule-attributes-requires-2 t c κs =
+    let args = c .before .before .before .before .before .args in
+    let pre = c .before .before .before .before .before .pre in
+    ready-of (args .by .symbol) (args .by .state) (args .f .now) (args .table .now) (args .k) (pre .1 .known)
 
-write-product-is-zero-requires : (t : ℕ) → write-product-lts.Need-is-zero-requires (
-  end-of-reads.Asked,
-  end-of-reads.Learnt,
-  rule-attributes-reads.Asked,
-  rule-attributes-reads.Learnt,
-  is-zero-reads.Asked,
-  is-zero-reads.Learnt,
-  put-literal-reads.Asked,
-  put-literal-reads.Learnt,
-  is-one-reads.Asked,
-  is-one-reads.Learnt,
-  write-rule-below t,
-  write-rule.Post,
-  write-node-below t,
-  write-node.Post,
-) (write-product-at t) write-product.Post
+write-product-is-zero-requires : (t : ℕ) → write-product-lts.Need-is-zero-requires (write-product-calls t) (write-product-at t) write-product.Post
 write-product-is-zero-requires t c κs = search needs
 
-write-product-put-literal-requires : (t : ℕ) → write-product-lts.Need-put-literal-requires (
-  end-of-reads.Asked,
-  end-of-reads.Learnt,
-  rule-attributes-reads.Asked,
-  rule-attributes-reads.Learnt,
-  is-zero-reads.Asked,
-  is-zero-reads.Learnt,
-  put-literal-reads.Asked,
-  put-literal-reads.Learnt,
-  is-one-reads.Asked,
-  is-one-reads.Learnt,
-  write-rule-below t,
-  write-rule.Post,
-  write-node-below t,
-  write-node.Post,
-) (write-product-at t) write-product.Post
-write-product-put-literal-requires t c κs = literal-room _ _ 0 (product-left (c .before .before .before .before .before .before .before .before .before .args .by .symbol) (c .before .before .before .before .before .before .before .before .before .args .by .state) (tree (c .before .before .before .before .before .before .before .before .before .args .f .now) (c .before .before .before .before .before .before .before .before .before .args .k)) (c .before .before .before .before .before .before .before .before .before .args .levels) (c .before .before .before .before .before .before .before .before .before .args .q) (c .before .before .before .before .before .before .before .before .before .args .i) (c .before .before .before .before .before .end-of .result) (c .before .before .before .before .before .end-of .ensures) (zero-test (c .before .before .before .before .before .before .before .before .before .args .by .symbol) (c .before .before .before .before .before .before .before .before .before .args .by .state) (tree (c .before .before .before .before .before .before .before .before .before .args .f .now) (c .before .before .before .before .before .before .before .before .before .args .k)) (c .before .before .before .before .before .before .before .before .before .args .levels) (c .before .before .before .before .before .before .before .before .before .args .q) (c .before .before .before .before .before .before .before .before .before .args .i) (c .before .before .is-zero .result) (c .before .before .before .before .rule-attributes .result) _ (c .before .before .is-zero .ensures) (c .before .before .before .before .rule-attributes .ensures) (c .before .if1 .taken))) (c .before .before .before .before .before .before .before .before .before .pre .1 .room)
+write-product-put-literal-requires : (t : ℕ) → write-product-lts.Need-put-literal-requires (write-product-calls t) (write-product-at t) write-product.Post
+write-product-put-literal-requires t c κs =
+    let args = c .before .before .before .before .before .before .before .before .before .args in
+    let pre = c .before .before .before .before .before .before .before .before .before .pre in
+    let end-of = c .before .before .before .before .before .end-of in
+    let rule-attributes = c .before .before .before .before .rule-attributes in
+    let is-zero = c .before .before .is-zero in
+    let the-tree = tree (args .f .now) (args .k) in
+    literal-room _ _ 0
+    (product-left (args .by .symbol) (args .by .state) the-tree (args .levels) (args .q) (args .i) (end-of .result) (end-of .ensures)
+    (zero-test (args .by .symbol) (args .by .state) the-tree (args .levels) (args .q) (args .i) (is-zero .result) (rule-attributes .result) _
+    (is-zero .ensures) (rule-attributes .ensures) (c .before .if1 .taken)))
+    (pre .1 .room)
 
-write-product-same-length : (t : ℕ) → write-product-lts.Need-same-length (
-  end-of-reads.Asked,
-  end-of-reads.Learnt,
-  rule-attributes-reads.Asked,
-  rule-attributes-reads.Learnt,
-  is-zero-reads.Asked,
-  is-zero-reads.Learnt,
-  put-literal-reads.Asked,
-  put-literal-reads.Learnt,
-  is-one-reads.Asked,
-  is-one-reads.Learnt,
-  write-rule-below t,
-  write-rule.Post,
-  write-node-below t,
-  write-node.Post,
-) (write-product-at t) write-product.Post
+write-product-same-length : (t : ℕ) → write-product-lts.Need-same-length (write-product-calls t) (write-product-at t) write-product.Post
 write-product-same-length t c = c .before .before .put-literal .kept .1 .0
 
-write-product-returns : (t : ℕ) → write-product-lts.Need-returns (
-  end-of-reads.Asked,
-  end-of-reads.Learnt,
-  rule-attributes-reads.Asked,
-  rule-attributes-reads.Learnt,
-  is-zero-reads.Asked,
-  is-zero-reads.Learnt,
-  put-literal-reads.Asked,
-  put-literal-reads.Learnt,
-  is-one-reads.Asked,
-  is-one-reads.Learnt,
-  write-rule-below t,
-  write-rule.Post,
-  write-node-below t,
-  write-node.Post,
-) (write-product-at t) write-product.Post
-write-product-returns t c = as-text _ _ _ _ _ (product-left (c .before .before .before .before .before .before .before .before .before .before .before .before .args .by .symbol) (c .before .before .before .before .before .before .before .before .before .before .before .before .args .by .state) (tree (c .before .before .before .before .before .before .before .before .before .before .before .before .args .f .now) (c .before .before .before .before .before .before .before .before .before .before .before .before .args .k)) (c .before .before .before .before .before .before .before .before .before .before .before .before .args .levels) (c .before .before .before .before .before .before .before .before .before .before .before .before .args .q) (c .before .before .before .before .before .before .before .before .before .before .before .before .args .i) (c .before .before .before .before .before .before .before .before .end-of .result) (c .before .before .before .before .before .before .before .before .end-of .ensures) (zero-test (c .before .before .before .before .before .before .before .before .before .before .before .before .args .by .symbol) (c .before .before .before .before .before .before .before .before .before .before .before .before .args .by .state) (tree (c .before .before .before .before .before .before .before .before .before .before .before .before .args .f .now) (c .before .before .before .before .before .before .before .before .before .before .before .before .args .k)) (c .before .before .before .before .before .before .before .before .before .before .before .before .args .levels) (c .before .before .before .before .before .before .before .before .before .before .before .before .args .q) (c .before .before .before .before .before .before .before .before .before .before .before .before .args .i) (c .before .before .before .before .before .is-zero .result) (c .before .before .before .before .before .before .before .rule-attributes .result) _ (c .before .before .before .before .before .is-zero .ensures) (c .before .before .before .before .before .before .before .rule-attributes .ensures) (c .before .before .before .before .if1 .taken))) (c .before .before .put-literal .ensures)
+write-product-returns : (t : ℕ) → write-product-lts.Need-returns (write-product-calls t) (write-product-at t) write-product.Post
+write-product-returns t c =
+    let args = c .before .before .before .before .before .before .before .before .before .before .before .before .args in
+    let end-of = c .before .before .before .before .before .before .before .before .end-of in
+    let rule-attributes = c .before .before .before .before .before .before .before .rule-attributes in
+    let is-zero = c .before .before .before .before .before .is-zero in
+    let if1 = c .before .before .before .before .if1 in
+    let put-literal = c .before .before .put-literal in
+    let the-tree = tree (args .f .now) (args .k) in
+    as-text _ _ _ _ _
+    (product-left (args .by .symbol) (args .by .state) the-tree (args .levels) (args .q) (args .i) (end-of .result) (end-of .ensures)
+    (zero-test (args .by .symbol) (args .by .state) the-tree (args .levels) (args .q) (args .i) (is-zero .result) (rule-attributes .result) _
+    (is-zero .ensures) (rule-attributes .ensures) (if1 .taken)))
+    (put-literal .ensures)
 
-write-product-is-zero-requires-2 : (t : ℕ) → write-product-lts.Need-is-zero-requires-2 (
-  end-of-reads.Asked,
-  end-of-reads.Learnt,
-  rule-attributes-reads.Asked,
-  rule-attributes-reads.Learnt,
-  is-zero-reads.Asked,
-  is-zero-reads.Learnt,
-  put-literal-reads.Asked,
-  put-literal-reads.Learnt,
-  is-one-reads.Asked,
-  is-one-reads.Learnt,
-  write-rule-below t,
-  write-rule.Post,
-  write-node-below t,
-  write-node.Post,
-) (write-product-at t) write-product.Post
+write-product-is-zero-requires-2 : (t : ℕ) → write-product-lts.Need-is-zero-requires-2 (write-product-calls t) (write-product-at t) write-product.Post
 write-product-is-zero-requires-2 t c κs = search needs
 
-write-product-put-literal-requires-2 : (t : ℕ) → write-product-lts.Need-put-literal-requires-2 (
-  end-of-reads.Asked,
-  end-of-reads.Learnt,
-  rule-attributes-reads.Asked,
-  rule-attributes-reads.Learnt,
-  is-zero-reads.Asked,
-  is-zero-reads.Learnt,
-  put-literal-reads.Asked,
-  put-literal-reads.Learnt,
-  is-one-reads.Asked,
-  is-one-reads.Learnt,
-  write-rule-below t,
-  write-rule.Post,
-  write-node-below t,
-  write-node.Post,
-) (write-product-at t) write-product.Post
-write-product-put-literal-requires-2 t c κs = literal-room _ _ 0 (product-right (c .before .before .before .before .before .before .before .before .before .before .before .args .by .symbol) (c .before .before .before .before .before .before .before .before .before .before .before .args .by .state) (tree (c .before .before .before .before .before .before .before .before .before .before .before .args .f .now) (c .before .before .before .before .before .before .before .before .before .before .before .args .k)) (c .before .before .before .before .before .before .before .before .before .before .before .args .levels) (c .before .before .before .before .before .before .before .before .before .before .before .args .q) (c .before .before .before .before .before .before .before .before .before .before .before .args .i) (c .before .before .before .before .before .before .before .end-of .result) (c .before .before .before .before .before .before .before .end-of .ensures) (zero-test (c .before .before .before .before .before .before .before .before .before .before .before .args .by .symbol) (c .before .before .before .before .before .before .before .before .before .before .before .args .by .state) (tree (c .before .before .before .before .before .before .before .before .before .before .before .args .f .now) (c .before .before .before .before .before .before .before .before .before .before .before .args .k)) (c .before .before .before .before .before .before .before .before .before .before .before .args .levels) (c .before .before .before .before .before .before .before .before .before .before .before .args .q) (c .before .before .before .before .before .before .before .before .before .before .before .args .i) (c .before .before .before .before .is-zero .result) (c .before .before .before .before .before .before .rule-attributes .result) _ (c .before .before .before .before .is-zero .ensures) (c .before .before .before .before .before .before .rule-attributes .ensures) (c .before .before .before .if1 .left)) (zero-test (c .before .before .before .before .before .before .before .before .before .before .before .args .by .symbol) (c .before .before .before .before .before .before .before .before .before .before .before .args .by .state) (tree (c .before .before .before .before .before .before .before .before .before .before .before .args .f .now) (c .before .before .before .before .before .before .before .before .before .before .before .args .k)) (c .before .before .before .before .before .before .before .before .before .before .before .args .levels) (c .before .before .before .before .before .before .before .before .before .before .before .args .q) (c .before .before .before .before .before .before .before .end-of .result) (c .before .before .is-zero2 .result) (c .before .before .before .before .before .rule-attributes2 .result) _ (c .before .before .is-zero2 .ensures) (c .before .before .before .before .before .rule-attributes2 .ensures) (c .before .if2 .taken))) (c .before .before .before .before .before .before .before .before .before .before .before .pre .1 .room)
+write-product-put-literal-requires-2 : (t : ℕ) → write-product-lts.Need-put-literal-requires-2 (write-product-calls t) (write-product-at t) write-product.Post
+write-product-put-literal-requires-2 t c κs =
+    let args = c .before .before .before .before .before .before .before .before .before .before .before .args in
+    let pre = c .before .before .before .before .before .before .before .before .before .before .before .pre in
+    let end-of = c .before .before .before .before .before .before .before .end-of in
+    let rule-attributes = c .before .before .before .before .before .before .rule-attributes in
+    let rule-attributes2 = c .before .before .before .before .before .rule-attributes2 in
+    let is-zero = c .before .before .before .before .is-zero in
+    let if1 = c .before .before .before .if1 in
+    let is-zero2 = c .before .before .is-zero2 in
+    let the-tree = tree (args .f .now) (args .k) in
+    literal-room _ _ 0
+    (product-right (args .by .symbol) (args .by .state) the-tree (args .levels) (args .q) (args .i) (end-of .result) (end-of .ensures)
+    (zero-test (args .by .symbol) (args .by .state) the-tree (args .levels) (args .q) (args .i) (is-zero .result) (rule-attributes .result) _
+    (is-zero .ensures) (rule-attributes .ensures) (if1 .left))
+    (zero-test (args .by .symbol) (args .by .state) the-tree (args .levels) (args .q) (end-of .result) (is-zero2 .result) (rule-attributes2 .result) _
+    (is-zero2 .ensures) (rule-attributes2 .ensures) (c .before .if2 .taken)))
+    (pre .1 .room)
 
-write-product-same-length-2 : (t : ℕ) → write-product-lts.Need-same-length-2 (
-  end-of-reads.Asked,
-  end-of-reads.Learnt,
-  rule-attributes-reads.Asked,
-  rule-attributes-reads.Learnt,
-  is-zero-reads.Asked,
-  is-zero-reads.Learnt,
-  put-literal-reads.Asked,
-  put-literal-reads.Learnt,
-  is-one-reads.Asked,
-  is-one-reads.Learnt,
-  write-rule-below t,
-  write-rule.Post,
-  write-node-below t,
-  write-node.Post,
-) (write-product-at t) write-product.Post
+write-product-same-length-2 : (t : ℕ) → write-product-lts.Need-same-length-2 (write-product-calls t) (write-product-at t) write-product.Post
 write-product-same-length-2 t c = c .before .before .put-literal2 .kept .1 .0
 
-write-product-returns-2 : (t : ℕ) → write-product-lts.Need-returns-2 (
-  end-of-reads.Asked,
-  end-of-reads.Learnt,
-  rule-attributes-reads.Asked,
-  rule-attributes-reads.Learnt,
-  is-zero-reads.Asked,
-  is-zero-reads.Learnt,
-  put-literal-reads.Asked,
-  put-literal-reads.Learnt,
-  is-one-reads.Asked,
-  is-one-reads.Learnt,
-  write-rule-below t,
-  write-rule.Post,
-  write-node-below t,
-  write-node.Post,
-) (write-product-at t) write-product.Post
-write-product-returns-2 t c = as-text _ _ _ _ _ (product-right (c .before .before .before .before .before .before .before .before .before .before .before .before .before .before .args .by .symbol) (c .before .before .before .before .before .before .before .before .before .before .before .before .before .before .args .by .state) (tree (c .before .before .before .before .before .before .before .before .before .before .before .before .before .before .args .f .now) (c .before .before .before .before .before .before .before .before .before .before .before .before .before .before .args .k)) (c .before .before .before .before .before .before .before .before .before .before .before .before .before .before .args .levels) (c .before .before .before .before .before .before .before .before .before .before .before .before .before .before .args .q) (c .before .before .before .before .before .before .before .before .before .before .before .before .before .before .args .i) (c .before .before .before .before .before .before .before .before .before .before .end-of .result) (c .before .before .before .before .before .before .before .before .before .before .end-of .ensures) (zero-test (c .before .before .before .before .before .before .before .before .before .before .before .before .before .before .args .by .symbol) (c .before .before .before .before .before .before .before .before .before .before .before .before .before .before .args .by .state) (tree (c .before .before .before .before .before .before .before .before .before .before .before .before .before .before .args .f .now) (c .before .before .before .before .before .before .before .before .before .before .before .before .before .before .args .k)) (c .before .before .before .before .before .before .before .before .before .before .before .before .before .before .args .levels) (c .before .before .before .before .before .before .before .before .before .before .before .before .before .before .args .q) (c .before .before .before .before .before .before .before .before .before .before .before .before .before .before .args .i) (c .before .before .before .before .before .before .before .is-zero .result) (c .before .before .before .before .before .before .before .before .before .rule-attributes .result) _ (c .before .before .before .before .before .before .before .is-zero .ensures) (c .before .before .before .before .before .before .before .before .before .rule-attributes .ensures) (c .before .before .before .before .before .before .if1 .left)) (zero-test (c .before .before .before .before .before .before .before .before .before .before .before .before .before .before .args .by .symbol) (c .before .before .before .before .before .before .before .before .before .before .before .before .before .before .args .by .state) (tree (c .before .before .before .before .before .before .before .before .before .before .before .before .before .before .args .f .now) (c .before .before .before .before .before .before .before .before .before .before .before .before .before .before .args .k)) (c .before .before .before .before .before .before .before .before .before .before .before .before .before .before .args .levels) (c .before .before .before .before .before .before .before .before .before .before .before .before .before .before .args .q) (c .before .before .before .before .before .before .before .before .before .before .end-of .result) (c .before .before .before .before .before .is-zero2 .result) (c .before .before .before .before .before .before .before .before .rule-attributes2 .result) _ (c .before .before .before .before .before .is-zero2 .ensures) (c .before .before .before .before .before .before .before .before .rule-attributes2 .ensures) (c .before .before .before .before .if2 .taken))) (c .before .before .put-literal2 .ensures)
+write-product-returns-2 : (t : ℕ) → write-product-lts.Need-returns-2 (write-product-calls t) (write-product-at t) write-product.Post
+write-product-returns-2 t c =
+    let args = c .before .before .before .before .before .before .before .before .before .before .before .before .before .before .args in
+    let end-of = c .before .before .before .before .before .before .before .before .before .before .end-of in
+    let rule-attributes = c .before .before .before .before .before .before .before .before .before .rule-attributes in
+    let rule-attributes2 = c .before .before .before .before .before .before .before .before .rule-attributes2 in
+    let is-zero = c .before .before .before .before .before .before .before .is-zero in
+    let if1 = c .before .before .before .before .before .before .if1 in
+    let is-zero2 = c .before .before .before .before .before .is-zero2 in
+    let if2 = c .before .before .before .before .if2 in
+    let put-literal2 = c .before .before .put-literal2 in
+    let the-tree = tree (args .f .now) (args .k) in
+    as-text _ _ _ _ _
+    (product-right (args .by .symbol) (args .by .state) the-tree (args .levels) (args .q) (args .i) (end-of .result) (end-of .ensures)
+    (zero-test (args .by .symbol) (args .by .state) the-tree (args .levels) (args .q) (args .i) (is-zero .result) (rule-attributes .result) _
+    (is-zero .ensures) (rule-attributes .ensures) (if1 .left))
+    (zero-test (args .by .symbol) (args .by .state) the-tree (args .levels) (args .q) (end-of .result) (is-zero2 .result) (rule-attributes2 .result) _
+    (is-zero2 .ensures) (rule-attributes2 .ensures) (if2 .taken)))
+    (put-literal2 .ensures)
 
-write-product-is-one-requires : (t : ℕ) → write-product-lts.Need-is-one-requires (
-  end-of-reads.Asked,
-  end-of-reads.Learnt,
-  rule-attributes-reads.Asked,
-  rule-attributes-reads.Learnt,
-  is-zero-reads.Asked,
-  is-zero-reads.Learnt,
-  put-literal-reads.Asked,
-  put-literal-reads.Learnt,
-  is-one-reads.Asked,
-  is-one-reads.Learnt,
-  write-rule-below t,
-  write-rule.Post,
-  write-node-below t,
-  write-node.Post,
-) (write-product-at t) write-product.Post
+write-product-is-one-requires : (t : ℕ) → write-product-lts.Need-is-one-requires (write-product-calls t) (write-product-at t) write-product.Post
 write-product-is-one-requires t c κs = search needs
 
-write-product-write-rule-requires : (t : ℕ) → write-product-lts.Need-write-rule-requires (
-  end-of-reads.Asked,
-  end-of-reads.Learnt,
-  rule-attributes-reads.Asked,
-  rule-attributes-reads.Learnt,
-  is-zero-reads.Asked,
-  is-zero-reads.Learnt,
-  put-literal-reads.Asked,
-  put-literal-reads.Learnt,
-  is-one-reads.Asked,
-  is-one-reads.Learnt,
-  write-rule-below t,
-  write-rule.Post,
-  write-node-below t,
-  write-node.Post,
-) (write-product-at t) write-product.Post
-write-product-write-rule-requires t c κs = (omega (arith, c .before .before .before .before .before .before .before .before .before .before .before .before .before .pre .0), task-as (c .before .before .before .before .before .before .before .before .before .before .before .before .before .args .by .symbol) (c .before .before .before .before .before .before .before .before .before .before .before .before .before .args .by .state) (c .before .before .before .before .before .before .before .before .before .before .before .before .before .args .f .now) (c .before .before .before .before .before .before .before .before .before .before .before .before .before .args .table .now) (c .before .before .before .before .before .before .before .before .before .before .before .before .before .args .k) (c .before .before .before .before .before .before .before .before .before .before .before .before .before .args .depth) _ _ (c .before .before .before .before .before .before .before .before .before .before .before .before .before .args .out .now) (one-left (c .before .before .before .before .before .before .before .before .before .before .before .before .before .args .by .symbol) (c .before .before .before .before .before .before .before .before .before .before .before .before .before .args .by .state) (tree (c .before .before .before .before .before .before .before .before .before .before .before .before .before .args .f .now) (c .before .before .before .before .before .before .before .before .before .before .before .before .before .args .k)) (c .before .before .before .before .before .before .before .before .before .before .before .before .before .args .levels) (c .before .before .before .before .before .before .before .before .before .before .before .before .before .args .q) (c .before .before .before .before .before .before .before .before .before .before .before .before .before .args .i) (c .before .before .before .before .before .before .before .before .before .end-of .result) (c .before .before .before .before .before .before .before .before .before .end-of .ensures) (zero-test (c .before .before .before .before .before .before .before .before .before .before .before .before .before .args .by .symbol) (c .before .before .before .before .before .before .before .before .before .before .before .before .before .args .by .state) (tree (c .before .before .before .before .before .before .before .before .before .before .before .before .before .args .f .now) (c .before .before .before .before .before .before .before .before .before .before .before .before .before .args .k)) (c .before .before .before .before .before .before .before .before .before .before .before .before .before .args .levels) (c .before .before .before .before .before .before .before .before .before .before .before .before .before .args .q) (c .before .before .before .before .before .before .before .before .before .before .before .before .before .args .i) (c .before .before .before .before .before .before .is-zero .result) (c .before .before .before .before .before .before .before .before .rule-attributes .result) _ (c .before .before .before .before .before .before .is-zero .ensures) (c .before .before .before .before .before .before .before .before .rule-attributes .ensures) (c .before .before .before .before .before .if1 .left)) (zero-test (c .before .before .before .before .before .before .before .before .before .before .before .before .before .args .by .symbol) (c .before .before .before .before .before .before .before .before .before .before .before .before .before .args .by .state) (tree (c .before .before .before .before .before .before .before .before .before .before .before .before .before .args .f .now) (c .before .before .before .before .before .before .before .before .before .before .before .before .before .args .k)) (c .before .before .before .before .before .before .before .before .before .before .before .before .before .args .levels) (c .before .before .before .before .before .before .before .before .before .before .before .before .before .args .q) (c .before .before .before .before .before .before .before .before .before .end-of .result) (c .before .before .before .before .is-zero2 .result) (c .before .before .before .before .before .before .before .rule-attributes2 .result) _ (c .before .before .before .before .is-zero2 .ensures) (c .before .before .before .before .before .before .before .rule-attributes2 .ensures) (c .before .before .before .if2 .left)) (one-test (c .before .before .before .before .before .before .before .before .before .before .before .before .before .args .by .symbol) (c .before .before .before .before .before .before .before .before .before .before .before .before .before .args .by .state) (tree (c .before .before .before .before .before .before .before .before .before .before .before .before .before .args .f .now) (c .before .before .before .before .before .before .before .before .before .before .before .before .before .args .k)) (c .before .before .before .before .before .before .before .before .before .before .before .before .before .args .levels) (c .before .before .before .before .before .before .before .before .before .before .before .before .before .args .q) (c .before .before .before .before .before .before .before .before .before .before .before .before .before .args .i) (c .before .before .is-one .result) (c .before .before .before .before .before .before .before .before .rule-attributes .result) _ (c .before .before .is-one .ensures) (c .before .before .before .before .before .before .before .before .rule-attributes .ensures) (c .before .if3 .taken))) (c .before .before .before .before .before .before .before .before .before .before .before .before .before .pre .1))
+write-product-write-rule-requires : (t : ℕ) → write-product-lts.Need-write-rule-requires (write-product-calls t) (write-product-at t) write-product.Post
+write-product-write-rule-requires t c κs =
+    let args = c .before .before .before .before .before .before .before .before .before .before .before .before .before .args in
+    let pre = c .before .before .before .before .before .before .before .before .before .before .before .before .before .pre in
+    let end-of = c .before .before .before .before .before .before .before .before .before .end-of in
+    let rule-attributes = c .before .before .before .before .before .before .before .before .rule-attributes in
+    let rule-attributes2 = c .before .before .before .before .before .before .before .rule-attributes2 in
+    let is-zero = c .before .before .before .before .before .before .is-zero in
+    let if1 = c .before .before .before .before .before .if1 in
+    let is-zero2 = c .before .before .before .before .is-zero2 in
+    let if2 = c .before .before .before .if2 in
+    let is-one = c .before .before .is-one in
+    let the-tree = tree (args .f .now) (args .k) in (
+      omega (arith, pre .0),
+      task-as (args .by .symbol) (args .by .state) (args .f .now) (args .table .now) (args .k) (args .depth) _ _ (args .out .now)
+          (one-left (args .by .symbol) (args .by .state) the-tree (args .levels) (args .q) (args .i) (end-of .result) (end-of .ensures)
+          (zero-test (args .by .symbol) (args .by .state) the-tree (args .levels) (args .q) (args .i) (is-zero .result) (rule-attributes .result) _
+          (is-zero .ensures) (rule-attributes .ensures) (if1 .left))
+          (zero-test (args .by .symbol) (args .by .state) the-tree (args .levels) (args .q) (end-of .result) (is-zero2 .result) (rule-attributes2 .result) _
+          (is-zero2 .ensures) (rule-attributes2 .ensures) (if2 .left))
+          (one-test (args .by .symbol) (args .by .state) the-tree (args .levels) (args .q) (args .i) (is-one .result) (rule-attributes .result) _
+          (is-one .ensures) (rule-attributes .ensures) (c .before .if3 .taken)))
+          (pre .1),
+    )
 
-write-product-same-length-3 : (t : ℕ) → write-product-lts.Need-same-length-3 (
-  end-of-reads.Asked,
-  end-of-reads.Learnt,
-  rule-attributes-reads.Asked,
-  rule-attributes-reads.Learnt,
-  is-zero-reads.Asked,
-  is-zero-reads.Learnt,
-  put-literal-reads.Asked,
-  put-literal-reads.Learnt,
-  is-one-reads.Asked,
-  is-one-reads.Learnt,
-  write-rule-below t,
-  write-rule.Post,
-  write-node-below t,
-  write-node.Post,
-) (write-product-at t) write-product.Post
+write-product-same-length-3 : (t : ℕ) → write-product-lts.Need-same-length-3 (write-product-calls t) (write-product-at t) write-product.Post
 write-product-same-length-3 t c = c .before .before .write-rule .kept .1 .1 .1 .1 .1 .1 .1 .1 .0
 
-write-product-returns-3 : (t : ℕ) → write-product-lts.Need-returns-3 (
-  end-of-reads.Asked,
-  end-of-reads.Learnt,
-  rule-attributes-reads.Asked,
-  rule-attributes-reads.Learnt,
-  is-zero-reads.Asked,
-  is-zero-reads.Learnt,
-  put-literal-reads.Asked,
-  put-literal-reads.Learnt,
-  is-one-reads.Asked,
-  is-one-reads.Learnt,
-  write-rule-below t,
-  write-rule.Post,
-  write-node-below t,
-  write-node.Post,
-) (write-product-at t) write-product.Post
-write-product-returns-3 t c = as-text _ _ _ _ _ (one-left (c .before .before .before .before .before .before .before .before .before .before .before .before .before .before .before .before .args .by .symbol) (c .before .before .before .before .before .before .before .before .before .before .before .before .before .before .before .before .args .by .state) (tree (c .before .before .before .before .before .before .before .before .before .before .before .before .before .before .before .before .args .f .now) (c .before .before .before .before .before .before .before .before .before .before .before .before .before .before .before .before .args .k)) (c .before .before .before .before .before .before .before .before .before .before .before .before .before .before .before .before .args .levels) (c .before .before .before .before .before .before .before .before .before .before .before .before .before .before .before .before .args .q) (c .before .before .before .before .before .before .before .before .before .before .before .before .before .before .before .before .args .i) (c .before .before .before .before .before .before .before .before .before .before .before .before .end-of .result) (c .before .before .before .before .before .before .before .before .before .before .before .before .end-of .ensures) (zero-test (c .before .before .before .before .before .before .before .before .before .before .before .before .before .before .before .before .args .by .symbol) (c .before .before .before .before .before .before .before .before .before .before .before .before .before .before .before .before .args .by .state) (tree (c .before .before .before .before .before .before .before .before .before .before .before .before .before .before .before .before .args .f .now) (c .before .before .before .before .before .before .before .before .before .before .before .before .before .before .before .before .args .k)) (c .before .before .before .before .before .before .before .before .before .before .before .before .before .before .before .before .args .levels) (c .before .before .before .before .before .before .before .before .before .before .before .before .before .before .before .before .args .q) (c .before .before .before .before .before .before .before .before .before .before .before .before .before .before .before .before .args .i) (c .before .before .before .before .before .before .before .before .before .is-zero .result) (c .before .before .before .before .before .before .before .before .before .before .before .rule-attributes .result) _ (c .before .before .before .before .before .before .before .before .before .is-zero .ensures) (c .before .before .before .before .before .before .before .before .before .before .before .rule-attributes .ensures) (c .before .before .before .before .before .before .before .before .if1 .left)) (zero-test (c .before .before .before .before .before .before .before .before .before .before .before .before .before .before .before .before .args .by .symbol) (c .before .before .before .before .before .before .before .before .before .before .before .before .before .before .before .before .args .by .state) (tree (c .before .before .before .before .before .before .before .before .before .before .before .before .before .before .before .before .args .f .now) (c .before .before .before .before .before .before .before .before .before .before .before .before .before .before .before .before .args .k)) (c .before .before .before .before .before .before .before .before .before .before .before .before .before .before .before .before .args .levels) (c .before .before .before .before .before .before .before .before .before .before .before .before .before .before .before .before .args .q) (c .before .before .before .before .before .before .before .before .before .before .before .before .end-of .result) (c .before .before .before .before .before .before .before .is-zero2 .result) (c .before .before .before .before .before .before .before .before .before .before .rule-attributes2 .result) _ (c .before .before .before .before .before .before .before .is-zero2 .ensures) (c .before .before .before .before .before .before .before .before .before .before .rule-attributes2 .ensures) (c .before .before .before .before .before .before .if2 .left)) (one-test (c .before .before .before .before .before .before .before .before .before .before .before .before .before .before .before .before .args .by .symbol) (c .before .before .before .before .before .before .before .before .before .before .before .before .before .before .before .before .args .by .state) (tree (c .before .before .before .before .before .before .before .before .before .before .before .before .before .before .before .before .args .f .now) (c .before .before .before .before .before .before .before .before .before .before .before .before .before .before .before .before .args .k)) (c .before .before .before .before .before .before .before .before .before .before .before .before .before .before .before .before .args .levels) (c .before .before .before .before .before .before .before .before .before .before .before .before .before .before .before .before .args .q) (c .before .before .before .before .before .before .before .before .before .before .before .before .before .before .before .before .args .i) (c .before .before .before .before .before .is-one .result) (c .before .before .before .before .before .before .before .before .before .before .before .rule-attributes .result) _ (c .before .before .before .before .before .is-one .ensures) (c .before .before .before .before .before .before .before .before .before .before .before .rule-attributes .ensures) (c .before .before .before .before .if3 .taken))) (c .before .before .write-rule .ensures)
+write-product-returns-3 : (t : ℕ) → write-product-lts.Need-returns-3 (write-product-calls t) (write-product-at t) write-product.Post
+write-product-returns-3 t c =
+    let args = c .before .before .before .before .before .before .before .before .before .before .before .before .before .before .before .before .args in
+    let end-of = c .before .before .before .before .before .before .before .before .before .before .before .before .end-of in
+    let rule-attributes = c .before .before .before .before .before .before .before .before .before .before .before .rule-attributes in
+    let rule-attributes2 = c .before .before .before .before .before .before .before .before .before .before .rule-attributes2 in
+    let is-zero = c .before .before .before .before .before .before .before .before .before .is-zero in
+    let if1 = c .before .before .before .before .before .before .before .before .if1 in
+    let is-zero2 = c .before .before .before .before .before .before .before .is-zero2 in
+    let if2 = c .before .before .before .before .before .before .if2 in
+    let is-one = c .before .before .before .before .before .is-one in
+    let if3 = c .before .before .before .before .if3 in
+    let write-rule = c .before .before .write-rule in
+    let the-tree = tree (args .f .now) (args .k) in
+    as-text _ _ _ _ _
+    (one-left (args .by .symbol) (args .by .state) the-tree (args .levels) (args .q) (args .i) (end-of .result) (end-of .ensures)
+    (zero-test (args .by .symbol) (args .by .state) the-tree (args .levels) (args .q) (args .i) (is-zero .result) (rule-attributes .result) _
+    (is-zero .ensures) (rule-attributes .ensures) (if1 .left))
+    (zero-test (args .by .symbol) (args .by .state) the-tree (args .levels) (args .q) (end-of .result) (is-zero2 .result) (rule-attributes2 .result) _
+    (is-zero2 .ensures) (rule-attributes2 .ensures) (if2 .left))
+    (one-test (args .by .symbol) (args .by .state) the-tree (args .levels) (args .q) (args .i) (is-one .result) (rule-attributes .result) _
+    (is-one .ensures) (rule-attributes .ensures) (if3 .taken)))
+    (write-rule .ensures)
 
-write-product-is-one-requires-2 : (t : ℕ) → write-product-lts.Need-is-one-requires-2 (
-  end-of-reads.Asked,
-  end-of-reads.Learnt,
-  rule-attributes-reads.Asked,
-  rule-attributes-reads.Learnt,
-  is-zero-reads.Asked,
-  is-zero-reads.Learnt,
-  put-literal-reads.Asked,
-  put-literal-reads.Learnt,
-  is-one-reads.Asked,
-  is-one-reads.Learnt,
-  write-rule-below t,
-  write-rule.Post,
-  write-node-below t,
-  write-node.Post,
-) (write-product-at t) write-product.Post
+write-product-is-one-requires-2 : (t : ℕ) → write-product-lts.Need-is-one-requires-2 (write-product-calls t) (write-product-at t) write-product.Post
 write-product-is-one-requires-2 t c κs = search needs
 
-write-product-write-rule-requires-2 : (t : ℕ) → write-product-lts.Need-write-rule-requires-2 (
-  end-of-reads.Asked,
-  end-of-reads.Learnt,
-  rule-attributes-reads.Asked,
-  rule-attributes-reads.Learnt,
-  is-zero-reads.Asked,
-  is-zero-reads.Learnt,
-  put-literal-reads.Asked,
-  put-literal-reads.Learnt,
-  is-one-reads.Asked,
-  is-one-reads.Learnt,
-  write-rule-below t,
-  write-rule.Post,
-  write-node-below t,
-  write-node.Post,
-) (write-product-at t) write-product.Post
-write-product-write-rule-requires-2 t c κs = (omega (arith, c .before .before .before .before .before .before .before .before .before .before .before .before .before .before .before .pre .0), task-as (c .before .before .before .before .before .before .before .before .before .before .before .before .before .before .before .args .by .symbol) (c .before .before .before .before .before .before .before .before .before .before .before .before .before .before .before .args .by .state) (c .before .before .before .before .before .before .before .before .before .before .before .before .before .before .before .args .f .now) (c .before .before .before .before .before .before .before .before .before .before .before .before .before .before .before .args .table .now) (c .before .before .before .before .before .before .before .before .before .before .before .before .before .before .before .args .k) (c .before .before .before .before .before .before .before .before .before .before .before .before .before .before .before .args .depth) _ _ (c .before .before .before .before .before .before .before .before .before .before .before .before .before .before .before .args .out .now) (one-right (c .before .before .before .before .before .before .before .before .before .before .before .before .before .before .before .args .by .symbol) (c .before .before .before .before .before .before .before .before .before .before .before .before .before .before .before .args .by .state) (tree (c .before .before .before .before .before .before .before .before .before .before .before .before .before .before .before .args .f .now) (c .before .before .before .before .before .before .before .before .before .before .before .before .before .before .before .args .k)) (c .before .before .before .before .before .before .before .before .before .before .before .before .before .before .before .args .levels) (c .before .before .before .before .before .before .before .before .before .before .before .before .before .before .before .args .q) (c .before .before .before .before .before .before .before .before .before .before .before .before .before .before .before .args .i) (c .before .before .before .before .before .before .before .before .before .before .before .end-of .result) (c .before .before .before .before .before .before .before .before .before .before .before .end-of .ensures) (zero-test (c .before .before .before .before .before .before .before .before .before .before .before .before .before .before .before .args .by .symbol) (c .before .before .before .before .before .before .before .before .before .before .before .before .before .before .before .args .by .state) (tree (c .before .before .before .before .before .before .before .before .before .before .before .before .before .before .before .args .f .now) (c .before .before .before .before .before .before .before .before .before .before .before .before .before .before .before .args .k)) (c .before .before .before .before .before .before .before .before .before .before .before .before .before .before .before .args .levels) (c .before .before .before .before .before .before .before .before .before .before .before .before .before .before .before .args .q) (c .before .before .before .before .before .before .before .before .before .before .before .before .before .before .before .args .i) (c .before .before .before .before .before .before .before .before .is-zero .result) (c .before .before .before .before .before .before .before .before .before .before .rule-attributes .result) _ (c .before .before .before .before .before .before .before .before .is-zero .ensures) (c .before .before .before .before .before .before .before .before .before .before .rule-attributes .ensures) (c .before .before .before .before .before .before .before .if1 .left)) (zero-test (c .before .before .before .before .before .before .before .before .before .before .before .before .before .before .before .args .by .symbol) (c .before .before .before .before .before .before .before .before .before .before .before .before .before .before .before .args .by .state) (tree (c .before .before .before .before .before .before .before .before .before .before .before .before .before .before .before .args .f .now) (c .before .before .before .before .before .before .before .before .before .before .before .before .before .before .before .args .k)) (c .before .before .before .before .before .before .before .before .before .before .before .before .before .before .before .args .levels) (c .before .before .before .before .before .before .before .before .before .before .before .before .before .before .before .args .q) (c .before .before .before .before .before .before .before .before .before .before .before .end-of .result) (c .before .before .before .before .before .before .is-zero2 .result) (c .before .before .before .before .before .before .before .before .before .rule-attributes2 .result) _ (c .before .before .before .before .before .before .is-zero2 .ensures) (c .before .before .before .before .before .before .before .before .before .rule-attributes2 .ensures) (c .before .before .before .before .before .if2 .left)) (one-test (c .before .before .before .before .before .before .before .before .before .before .before .before .before .before .before .args .by .symbol) (c .before .before .before .before .before .before .before .before .before .before .before .before .before .before .before .args .by .state) (tree (c .before .before .before .before .before .before .before .before .before .before .before .before .before .before .before .args .f .now) (c .before .before .before .before .before .before .before .before .before .before .before .before .before .before .before .args .k)) (c .before .before .before .before .before .before .before .before .before .before .before .before .before .before .before .args .levels) (c .before .before .before .before .before .before .before .before .before .before .before .before .before .before .before .args .q) (c .before .before .before .before .before .before .before .before .before .before .before .before .before .before .before .args .i) (c .before .before .before .before .is-one .result) (c .before .before .before .before .before .before .before .before .before .before .rule-attributes .result) _ (c .before .before .before .before .is-one .ensures) (c .before .before .before .before .before .before .before .before .before .before .rule-attributes .ensures) (c .before .before .before .if3 .left)) (one-test (c .before .before .before .before .before .before .before .before .before .before .before .before .before .before .before .args .by .symbol) (c .before .before .before .before .before .before .before .before .before .before .before .before .before .before .before .args .by .state) (tree (c .before .before .before .before .before .before .before .before .before .before .before .before .before .before .before .args .f .now) (c .before .before .before .before .before .before .before .before .before .before .before .before .before .before .before .args .k)) (c .before .before .before .before .before .before .before .before .before .before .before .before .before .before .before .args .levels) (c .before .before .before .before .before .before .before .before .before .before .before .before .before .before .before .args .q) (c .before .before .before .before .before .before .before .before .before .before .before .end-of .result) (c .before .before .is-one2 .result) (c .before .before .before .before .before .before .before .before .before .rule-attributes2 .result) _ (c .before .before .is-one2 .ensures) (c .before .before .before .before .before .before .before .before .before .rule-attributes2 .ensures) (c .before .if4 .taken))) (c .before .before .before .before .before .before .before .before .before .before .before .before .before .before .before .pre .1))
+write-product-write-rule-requires-2 : (t : ℕ) → write-product-lts.Need-write-rule-requires-2 (write-product-calls t) (write-product-at t) write-product.Post
+write-product-write-rule-requires-2 t c κs =
+    let args = c .before .before .before .before .before .before .before .before .before .before .before .before .before .before .before .args in
+    let pre = c .before .before .before .before .before .before .before .before .before .before .before .before .before .before .before .pre in
+    let end-of = c .before .before .before .before .before .before .before .before .before .before .before .end-of in
+    let rule-attributes = c .before .before .before .before .before .before .before .before .before .before .rule-attributes in
+    let rule-attributes2 = c .before .before .before .before .before .before .before .before .before .rule-attributes2 in
+    let is-zero = c .before .before .before .before .before .before .before .before .is-zero in
+    let if1 = c .before .before .before .before .before .before .before .if1 in
+    let is-zero2 = c .before .before .before .before .before .before .is-zero2 in
+    let if2 = c .before .before .before .before .before .if2 in
+    let is-one = c .before .before .before .before .is-one in
+    let if3 = c .before .before .before .if3 in
+    let is-one2 = c .before .before .is-one2 in
+    let the-tree = tree (args .f .now) (args .k) in (
+      omega (arith, pre .0),
+      task-as (args .by .symbol) (args .by .state) (args .f .now) (args .table .now) (args .k) (args .depth) _ _ (args .out .now)
+          (one-right (args .by .symbol) (args .by .state) the-tree (args .levels) (args .q) (args .i) (end-of .result) (end-of .ensures)
+          (zero-test (args .by .symbol) (args .by .state) the-tree (args .levels) (args .q) (args .i) (is-zero .result) (rule-attributes .result) _
+          (is-zero .ensures) (rule-attributes .ensures) (if1 .left))
+          (zero-test (args .by .symbol) (args .by .state) the-tree (args .levels) (args .q) (end-of .result) (is-zero2 .result) (rule-attributes2 .result) _
+          (is-zero2 .ensures) (rule-attributes2 .ensures) (if2 .left))
+          (one-test (args .by .symbol) (args .by .state) the-tree (args .levels) (args .q) (args .i) (is-one .result) (rule-attributes .result) _
+          (is-one .ensures) (rule-attributes .ensures) (if3 .left))
+          (one-test (args .by .symbol) (args .by .state) the-tree (args .levels) (args .q) (end-of .result) (is-one2 .result) (rule-attributes2 .result) _
+          (is-one2 .ensures) (rule-attributes2 .ensures) (c .before .if4 .taken)))
+          (pre .1),
+    )
 
-write-product-same-length-4 : (t : ℕ) → write-product-lts.Need-same-length-4 (
-  end-of-reads.Asked,
-  end-of-reads.Learnt,
-  rule-attributes-reads.Asked,
-  rule-attributes-reads.Learnt,
-  is-zero-reads.Asked,
-  is-zero-reads.Learnt,
-  put-literal-reads.Asked,
-  put-literal-reads.Learnt,
-  is-one-reads.Asked,
-  is-one-reads.Learnt,
-  write-rule-below t,
-  write-rule.Post,
-  write-node-below t,
-  write-node.Post,
-) (write-product-at t) write-product.Post
+write-product-same-length-4 : (t : ℕ) → write-product-lts.Need-same-length-4 (write-product-calls t) (write-product-at t) write-product.Post
 write-product-same-length-4 t c = c .before .before .write-rule2 .kept .1 .1 .1 .1 .1 .1 .1 .1 .0
 
-write-product-returns-4 : (t : ℕ) → write-product-lts.Need-returns-4 (
-  end-of-reads.Asked,
-  end-of-reads.Learnt,
-  rule-attributes-reads.Asked,
-  rule-attributes-reads.Learnt,
-  is-zero-reads.Asked,
-  is-zero-reads.Learnt,
-  put-literal-reads.Asked,
-  put-literal-reads.Learnt,
-  is-one-reads.Asked,
-  is-one-reads.Learnt,
-  write-rule-below t,
-  write-rule.Post,
-  write-node-below t,
-  write-node.Post,
-) (write-product-at t) write-product.Post
-write-product-returns-4 t c = as-text _ _ _ _ _ (one-right (c .before .before .before .before .before .before .before .before .before .before .before .before .before .before .before .before .before .before .args .by .symbol) (c .before .before .before .before .before .before .before .before .before .before .before .before .before .before .before .before .before .before .args .by .state) (tree (c .before .before .before .before .before .before .before .before .before .before .before .before .before .before .before .before .before .before .args .f .now) (c .before .before .before .before .before .before .before .before .before .before .before .before .before .before .before .before .before .before .args .k)) (c .before .before .before .before .before .before .before .before .before .before .before .before .before .before .before .before .before .before .args .levels) (c .before .before .before .before .before .before .before .before .before .before .before .before .before .before .before .before .before .before .args .q) (c .before .before .before .before .before .before .before .before .before .before .before .before .before .before .before .before .before .before .args .i) (c .before .before .before .before .before .before .before .before .before .before .before .before .before .before .end-of .result) (c .before .before .before .before .before .before .before .before .before .before .before .before .before .before .end-of .ensures) (zero-test (c .before .before .before .before .before .before .before .before .before .before .before .before .before .before .before .before .before .before .args .by .symbol) (c .before .before .before .before .before .before .before .before .before .before .before .before .before .before .before .before .before .before .args .by .state) (tree (c .before .before .before .before .before .before .before .before .before .before .before .before .before .before .before .before .before .before .args .f .now) (c .before .before .before .before .before .before .before .before .before .before .before .before .before .before .before .before .before .before .args .k)) (c .before .before .before .before .before .before .before .before .before .before .before .before .before .before .before .before .before .before .args .levels) (c .before .before .before .before .before .before .before .before .before .before .before .before .before .before .before .before .before .before .args .q) (c .before .before .before .before .before .before .before .before .before .before .before .before .before .before .before .before .before .before .args .i) (c .before .before .before .before .before .before .before .before .before .before .before .is-zero .result) (c .before .before .before .before .before .before .before .before .before .before .before .before .before .rule-attributes .result) _ (c .before .before .before .before .before .before .before .before .before .before .before .is-zero .ensures) (c .before .before .before .before .before .before .before .before .before .before .before .before .before .rule-attributes .ensures) (c .before .before .before .before .before .before .before .before .before .before .if1 .left)) (zero-test (c .before .before .before .before .before .before .before .before .before .before .before .before .before .before .before .before .before .before .args .by .symbol) (c .before .before .before .before .before .before .before .before .before .before .before .before .before .before .before .before .before .before .args .by .state) (tree (c .before .before .before .before .before .before .before .before .before .before .before .before .before .before .before .before .before .before .args .f .now) (c .before .before .before .before .before .before .before .before .before .before .before .before .before .before .before .before .before .before .args .k)) (c .before .before .before .before .before .before .before .before .before .before .before .before .before .before .before .before .before .before .args .levels) (c .before .before .before .before .before .before .before .before .before .before .before .before .before .before .before .before .before .before .args .q) (c .before .before .before .before .before .before .before .before .before .before .before .before .before .before .end-of .result) (c .before .before .before .before .before .before .before .before .before .is-zero2 .result) (c .before .before .before .before .before .before .before .before .before .before .before .before .rule-attributes2 .result) _ (c .before .before .before .before .before .before .before .before .before .is-zero2 .ensures) (c .before .before .before .before .before .before .before .before .before .before .before .before .rule-attributes2 .ensures) (c .before .before .before .before .before .before .before .before .if2 .left)) (one-test (c .before .before .before .before .before .before .before .before .before .before .before .before .before .before .before .before .before .before .args .by .symbol) (c .before .before .before .before .before .before .before .before .before .before .before .before .before .before .before .before .before .before .args .by .state) (tree (c .before .before .before .before .before .before .before .before .before .before .before .before .before .before .before .before .before .before .args .f .now) (c .before .before .before .before .before .before .before .before .before .before .before .before .before .before .before .before .before .before .args .k)) (c .before .before .before .before .before .before .before .before .before .before .before .before .before .before .before .before .before .before .args .levels) (c .before .before .before .before .before .before .before .before .before .before .before .before .before .before .before .before .before .before .args .q) (c .before .before .before .before .before .before .before .before .before .before .before .before .before .before .before .before .before .before .args .i) (c .before .before .before .before .before .before .before .is-one .result) (c .before .before .before .before .before .before .before .before .before .before .before .before .before .rule-attributes .result) _ (c .before .before .before .before .before .before .before .is-one .ensures) (c .before .before .before .before .before .before .before .before .before .before .before .before .before .rule-attributes .ensures) (c .before .before .before .before .before .before .if3 .left)) (one-test (c .before .before .before .before .before .before .before .before .before .before .before .before .before .before .before .before .before .before .args .by .symbol) (c .before .before .before .before .before .before .before .before .before .before .before .before .before .before .before .before .before .before .args .by .state) (tree (c .before .before .before .before .before .before .before .before .before .before .before .before .before .before .before .before .before .before .args .f .now) (c .before .before .before .before .before .before .before .before .before .before .before .before .before .before .before .before .before .before .args .k)) (c .before .before .before .before .before .before .before .before .before .before .before .before .before .before .before .before .before .before .args .levels) (c .before .before .before .before .before .before .before .before .before .before .before .before .before .before .before .before .before .before .args .q) (c .before .before .before .before .before .before .before .before .before .before .before .before .before .before .end-of .result) (c .before .before .before .before .before .is-one2 .result) (c .before .before .before .before .before .before .before .before .before .before .before .before .rule-attributes2 .result) _ (c .before .before .before .before .before .is-one2 .ensures) (c .before .before .before .before .before .before .before .before .before .before .before .before .rule-attributes2 .ensures) (c .before .before .before .before .if4 .taken))) (c .before .before .write-rule2 .ensures)
+write-product-returns-4 : (t : ℕ) → write-product-lts.Need-returns-4 (write-product-calls t) (write-product-at t) write-product.Post
+write-product-returns-4 t c =
+    let args = c .before .before .before .before .before .before .before .before .before .before .before .before .before .before .before .before .before .before .args in
+    let end-of = c .before .before .before .before .before .before .before .before .before .before .before .before .before .before .end-of in
+    let rule-attributes = c .before .before .before .before .before .before .before .before .before .before .before .before .before .rule-attributes in
+    let rule-attributes2 = c .before .before .before .before .before .before .before .before .before .before .before .before .rule-attributes2 in
+    let is-zero = c .before .before .before .before .before .before .before .before .before .before .before .is-zero in
+    let if1 = c .before .before .before .before .before .before .before .before .before .before .if1 in
+    let is-zero2 = c .before .before .before .before .before .before .before .before .before .is-zero2 in
+    let if2 = c .before .before .before .before .before .before .before .before .if2 in
+    let is-one = c .before .before .before .before .before .before .before .is-one in
+    let if3 = c .before .before .before .before .before .before .if3 in
+    let is-one2 = c .before .before .before .before .before .is-one2 in
+    let if4 = c .before .before .before .before .if4 in
+    let write-rule2 = c .before .before .write-rule2 in
+    let the-tree = tree (args .f .now) (args .k) in
+    as-text _ _ _ _ _
+    (one-right (args .by .symbol) (args .by .state) the-tree (args .levels) (args .q) (args .i) (end-of .result) (end-of .ensures)
+    (zero-test (args .by .symbol) (args .by .state) the-tree (args .levels) (args .q) (args .i) (is-zero .result) (rule-attributes .result) _
+    (is-zero .ensures) (rule-attributes .ensures) (if1 .left))
+    (zero-test (args .by .symbol) (args .by .state) the-tree (args .levels) (args .q) (end-of .result) (is-zero2 .result) (rule-attributes2 .result) _
+    (is-zero2 .ensures) (rule-attributes2 .ensures) (if2 .left))
+    (one-test (args .by .symbol) (args .by .state) the-tree (args .levels) (args .q) (args .i) (is-one .result) (rule-attributes .result) _
+    (is-one .ensures) (rule-attributes .ensures) (if3 .left))
+    (one-test (args .by .symbol) (args .by .state) the-tree (args .levels) (args .q) (end-of .result) (is-one2 .result) (rule-attributes2 .result) _
+    (is-one2 .ensures) (rule-attributes2 .ensures) (if4 .taken)))
+    (write-rule2 .ensures)
 
-write-product-write-node-requires : (t : ℕ) → write-product-lts.Need-write-node-requires (
-  end-of-reads.Asked,
-  end-of-reads.Learnt,
-  rule-attributes-reads.Asked,
-  rule-attributes-reads.Learnt,
-  is-zero-reads.Asked,
-  is-zero-reads.Learnt,
-  put-literal-reads.Asked,
-  put-literal-reads.Learnt,
-  is-one-reads.Asked,
-  is-one-reads.Learnt,
-  write-rule-below t,
-  write-rule.Post,
-  write-node-below t,
-  write-node.Post,
-) (write-product-at t) write-product.Post
-write-product-write-node-requires t c κs = (omega (arith, c .before .before .before .before .before .before .before .before .before .before .before .before .before .before .before .pre .0), (record { kind-byte = omega arith; operator-byte = omega arith; few = omega arith }, task-as (c .before .before .before .before .before .before .before .before .before .before .before .before .before .before .before .args .by .symbol) (c .before .before .before .before .before .before .before .before .before .before .before .before .before .before .before .args .by .state) (c .before .before .before .before .before .before .before .before .before .before .before .before .before .before .before .args .f .now) (c .before .before .before .before .before .before .before .before .before .before .before .before .before .before .before .args .table .now) (c .before .before .before .before .before .before .before .before .before .before .before .before .before .before .before .args .k) (c .before .before .before .before .before .before .before .before .before .before .before .before .before .before .before .args .depth) _ _ (c .before .before .before .before .before .before .before .before .before .before .before .before .before .before .before .args .out .now) (product-kept (c .before .before .before .before .before .before .before .before .before .before .before .before .before .before .before .args .by .symbol) (c .before .before .before .before .before .before .before .before .before .before .before .before .before .before .before .args .by .state) (tree (c .before .before .before .before .before .before .before .before .before .before .before .before .before .before .before .args .f .now) (c .before .before .before .before .before .before .before .before .before .before .before .before .before .before .before .args .k)) (c .before .before .before .before .before .before .before .before .before .before .before .before .before .before .before .args .levels) (c .before .before .before .before .before .before .before .before .before .before .before .before .before .before .before .args .q) (c .before .before .before .before .before .before .before .before .before .before .before .before .before .before .before .args .i) (c .before .before .before .before .before .before .before .before .before .before .before .end-of .result) (c .before .before .before .before .before .before .before .before .before .before .before .end-of .ensures) (zero-test (c .before .before .before .before .before .before .before .before .before .before .before .before .before .before .before .args .by .symbol) (c .before .before .before .before .before .before .before .before .before .before .before .before .before .before .before .args .by .state) (tree (c .before .before .before .before .before .before .before .before .before .before .before .before .before .before .before .args .f .now) (c .before .before .before .before .before .before .before .before .before .before .before .before .before .before .before .args .k)) (c .before .before .before .before .before .before .before .before .before .before .before .before .before .before .before .args .levels) (c .before .before .before .before .before .before .before .before .before .before .before .before .before .before .before .args .q) (c .before .before .before .before .before .before .before .before .before .before .before .before .before .before .before .args .i) (c .before .before .before .before .before .before .before .before .is-zero .result) (c .before .before .before .before .before .before .before .before .before .before .rule-attributes .result) _ (c .before .before .before .before .before .before .before .before .is-zero .ensures) (c .before .before .before .before .before .before .before .before .before .before .rule-attributes .ensures) (c .before .before .before .before .before .before .before .if1 .left)) (zero-test (c .before .before .before .before .before .before .before .before .before .before .before .before .before .before .before .args .by .symbol) (c .before .before .before .before .before .before .before .before .before .before .before .before .before .before .before .args .by .state) (tree (c .before .before .before .before .before .before .before .before .before .before .before .before .before .before .before .args .f .now) (c .before .before .before .before .before .before .before .before .before .before .before .before .before .before .before .args .k)) (c .before .before .before .before .before .before .before .before .before .before .before .before .before .before .before .args .levels) (c .before .before .before .before .before .before .before .before .before .before .before .before .before .before .before .args .q) (c .before .before .before .before .before .before .before .before .before .before .before .end-of .result) (c .before .before .before .before .before .before .is-zero2 .result) (c .before .before .before .before .before .before .before .before .before .rule-attributes2 .result) _ (c .before .before .before .before .before .before .is-zero2 .ensures) (c .before .before .before .before .before .before .before .before .before .rule-attributes2 .ensures) (c .before .before .before .before .before .if2 .left)) (one-test (c .before .before .before .before .before .before .before .before .before .before .before .before .before .before .before .args .by .symbol) (c .before .before .before .before .before .before .before .before .before .before .before .before .before .before .before .args .by .state) (tree (c .before .before .before .before .before .before .before .before .before .before .before .before .before .before .before .args .f .now) (c .before .before .before .before .before .before .before .before .before .before .before .before .before .before .before .args .k)) (c .before .before .before .before .before .before .before .before .before .before .before .before .before .before .before .args .levels) (c .before .before .before .before .before .before .before .before .before .before .before .before .before .before .before .args .q) (c .before .before .before .before .before .before .before .before .before .before .before .before .before .before .before .args .i) (c .before .before .before .before .is-one .result) (c .before .before .before .before .before .before .before .before .before .before .rule-attributes .result) _ (c .before .before .before .before .is-one .ensures) (c .before .before .before .before .before .before .before .before .before .before .rule-attributes .ensures) (c .before .before .before .if3 .left)) (one-test (c .before .before .before .before .before .before .before .before .before .before .before .before .before .before .before .args .by .symbol) (c .before .before .before .before .before .before .before .before .before .before .before .before .before .before .before .args .by .state) (tree (c .before .before .before .before .before .before .before .before .before .before .before .before .before .before .before .args .f .now) (c .before .before .before .before .before .before .before .before .before .before .before .before .before .before .before .args .k)) (c .before .before .before .before .before .before .before .before .before .before .before .before .before .before .before .args .levels) (c .before .before .before .before .before .before .before .before .before .before .before .before .before .before .before .args .q) (c .before .before .before .before .before .before .before .before .before .before .before .end-of .result) (c .before .before .is-one2 .result) (c .before .before .before .before .before .before .before .before .before .rule-attributes2 .result) _ (c .before .before .is-one2 .ensures) (c .before .before .before .before .before .before .before .before .before .rule-attributes2 .ensures) (c .before .if4 .left))) (c .before .before .before .before .before .before .before .before .before .before .before .before .before .before .before .pre .1)))
+write-product-write-node-requires : (t : ℕ) → write-product-lts.Need-write-node-requires (write-product-calls t) (write-product-at t) write-product.Post
+write-product-write-node-requires t c κs =
+    let args = c .before .before .before .before .before .before .before .before .before .before .before .before .before .before .before .args in
+    let pre = c .before .before .before .before .before .before .before .before .before .before .before .before .before .before .before .pre in
+    let end-of = c .before .before .before .before .before .before .before .before .before .before .before .end-of in
+    let rule-attributes = c .before .before .before .before .before .before .before .before .before .before .rule-attributes in
+    let rule-attributes2 = c .before .before .before .before .before .before .before .before .before .rule-attributes2 in
+    let is-zero = c .before .before .before .before .before .before .before .before .is-zero in
+    let if1 = c .before .before .before .before .before .before .before .if1 in
+    let is-zero2 = c .before .before .before .before .before .before .is-zero2 in
+    let if2 = c .before .before .before .before .before .if2 in
+    let is-one = c .before .before .before .before .is-one in
+    let if3 = c .before .before .before .if3 in
+    let is-one2 = c .before .before .is-one2 in
+    let the-tree = tree (args .f .now) (args .k) in (
+      omega (arith, pre .0),
+      (
+        record { kind-byte = omega arith; operator-byte = omega arith; few = omega arith },
+        task-as (args .by .symbol) (args .by .state) (args .f .now) (args .table .now) (args .k) (args .depth) _ _ (args .out .now)
+            (product-kept (args .by .symbol) (args .by .state) the-tree (args .levels) (args .q) (args .i) (end-of .result) (end-of .ensures)
+            (zero-test (args .by .symbol) (args .by .state) the-tree (args .levels) (args .q) (args .i) (is-zero .result) (rule-attributes .result) _
+            (is-zero .ensures) (rule-attributes .ensures) (if1 .left))
+            (zero-test (args .by .symbol) (args .by .state) the-tree (args .levels) (args .q) (end-of .result) (is-zero2 .result) (rule-attributes2 .result) _
+            (is-zero2 .ensures) (rule-attributes2 .ensures) (if2 .left))
+            (one-test (args .by .symbol) (args .by .state) the-tree (args .levels) (args .q) (args .i) (is-one .result) (rule-attributes .result) _
+            (is-one .ensures) (rule-attributes .ensures) (if3 .left))
+            (one-test (args .by .symbol) (args .by .state) the-tree (args .levels) (args .q) (end-of .result) (is-one2 .result) (rule-attributes2 .result) _
+            (is-one2 .ensures) (rule-attributes2 .ensures) (c .before .if4 .left)))
+            (pre .1),
+      ),
+    )
 
-write-product-same-length-5 : (t : ℕ) → write-product-lts.Need-same-length-5 (
-  end-of-reads.Asked,
-  end-of-reads.Learnt,
-  rule-attributes-reads.Asked,
-  rule-attributes-reads.Learnt,
-  is-zero-reads.Asked,
-  is-zero-reads.Learnt,
-  put-literal-reads.Asked,
-  put-literal-reads.Learnt,
-  is-one-reads.Asked,
-  is-one-reads.Learnt,
-  write-rule-below t,
-  write-rule.Post,
-  write-node-below t,
-  write-node.Post,
-) (write-product-at t) write-product.Post
+write-product-same-length-5 : (t : ℕ) → write-product-lts.Need-same-length-5 (write-product-calls t) (write-product-at t) write-product.Post
 write-product-same-length-5 t c = c .before .before .write-node .kept .1 .1 .1 .1 .1 .1 .1 .1 .1 .1 .1 .0
 
-write-product-returns-5 : (t : ℕ) → write-product-lts.Need-returns-5 (
-  end-of-reads.Asked,
-  end-of-reads.Learnt,
-  rule-attributes-reads.Asked,
-  rule-attributes-reads.Learnt,
-  is-zero-reads.Asked,
-  is-zero-reads.Learnt,
-  put-literal-reads.Asked,
-  put-literal-reads.Learnt,
-  is-one-reads.Asked,
-  is-one-reads.Learnt,
-  write-rule-below t,
-  write-rule.Post,
-  write-node-below t,
-  write-node.Post,
-) (write-product-at t) write-product.Post
-write-product-returns-5 t c = as-text _ _ _ _ _ (product-kept (c .before .before .before .before .before .before .before .before .before .before .before .before .before .before .before .before .before .before .args .by .symbol) (c .before .before .before .before .before .before .before .before .before .before .before .before .before .before .before .before .before .before .args .by .state) (tree (c .before .before .before .before .before .before .before .before .before .before .before .before .before .before .before .before .before .before .args .f .now) (c .before .before .before .before .before .before .before .before .before .before .before .before .before .before .before .before .before .before .args .k)) (c .before .before .before .before .before .before .before .before .before .before .before .before .before .before .before .before .before .before .args .levels) (c .before .before .before .before .before .before .before .before .before .before .before .before .before .before .before .before .before .before .args .q) (c .before .before .before .before .before .before .before .before .before .before .before .before .before .before .before .before .before .before .args .i) (c .before .before .before .before .before .before .before .before .before .before .before .before .before .before .end-of .result) (c .before .before .before .before .before .before .before .before .before .before .before .before .before .before .end-of .ensures) (zero-test (c .before .before .before .before .before .before .before .before .before .before .before .before .before .before .before .before .before .before .args .by .symbol) (c .before .before .before .before .before .before .before .before .before .before .before .before .before .before .before .before .before .before .args .by .state) (tree (c .before .before .before .before .before .before .before .before .before .before .before .before .before .before .before .before .before .before .args .f .now) (c .before .before .before .before .before .before .before .before .before .before .before .before .before .before .before .before .before .before .args .k)) (c .before .before .before .before .before .before .before .before .before .before .before .before .before .before .before .before .before .before .args .levels) (c .before .before .before .before .before .before .before .before .before .before .before .before .before .before .before .before .before .before .args .q) (c .before .before .before .before .before .before .before .before .before .before .before .before .before .before .before .before .before .before .args .i) (c .before .before .before .before .before .before .before .before .before .before .before .is-zero .result) (c .before .before .before .before .before .before .before .before .before .before .before .before .before .rule-attributes .result) _ (c .before .before .before .before .before .before .before .before .before .before .before .is-zero .ensures) (c .before .before .before .before .before .before .before .before .before .before .before .before .before .rule-attributes .ensures) (c .before .before .before .before .before .before .before .before .before .before .if1 .left)) (zero-test (c .before .before .before .before .before .before .before .before .before .before .before .before .before .before .before .before .before .before .args .by .symbol) (c .before .before .before .before .before .before .before .before .before .before .before .before .before .before .before .before .before .before .args .by .state) (tree (c .before .before .before .before .before .before .before .before .before .before .before .before .before .before .before .before .before .before .args .f .now) (c .before .before .before .before .before .before .before .before .before .before .before .before .before .before .before .before .before .before .args .k)) (c .before .before .before .before .before .before .before .before .before .before .before .before .before .before .before .before .before .before .args .levels) (c .before .before .before .before .before .before .before .before .before .before .before .before .before .before .before .before .before .before .args .q) (c .before .before .before .before .before .before .before .before .before .before .before .before .before .before .end-of .result) (c .before .before .before .before .before .before .before .before .before .is-zero2 .result) (c .before .before .before .before .before .before .before .before .before .before .before .before .rule-attributes2 .result) _ (c .before .before .before .before .before .before .before .before .before .is-zero2 .ensures) (c .before .before .before .before .before .before .before .before .before .before .before .before .rule-attributes2 .ensures) (c .before .before .before .before .before .before .before .before .if2 .left)) (one-test (c .before .before .before .before .before .before .before .before .before .before .before .before .before .before .before .before .before .before .args .by .symbol) (c .before .before .before .before .before .before .before .before .before .before .before .before .before .before .before .before .before .before .args .by .state) (tree (c .before .before .before .before .before .before .before .before .before .before .before .before .before .before .before .before .before .before .args .f .now) (c .before .before .before .before .before .before .before .before .before .before .before .before .before .before .before .before .before .before .args .k)) (c .before .before .before .before .before .before .before .before .before .before .before .before .before .before .before .before .before .before .args .levels) (c .before .before .before .before .before .before .before .before .before .before .before .before .before .before .before .before .before .before .args .q) (c .before .before .before .before .before .before .before .before .before .before .before .before .before .before .before .before .before .before .args .i) (c .before .before .before .before .before .before .before .is-one .result) (c .before .before .before .before .before .before .before .before .before .before .before .before .before .rule-attributes .result) _ (c .before .before .before .before .before .before .before .is-one .ensures) (c .before .before .before .before .before .before .before .before .before .before .before .before .before .rule-attributes .ensures) (c .before .before .before .before .before .before .if3 .left)) (one-test (c .before .before .before .before .before .before .before .before .before .before .before .before .before .before .before .before .before .before .args .by .symbol) (c .before .before .before .before .before .before .before .before .before .before .before .before .before .before .before .before .before .before .args .by .state) (tree (c .before .before .before .before .before .before .before .before .before .before .before .before .before .before .before .before .before .before .args .f .now) (c .before .before .before .before .before .before .before .before .before .before .before .before .before .before .before .before .before .before .args .k)) (c .before .before .before .before .before .before .before .before .before .before .before .before .before .before .before .before .before .before .args .levels) (c .before .before .before .before .before .before .before .before .before .before .before .before .before .before .before .before .before .before .args .q) (c .before .before .before .before .before .before .before .before .before .before .before .before .before .before .end-of .result) (c .before .before .before .before .before .is-one2 .result) (c .before .before .before .before .before .before .before .before .before .before .before .before .rule-attributes2 .result) _ (c .before .before .before .before .before .is-one2 .ensures) (c .before .before .before .before .before .before .before .before .before .before .before .before .rule-attributes2 .ensures) (c .before .before .before .before .if4 .left))) (c .before .before .write-node .ensures)
+write-product-returns-5 : (t : ℕ) → write-product-lts.Need-returns-5 (write-product-calls t) (write-product-at t) write-product.Post
+write-product-returns-5 t c =
+    let args = c .before .before .before .before .before .before .before .before .before .before .before .before .before .before .before .before .before .before .args in
+    let end-of = c .before .before .before .before .before .before .before .before .before .before .before .before .before .before .end-of in
+    let rule-attributes = c .before .before .before .before .before .before .before .before .before .before .before .before .before .rule-attributes in
+    let rule-attributes2 = c .before .before .before .before .before .before .before .before .before .before .before .before .rule-attributes2 in
+    let is-zero = c .before .before .before .before .before .before .before .before .before .before .before .is-zero in
+    let if1 = c .before .before .before .before .before .before .before .before .before .before .if1 in
+    let is-zero2 = c .before .before .before .before .before .before .before .before .before .is-zero2 in
+    let if2 = c .before .before .before .before .before .before .before .before .if2 in
+    let is-one = c .before .before .before .before .before .before .before .is-one in
+    let if3 = c .before .before .before .before .before .before .if3 in
+    let is-one2 = c .before .before .before .before .before .is-one2 in
+    let if4 = c .before .before .before .before .if4 in
+    let write-node = c .before .before .write-node in
+    let the-tree = tree (args .f .now) (args .k) in
+    as-text _ _ _ _ _
+    (product-kept (args .by .symbol) (args .by .state) the-tree (args .levels) (args .q) (args .i) (end-of .result) (end-of .ensures)
+    (zero-test (args .by .symbol) (args .by .state) the-tree (args .levels) (args .q) (args .i) (is-zero .result) (rule-attributes .result) _
+    (is-zero .ensures) (rule-attributes .ensures) (if1 .left))
+    (zero-test (args .by .symbol) (args .by .state) the-tree (args .levels) (args .q) (end-of .result) (is-zero2 .result) (rule-attributes2 .result) _
+    (is-zero2 .ensures) (rule-attributes2 .ensures) (if2 .left))
+    (one-test (args .by .symbol) (args .by .state) the-tree (args .levels) (args .q) (args .i) (is-one .result) (rule-attributes .result) _
+    (is-one .ensures) (rule-attributes .ensures) (if3 .left))
+    (one-test (args .by .symbol) (args .by .state) the-tree (args .levels) (args .q) (end-of .result) (is-one2 .result) (rule-attributes2 .result) _
+    (is-one2 .ensures) (rule-attributes2 .ensures) (if4 .left)))
+    (write-node .ensures)
 
-write-rule-put-literal-requires : (t : ℕ) → write-rule-lts.Need-put-literal-requires (
-  put-literal-reads.Asked,
-  put-literal-reads.Learnt,
-  code-reads.Asked,
-  code-reads.Learnt,
-  wide-reads.Asked,
-  wide-reads.Learnt,
-  literal-bits-reads.Asked,
-  literal-bits-reads.Learnt,
-  put-child-reads.Asked,
-  put-child-reads.Learnt,
-  write-diff-below t,
-  write-diff.Post,
-  put-tree-reads.Asked,
-  put-tree-reads.Learnt,
-  diff-attributes-reads.Asked,
-  diff-attributes-reads.Learnt,
-  is-zero-reads.Asked,
-  is-zero-reads.Learnt,
-  write-rule-below t,
-  write-rule.Post,
-  write-sum-below t,
-  write-sum.Post,
-  write-product-below t,
-  write-product.Post,
-  write-extremum-below t,
-  write-extremum.Post,
-  parts-of-reads.Asked,
-  parts-of-reads.Learnt,
-  write-node-below t,
-  write-node.Post,
-) (write-rule-at t) write-rule.Post
-write-rule-put-literal-requires t c κs = literal-room _ _ 0 (⊎-elim (λ w. text-none (c .before .before .before .before .before .args .by .symbol) (c .before .before .before .before .before .args .by .state) (tree (c .before .before .before .before .before .args .f .now) (c .before .before .before .before .before .args .k)) (c .before .before .before .before .before .args .levels) (c .before .before .before .before .before .args .q) (c .before .before .before .before .before .args .i) (w .taken)) (λ w. text-long (c .before .before .before .before .before .args .by .symbol) (c .before .before .before .before .before .args .by .state) (tree (c .before .before .before .before .before .args .f .now) (c .before .before .before .before .before .args .k)) (c .before .before .before .before .before .args .levels) (c .before .before .before .before .before .args .q) (c .before .before .before .before .before .args .i) (leb-true 128 (c .before .before .before .before .before .args .i) (w .1 .taken))) (c .before .if1 .came)) (c .before .before .before .before .before .pre .1 .room)
+write-rule-put-literal-requires : (t : ℕ) → write-rule-lts.Need-put-literal-requires (write-rule-calls t) (write-rule-at t) write-rule.Post
+write-rule-put-literal-requires t c κs =
+    let args = c .before .before .before .before .before .args in
+    let pre = c .before .before .before .before .before .pre in
+    let the-tree = tree (args .f .now) (args .k) in
+    literal-room _ _ 0
+    (⊎-elim (λ w. text-none (args .by .symbol) (args .by .state) the-tree (args .levels) (args .q) (args .i) (w .taken))
+    (λ w. text-long (args .by .symbol) (args .by .state) the-tree (args .levels) (args .q) (args .i) (leb-true 128 (args .i) (w .1 .taken)))
+    (c .before .if1 .came))
+    (pre .1 .room)
 
-write-rule-same-length : (t : ℕ) → write-rule-lts.Need-same-length (
-  put-literal-reads.Asked,
-  put-literal-reads.Learnt,
-  code-reads.Asked,
-  code-reads.Learnt,
-  wide-reads.Asked,
-  wide-reads.Learnt,
-  literal-bits-reads.Asked,
-  literal-bits-reads.Learnt,
-  put-child-reads.Asked,
-  put-child-reads.Learnt,
-  write-diff-below t,
-  write-diff.Post,
-  put-tree-reads.Asked,
-  put-tree-reads.Learnt,
-  diff-attributes-reads.Asked,
-  diff-attributes-reads.Learnt,
-  is-zero-reads.Asked,
-  is-zero-reads.Learnt,
-  write-rule-below t,
-  write-rule.Post,
-  write-sum-below t,
-  write-sum.Post,
-  write-product-below t,
-  write-product.Post,
-  write-extremum-below t,
-  write-extremum.Post,
-  parts-of-reads.Asked,
-  parts-of-reads.Learnt,
-  write-node-below t,
-  write-node.Post,
-) (write-rule-at t) write-rule.Post
+write-rule-same-length : (t : ℕ) → write-rule-lts.Need-same-length (write-rule-calls t) (write-rule-at t) write-rule.Post
 write-rule-same-length t c = c .before .before .put-literal .kept .1 .0
 
-write-rule-returns : (t : ℕ) → write-rule-lts.Need-returns (
-  put-literal-reads.Asked,
-  put-literal-reads.Learnt,
-  code-reads.Asked,
-  code-reads.Learnt,
-  wide-reads.Asked,
-  wide-reads.Learnt,
-  literal-bits-reads.Asked,
-  literal-bits-reads.Learnt,
-  put-child-reads.Asked,
-  put-child-reads.Learnt,
-  write-diff-below t,
-  write-diff.Post,
-  put-tree-reads.Asked,
-  put-tree-reads.Learnt,
-  diff-attributes-reads.Asked,
-  diff-attributes-reads.Learnt,
-  is-zero-reads.Asked,
-  is-zero-reads.Learnt,
-  write-rule-below t,
-  write-rule.Post,
-  write-sum-below t,
-  write-sum.Post,
-  write-product-below t,
-  write-product.Post,
-  write-extremum-below t,
-  write-extremum.Post,
-  parts-of-reads.Asked,
-  parts-of-reads.Learnt,
-  write-node-below t,
-  write-node.Post,
-) (write-rule-at t) write-rule.Post
-write-rule-returns t c = as-text _ _ _ _ _ (⊎-elim (λ w. text-none (c .before .before .before .before .before .before .before .before .args .by .symbol) (c .before .before .before .before .before .before .before .before .args .by .state) (tree (c .before .before .before .before .before .before .before .before .args .f .now) (c .before .before .before .before .before .before .before .before .args .k)) (c .before .before .before .before .before .before .before .before .args .levels) (c .before .before .before .before .before .before .before .before .args .q) (c .before .before .before .before .before .before .before .before .args .i) (w .taken)) (λ w. text-long (c .before .before .before .before .before .before .before .before .args .by .symbol) (c .before .before .before .before .before .before .before .before .args .by .state) (tree (c .before .before .before .before .before .before .before .before .args .f .now) (c .before .before .before .before .before .before .before .before .args .k)) (c .before .before .before .before .before .before .before .before .args .levels) (c .before .before .before .before .before .before .before .before .args .q) (c .before .before .before .before .before .before .before .before .args .i) (leb-true 128 (c .before .before .before .before .before .before .before .before .args .i) (w .1 .taken))) (c .before .before .before .before .if1 .came)) (c .before .before .put-literal .ensures)
+write-rule-returns : (t : ℕ) → write-rule-lts.Need-returns (write-rule-calls t) (write-rule-at t) write-rule.Post
+write-rule-returns t c =
+    let args = c .before .before .before .before .before .before .before .before .args in
+    let if1 = c .before .before .before .before .if1 in
+    let put-literal = c .before .before .put-literal in
+    let the-tree = tree (args .f .now) (args .k) in
+    as-text _ _ _ _ _
+    (⊎-elim (λ w. text-none (args .by .symbol) (args .by .state) the-tree (args .levels) (args .q) (args .i) (w .taken))
+    (λ w. text-long (args .by .symbol) (args .by .state) the-tree (args .levels) (args .q) (args .i) (leb-true 128 (args .i) (w .1 .taken))) (if1 .came))
+    (put-literal .ensures)
 
-write-rule-code-requires : (t : ℕ) → write-rule-lts.Need-code-requires (
-  put-literal-reads.Asked,
-  put-literal-reads.Learnt,
-  code-reads.Asked,
-  code-reads.Learnt,
-  wide-reads.Asked,
-  wide-reads.Learnt,
-  literal-bits-reads.Asked,
-  literal-bits-reads.Learnt,
-  put-child-reads.Asked,
-  put-child-reads.Learnt,
-  write-diff-below t,
-  write-diff.Post,
-  put-tree-reads.Asked,
-  put-tree-reads.Learnt,
-  diff-attributes-reads.Asked,
-  diff-attributes-reads.Learnt,
-  is-zero-reads.Asked,
-  is-zero-reads.Learnt,
-  write-rule-below t,
-  write-rule.Post,
-  write-sum-below t,
-  write-sum.Post,
-  write-product-below t,
-  write-product.Post,
-  write-extremum-below t,
-  write-extremum.Post,
-  parts-of-reads.Asked,
-  parts-of-reads.Learnt,
-  write-node-below t,
-  write-node.Post,
-) (write-rule-at t) write-rule.Post
+write-rule-code-requires : (t : ℕ) → write-rule-lts.Need-code-requires (write-rule-calls t) (write-rule-at t) write-rule.Post
 write-rule-code-requires t c κs = search needs
 
-write-rule-wide-requires : (t : ℕ) → write-rule-lts.Need-wide-requires (
-  put-literal-reads.Asked,
-  put-literal-reads.Learnt,
-  code-reads.Asked,
-  code-reads.Learnt,
-  wide-reads.Asked,
-  wide-reads.Learnt,
-  literal-bits-reads.Asked,
-  literal-bits-reads.Learnt,
-  put-child-reads.Asked,
-  put-child-reads.Learnt,
-  write-diff-below t,
-  write-diff.Post,
-  put-tree-reads.Asked,
-  put-tree-reads.Learnt,
-  diff-attributes-reads.Asked,
-  diff-attributes-reads.Learnt,
-  is-zero-reads.Asked,
-  is-zero-reads.Learnt,
-  write-rule-below t,
-  write-rule.Post,
-  write-sum-below t,
-  write-sum.Post,
-  write-product-below t,
-  write-product.Post,
-  write-extremum-below t,
-  write-extremum.Post,
-  parts-of-reads.Asked,
-  parts-of-reads.Learnt,
-  write-node-below t,
-  write-node.Post,
-) (write-rule-at t) write-rule.Post
+write-rule-wide-requires : (t : ℕ) → write-rule-lts.Need-wide-requires (write-rule-calls t) (write-rule-at t) write-rule.Post
 write-rule-wide-requires t c κs = search needs
 
-write-rule-literal-bits-requires : (t : ℕ) → write-rule-lts.Need-literal-bits-requires (
-  put-literal-reads.Asked,
-  put-literal-reads.Learnt,
-  code-reads.Asked,
-  code-reads.Learnt,
-  wide-reads.Asked,
-  wide-reads.Learnt,
-  literal-bits-reads.Asked,
-  literal-bits-reads.Learnt,
-  put-child-reads.Asked,
-  put-child-reads.Learnt,
-  write-diff-below t,
-  write-diff.Post,
-  put-tree-reads.Asked,
-  put-tree-reads.Learnt,
-  diff-attributes-reads.Asked,
-  diff-attributes-reads.Learnt,
-  is-zero-reads.Asked,
-  is-zero-reads.Learnt,
-  write-rule-below t,
-  write-rule.Post,
-  write-sum-below t,
-  write-sum.Post,
-  write-product-below t,
-  write-product.Post,
-  write-extremum-below t,
-  write-extremum.Post,
-  parts-of-reads.Asked,
-  parts-of-reads.Learnt,
-  write-node-below t,
-  write-node.Post,
-) (write-rule-at t) write-rule.Post
+write-rule-literal-bits-requires : (t : ℕ) → write-rule-lts.Need-literal-bits-requires (write-rule-calls t) (write-rule-at t) write-rule.Post
 write-rule-literal-bits-requires t c κs = c .before .before .before .before .before .before .before .before .pre .1 .known .owned
 
-write-rule-put-literal-requires-2 : (t : ℕ) → write-rule-lts.Need-put-literal-requires-2 (
-  put-literal-reads.Asked,
-  put-literal-reads.Learnt,
-  code-reads.Asked,
-  code-reads.Learnt,
-  wide-reads.Asked,
-  wide-reads.Learnt,
-  literal-bits-reads.Asked,
-  literal-bits-reads.Learnt,
-  put-child-reads.Asked,
-  put-child-reads.Learnt,
-  write-diff-below t,
-  write-diff.Post,
-  put-tree-reads.Asked,
-  put-tree-reads.Learnt,
-  diff-attributes-reads.Asked,
-  diff-attributes-reads.Learnt,
-  is-zero-reads.Asked,
-  is-zero-reads.Learnt,
-  write-rule-below t,
-  write-rule.Post,
-  write-sum-below t,
-  write-sum.Post,
-  write-product-below t,
-  write-product.Post,
-  write-extremum-below t,
-  write-extremum.Post,
-  parts-of-reads.Asked,
-  parts-of-reads.Learnt,
-  write-node-below t,
-  write-node.Post,
-) (write-rule-at t) write-rule.Post
-write-rule-put-literal-requires-2 t c κs = literal-room _ _ (c .before .literal-bits .result) (text-literal (c .before .before .before .before .before .before .before .before .before .before .args .by .symbol) (c .before .before .before .before .before .before .before .before .before .before .args .by .state) (tree (c .before .before .before .before .before .before .before .before .before .before .args .f .now) (c .before .before .before .before .before .before .before .before .before .before .args .k)) (c .before .before .before .before .before .before .before .before .before .before .args .levels) (c .before .before .before .before .before .before .before .before .before .before .args .q) (c .before .before .before .before .before .before .before .before .before .before .args .i) (c .before .before .before .wide .result) (c .before .before .before .before .before .before .if1 .left) (leb-false 128 (c .before .before .before .before .before .before .before .before .before .before .args .i) (c .before .before .before .before .before .if2 .left)) (c .before .before .before .wide .ensures .0 ∙ c .before .before .before .before .code .ensures) (c .before .literal-bits .result) (c .before .literal-bits .ensures) (c .before .before .if3 .taken)) (c .before .before .before .before .before .before .before .before .before .before .pre .1 .room)
+write-rule-put-literal-requires-2 : (t : ℕ) → write-rule-lts.Need-put-literal-requires-2 (write-rule-calls t) (write-rule-at t) write-rule.Post
+write-rule-put-literal-requires-2 t c κs =
+    let args = c .before .before .before .before .before .before .before .before .before .before .args in
+    let pre = c .before .before .before .before .before .before .before .before .before .before .pre in
+    let if1 = c .before .before .before .before .before .before .if1 in
+    let if2 = c .before .before .before .before .before .if2 in
+    let code = c .before .before .before .before .code in
+    let wide = c .before .before .before .wide in
+    let if3 = c .before .before .if3 in
+    let literal-bits = c .before .literal-bits in
+    literal-room _ _ (literal-bits .result)
+    (text-literal (args .by .symbol) (args .by .state) (tree (args .f .now) (args .k)) (args .levels) (args .q) (args .i) (wide .result) (if1 .left)
+    (leb-false 128 (args .i) (if2 .left)) (wide .ensures .0 ∙ code .ensures) (literal-bits .result) (literal-bits .ensures) (if3 .taken))
+    (pre .1 .room)
 
-write-rule-same-length-2 : (t : ℕ) → write-rule-lts.Need-same-length-2 (
-  put-literal-reads.Asked,
-  put-literal-reads.Learnt,
-  code-reads.Asked,
-  code-reads.Learnt,
-  wide-reads.Asked,
-  wide-reads.Learnt,
-  literal-bits-reads.Asked,
-  literal-bits-reads.Learnt,
-  put-child-reads.Asked,
-  put-child-reads.Learnt,
-  write-diff-below t,
-  write-diff.Post,
-  put-tree-reads.Asked,
-  put-tree-reads.Learnt,
-  diff-attributes-reads.Asked,
-  diff-attributes-reads.Learnt,
-  is-zero-reads.Asked,
-  is-zero-reads.Learnt,
-  write-rule-below t,
-  write-rule.Post,
-  write-sum-below t,
-  write-sum.Post,
-  write-product-below t,
-  write-product.Post,
-  write-extremum-below t,
-  write-extremum.Post,
-  parts-of-reads.Asked,
-  parts-of-reads.Learnt,
-  write-node-below t,
-  write-node.Post,
-) (write-rule-at t) write-rule.Post
+write-rule-same-length-2 : (t : ℕ) → write-rule-lts.Need-same-length-2 (write-rule-calls t) (write-rule-at t) write-rule.Post
 write-rule-same-length-2 t c = c .before .before .put-literal2 .kept .1 .0
 
-write-rule-returns-2 : (t : ℕ) → write-rule-lts.Need-returns-2 (
-  put-literal-reads.Asked,
-  put-literal-reads.Learnt,
-  code-reads.Asked,
-  code-reads.Learnt,
-  wide-reads.Asked,
-  wide-reads.Learnt,
-  literal-bits-reads.Asked,
-  literal-bits-reads.Learnt,
-  put-child-reads.Asked,
-  put-child-reads.Learnt,
-  write-diff-below t,
-  write-diff.Post,
-  put-tree-reads.Asked,
-  put-tree-reads.Learnt,
-  diff-attributes-reads.Asked,
-  diff-attributes-reads.Learnt,
-  is-zero-reads.Asked,
-  is-zero-reads.Learnt,
-  write-rule-below t,
-  write-rule.Post,
-  write-sum-below t,
-  write-sum.Post,
-  write-product-below t,
-  write-product.Post,
-  write-extremum-below t,
-  write-extremum.Post,
-  parts-of-reads.Asked,
-  parts-of-reads.Learnt,
-  write-node-below t,
-  write-node.Post,
-) (write-rule-at t) write-rule.Post
-write-rule-returns-2 t c = as-text _ _ _ _ _ (text-literal (c .before .before .before .before .before .before .before .before .before .before .before .before .before .args .by .symbol) (c .before .before .before .before .before .before .before .before .before .before .before .before .before .args .by .state) (tree (c .before .before .before .before .before .before .before .before .before .before .before .before .before .args .f .now) (c .before .before .before .before .before .before .before .before .before .before .before .before .before .args .k)) (c .before .before .before .before .before .before .before .before .before .before .before .before .before .args .levels) (c .before .before .before .before .before .before .before .before .before .before .before .before .before .args .q) (c .before .before .before .before .before .before .before .before .before .before .before .before .before .args .i) (c .before .before .before .before .before .before .wide .result) (c .before .before .before .before .before .before .before .before .before .if1 .left) (leb-false 128 (c .before .before .before .before .before .before .before .before .before .before .before .before .before .args .i) (c .before .before .before .before .before .before .before .before .if2 .left)) (c .before .before .before .before .before .before .wide .ensures .0 ∙ c .before .before .before .before .before .before .before .code .ensures) (c .before .before .before .before .literal-bits .result) (c .before .before .before .before .literal-bits .ensures) (c .before .before .before .before .before .if3 .taken)) (c .before .before .put-literal2 .ensures)
+write-rule-returns-2 : (t : ℕ) → write-rule-lts.Need-returns-2 (write-rule-calls t) (write-rule-at t) write-rule.Post
+write-rule-returns-2 t c =
+    let args = c .before .before .before .before .before .before .before .before .before .before .before .before .before .args in
+    let if1 = c .before .before .before .before .before .before .before .before .before .if1 in
+    let if2 = c .before .before .before .before .before .before .before .before .if2 in
+    let code = c .before .before .before .before .before .before .before .code in
+    let wide = c .before .before .before .before .before .before .wide in
+    let if3 = c .before .before .before .before .before .if3 in
+    let literal-bits = c .before .before .before .before .literal-bits in
+    let put-literal2 = c .before .before .put-literal2 in
+    as-text _ _ _ _ _
+    (text-literal (args .by .symbol) (args .by .state) (tree (args .f .now) (args .k)) (args .levels) (args .q) (args .i) (wide .result) (if1 .left)
+    (leb-false 128 (args .i) (if2 .left)) (wide .ensures .0 ∙ code .ensures) (literal-bits .result) (literal-bits .ensures) (if3 .taken))
+    (put-literal2 .ensures)
 
-write-rule-put-literal-requires-3 : (t : ℕ) → write-rule-lts.Need-put-literal-requires-3 (
-  put-literal-reads.Asked,
-  put-literal-reads.Learnt,
-  code-reads.Asked,
-  code-reads.Learnt,
-  wide-reads.Asked,
-  wide-reads.Learnt,
-  literal-bits-reads.Asked,
-  literal-bits-reads.Learnt,
-  put-child-reads.Asked,
-  put-child-reads.Learnt,
-  write-diff-below t,
-  write-diff.Post,
-  put-tree-reads.Asked,
-  put-tree-reads.Learnt,
-  diff-attributes-reads.Asked,
-  diff-attributes-reads.Learnt,
-  is-zero-reads.Asked,
-  is-zero-reads.Learnt,
-  write-rule-below t,
-  write-rule.Post,
-  write-sum-below t,
-  write-sum.Post,
-  write-product-below t,
-  write-product.Post,
-  write-extremum-below t,
-  write-extremum.Post,
-  parts-of-reads.Asked,
-  parts-of-reads.Learnt,
-  write-node-below t,
-  write-node.Post,
-) (write-rule-at t) write-rule.Post
-write-rule-put-literal-requires-3 t c κs = literal-room _ _ 0 (text-zero (c .before .before .before .before .before .before .before .before .before .before .args .by .symbol) (c .before .before .before .before .before .before .before .before .before .before .args .by .state) (tree (c .before .before .before .before .before .before .before .before .before .before .args .f .now) (c .before .before .before .before .before .before .before .before .before .before .args .k)) (c .before .before .before .before .before .before .before .before .before .before .args .levels) (c .before .before .before .before .before .before .before .before .before .before .args .q) (c .before .before .before .before .before .before .before .before .before .before .args .i) (c .before .before .before .wide .result) (c .before .before .before .before .before .before .if1 .left) (leb-false 128 (c .before .before .before .before .before .before .before .before .before .before .args .i) (c .before .before .before .before .before .if2 .left)) (c .before .before .before .wide .ensures .0 ∙ c .before .before .before .before .code .ensures) (c .before .match .keys1)) (c .before .before .before .before .before .before .before .before .before .before .pre .1 .room)
+write-rule-put-literal-requires-3 : (t : ℕ) → write-rule-lts.Need-put-literal-requires-3 (write-rule-calls t) (write-rule-at t) write-rule.Post
+write-rule-put-literal-requires-3 t c κs =
+    let args = c .before .before .before .before .before .before .before .before .before .before .args in
+    let pre = c .before .before .before .before .before .before .before .before .before .before .pre in
+    let if1 = c .before .before .before .before .before .before .if1 in
+    let if2 = c .before .before .before .before .before .if2 in
+    let code = c .before .before .before .before .code in
+    let wide = c .before .before .before .wide in
+    literal-room _ _ 0
+    (text-zero (args .by .symbol) (args .by .state) (tree (args .f .now) (args .k)) (args .levels) (args .q) (args .i) (wide .result) (if1 .left)
+    (leb-false 128 (args .i) (if2 .left)) (wide .ensures .0 ∙ code .ensures) (c .before .match .keys1))
+    (pre .1 .room)
 
-write-rule-put-child-requires : (t : ℕ) → write-rule-lts.Need-put-child-requires (
-  put-literal-reads.Asked,
-  put-literal-reads.Learnt,
-  code-reads.Asked,
-  code-reads.Learnt,
-  wide-reads.Asked,
-  wide-reads.Learnt,
-  literal-bits-reads.Asked,
-  literal-bits-reads.Learnt,
-  put-child-reads.Asked,
-  put-child-reads.Learnt,
-  write-diff-below t,
-  write-diff.Post,
-  put-tree-reads.Asked,
-  put-tree-reads.Learnt,
-  diff-attributes-reads.Asked,
-  diff-attributes-reads.Learnt,
-  is-zero-reads.Asked,
-  is-zero-reads.Learnt,
-  write-rule-below t,
-  write-rule.Post,
-  write-sum-below t,
-  write-sum.Post,
-  write-product-below t,
-  write-product.Post,
-  write-extremum-below t,
-  write-extremum.Post,
-  parts-of-reads.Asked,
-  parts-of-reads.Learnt,
-  write-node-below t,
-  write-node.Post,
-) (write-rule-at t) write-rule.Post
-write-rule-put-child-requires t c κs = (c .before .before .before .before .before .before .before .before .before .before .pre .1 .known .owned, room-as _ _ _ (text-child (c .before .before .before .before .before .before .before .before .before .before .args .by .symbol) (c .before .before .before .before .before .before .before .before .before .before .args .by .state) (tree (c .before .before .before .before .before .before .before .before .before .before .args .f .now) (c .before .before .before .before .before .before .before .before .before .before .args .k)) (c .before .before .before .before .before .before .before .before .before .before .args .levels) (c .before .before .before .before .before .before .before .before .before .before .args .q) (c .before .before .before .before .before .before .before .before .before .before .args .i) (c .before .before .before .wide .result) (c .before .before .before .before .before .before .if1 .left) (leb-false 128 (c .before .before .before .before .before .before .before .before .before .before .args .i) (c .before .before .before .before .before .if2 .left)) (c .before .before .before .wide .ensures .0 ∙ c .before .before .before .before .code .ensures) (c .before .match .keys2)) (c .before .before .before .before .before .before .before .before .before .before .pre .1 .room))
+write-rule-put-child-requires : (t : ℕ) → write-rule-lts.Need-put-child-requires (write-rule-calls t) (write-rule-at t) write-rule.Post
+write-rule-put-child-requires t c κs =
+    let args = c .before .before .before .before .before .before .before .before .before .before .args in
+    let pre = c .before .before .before .before .before .before .before .before .before .before .pre in
+    let if1 = c .before .before .before .before .before .before .if1 in
+    let if2 = c .before .before .before .before .before .if2 in
+    let code = c .before .before .before .before .code in
+    let wide = c .before .before .before .wide in (
+      pre .1 .known .owned,
+      room-as _ _ _
+          (text-child (args .by .symbol) (args .by .state) (tree (args .f .now) (args .k)) (args .levels) (args .q) (args .i) (wide .result) (if1 .left)
+          (leb-false 128 (args .i) (if2 .left)) (wide .ensures .0 ∙ code .ensures) (c .before .match .keys2))
+          (pre .1 .room),
+    )
 
-write-rule-write-diff-requires : (t : ℕ) → write-rule-lts.Need-write-diff-requires (
-  put-literal-reads.Asked,
-  put-literal-reads.Learnt,
-  code-reads.Asked,
-  code-reads.Learnt,
-  wide-reads.Asked,
-  wide-reads.Learnt,
-  literal-bits-reads.Asked,
-  literal-bits-reads.Learnt,
-  put-child-reads.Asked,
-  put-child-reads.Learnt,
-  write-diff-below t,
-  write-diff.Post,
-  put-tree-reads.Asked,
-  put-tree-reads.Learnt,
-  diff-attributes-reads.Asked,
-  diff-attributes-reads.Learnt,
-  is-zero-reads.Asked,
-  is-zero-reads.Learnt,
-  write-rule-below t,
-  write-rule.Post,
-  write-sum-below t,
-  write-sum.Post,
-  write-product-below t,
-  write-product.Post,
-  write-extremum-below t,
-  write-extremum.Post,
-  parts-of-reads.Asked,
-  parts-of-reads.Learnt,
-  write-node-below t,
-  write-node.Post,
-) (write-rule-at t) write-rule.Post
-write-rule-write-diff-requires t c κs = (omega (arith, c .before .before .before .before .before .before .before .before .before .before .pre .0, depth-pos (tree (c .before .before .before .before .before .before .before .before .before .before .args .f .now) (c .before .before .before .before .before .before .before .before .before .before .args .k)), c .before .before .before .before .before .before .before .before .before .before .pre .1 .deep), task-as (c .before .before .before .before .before .before .before .before .before .before .args .by .symbol) (c .before .before .before .before .before .before .before .before .before .before .args .by .state) (c .before .before .before .before .before .before .before .before .before .before .args .f .now) (c .before .before .before .before .before .before .before .before .before .before .args .table .now) (c .before .before .before .before .before .before .before .before .before .before .args .k) (c .before .before .before .before .before .before .before .before .before .before .args .depth) _ _ (c .before .before .before .before .before .before .before .before .before .before .args .out .now) (text-diff (c .before .before .before .before .before .before .before .before .before .before .args .by .symbol) (c .before .before .before .before .before .before .before .before .before .before .args .by .state) (tree (c .before .before .before .before .before .before .before .before .before .before .args .f .now) (c .before .before .before .before .before .before .before .before .before .before .args .k)) (c .before .before .before .before .before .before .before .before .before .before .args .levels) (c .before .before .before .before .before .before .before .before .before .before .args .q) (c .before .before .before .before .before .before .before .before .before .before .args .i) (c .before .before .before .wide .result) (c .before .before .before .before .before .before .if1 .left) (leb-false 128 (c .before .before .before .before .before .before .before .before .before .before .args .i) (c .before .before .before .before .before .if2 .left)) (c .before .before .before .wide .ensures .0 ∙ c .before .before .before .before .code .ensures) (c .before .match .keys3)) (c .before .before .before .before .before .before .before .before .before .before .pre .1))
+write-rule-write-diff-requires : (t : ℕ) → write-rule-lts.Need-write-diff-requires (write-rule-calls t) (write-rule-at t) write-rule.Post
+write-rule-write-diff-requires t c κs =
+    let args = c .before .before .before .before .before .before .before .before .before .before .args in
+    let pre = c .before .before .before .before .before .before .before .before .before .before .pre in
+    let if1 = c .before .before .before .before .before .before .if1 in
+    let if2 = c .before .before .before .before .before .if2 in
+    let code = c .before .before .before .before .code in
+    let wide = c .before .before .before .wide in
+    let the-tree = tree (args .f .now) (args .k) in (
+      omega (arith, pre .0, depth-pos the-tree, pre .1 .deep),
+      task-as (args .by .symbol) (args .by .state) (args .f .now) (args .table .now) (args .k) (args .depth) _ _ (args .out .now)
+          (text-diff (args .by .symbol) (args .by .state) the-tree (args .levels) (args .q) (args .i) (wide .result) (if1 .left)
+          (leb-false 128 (args .i) (if2 .left)) (wide .ensures .0 ∙ code .ensures) (c .before .match .keys3))
+          (pre .1),
+    )
 
-write-rule-put-tree-requires : (t : ℕ) → write-rule-lts.Need-put-tree-requires (
-  put-literal-reads.Asked,
-  put-literal-reads.Learnt,
-  code-reads.Asked,
-  code-reads.Learnt,
-  wide-reads.Asked,
-  wide-reads.Learnt,
-  literal-bits-reads.Asked,
-  literal-bits-reads.Learnt,
-  put-child-reads.Asked,
-  put-child-reads.Learnt,
-  write-diff-below t,
-  write-diff.Post,
-  put-tree-reads.Asked,
-  put-tree-reads.Learnt,
-  diff-attributes-reads.Asked,
-  diff-attributes-reads.Learnt,
-  is-zero-reads.Asked,
-  is-zero-reads.Learnt,
-  write-rule-below t,
-  write-rule.Post,
-  write-sum-below t,
-  write-sum.Post,
-  write-product-below t,
-  write-product.Post,
-  write-extremum-below t,
-  write-extremum.Post,
-  parts-of-reads.Asked,
-  parts-of-reads.Learnt,
-  write-node-below t,
-  write-node.Post,
-) (write-rule-at t) write-rule.Post
-write-rule-put-tree-requires t c κs = (c .before .before .before .before .before .before .before .before .before .before .pre .1 .known .owned, room-as _ _ _ (text-whole (c .before .before .before .before .before .before .before .before .before .before .args .by .symbol) (c .before .before .before .before .before .before .before .before .before .before .args .by .state) (tree (c .before .before .before .before .before .before .before .before .before .before .args .f .now) (c .before .before .before .before .before .before .before .before .before .before .args .k)) (c .before .before .before .before .before .before .before .before .before .before .args .levels) (c .before .before .before .before .before .before .before .before .before .before .args .q) (c .before .before .before .before .before .before .before .before .before .before .args .i) (c .before .before .before .wide .result) (c .before .before .before .before .before .before .if1 .left) (leb-false 128 (c .before .before .before .before .before .before .before .before .before .before .args .i) (c .before .before .before .before .before .if2 .left)) (c .before .before .before .wide .ensures .0 ∙ c .before .before .before .before .code .ensures) (c .before .match .keys4)) (c .before .before .before .before .before .before .before .before .before .before .pre .1 .room))
+write-rule-put-tree-requires : (t : ℕ) → write-rule-lts.Need-put-tree-requires (write-rule-calls t) (write-rule-at t) write-rule.Post
+write-rule-put-tree-requires t c κs =
+    let args = c .before .before .before .before .before .before .before .before .before .before .args in
+    let pre = c .before .before .before .before .before .before .before .before .before .before .pre in
+    let if1 = c .before .before .before .before .before .before .if1 in
+    let if2 = c .before .before .before .before .before .if2 in
+    let code = c .before .before .before .before .code in
+    let wide = c .before .before .before .wide in (
+      pre .1 .known .owned,
+      room-as _ _ _
+          (text-whole (args .by .symbol) (args .by .state) (tree (args .f .now) (args .k)) (args .levels) (args .q) (args .i) (wide .result) (if1 .left)
+          (leb-false 128 (args .i) (if2 .left)) (wide .ensures .0 ∙ code .ensures) (c .before .match .keys4))
+          (pre .1 .room),
+    )
 
-write-rule-diff-attributes-requires : (t : ℕ) → write-rule-lts.Need-diff-attributes-requires (
-  put-literal-reads.Asked,
-  put-literal-reads.Learnt,
-  code-reads.Asked,
-  code-reads.Learnt,
-  wide-reads.Asked,
-  wide-reads.Learnt,
-  literal-bits-reads.Asked,
-  literal-bits-reads.Learnt,
-  put-child-reads.Asked,
-  put-child-reads.Learnt,
-  write-diff-below t,
-  write-diff.Post,
-  put-tree-reads.Asked,
-  put-tree-reads.Learnt,
-  diff-attributes-reads.Asked,
-  diff-attributes-reads.Learnt,
-  is-zero-reads.Asked,
-  is-zero-reads.Learnt,
-  write-rule-below t,
-  write-rule.Post,
-  write-sum-below t,
-  write-sum.Post,
-  write-product-below t,
-  write-product.Post,
-  write-extremum-below t,
-  write-extremum.Post,
-  parts-of-reads.Asked,
-  parts-of-reads.Learnt,
-  write-node-below t,
-  write-node.Post,
-) (write-rule-at t) write-rule.Post
-write-rule-diff-attributes-requires t c κs = ready-of (c .before .before .before .before .before .before .before .before .before .args .by .symbol) (c .before .before .before .before .before .before .before .before .before .args .by .state) (c .before .before .before .before .before .before .before .before .before .args .f .now) (c .before .before .before .before .before .before .before .before .before .args .table .now) (c .before .before .before .before .before .before .before .before .before .args .k) (c .before .before .before .before .before .before .before .before .before .pre .1 .known)
+write-rule-diff-attributes-requires : (t : ℕ) → write-rule-lts.Need-diff-attributes-requires (write-rule-calls t) (write-rule-at t) write-rule.Post
+write-rule-diff-attributes-requires t c κs =
+    let args = c .before .before .before .before .before .before .before .before .before .args in
+    let pre = c .before .before .before .before .before .before .before .before .before .pre in
+    ready-of (args .by .symbol) (args .by .state) (args .f .now) (args .table .now) (args .k) (pre .1 .known)
 
-write-rule-is-zero-requires : (t : ℕ) → write-rule-lts.Need-is-zero-requires (
-  put-literal-reads.Asked,
-  put-literal-reads.Learnt,
-  code-reads.Asked,
-  code-reads.Learnt,
-  wide-reads.Asked,
-  wide-reads.Learnt,
-  literal-bits-reads.Asked,
-  literal-bits-reads.Learnt,
-  put-child-reads.Asked,
-  put-child-reads.Learnt,
-  write-diff-below t,
-  write-diff.Post,
-  put-tree-reads.Asked,
-  put-tree-reads.Learnt,
-  diff-attributes-reads.Asked,
-  diff-attributes-reads.Learnt,
-  is-zero-reads.Asked,
-  is-zero-reads.Learnt,
-  write-rule-below t,
-  write-rule.Post,
-  write-sum-below t,
-  write-sum.Post,
-  write-product-below t,
-  write-product.Post,
-  write-extremum-below t,
-  write-extremum.Post,
-  parts-of-reads.Asked,
-  parts-of-reads.Learnt,
-  write-node-below t,
-  write-node.Post,
-) (write-rule-at t) write-rule.Post
+write-rule-is-zero-requires : (t : ℕ) → write-rule-lts.Need-is-zero-requires (write-rule-calls t) (write-rule-at t) write-rule.Post
 write-rule-is-zero-requires t c κs = search needs
 
-write-rule-put-literal-requires-4 : (t : ℕ) → write-rule-lts.Need-put-literal-requires-4 (
-  put-literal-reads.Asked,
-  put-literal-reads.Learnt,
-  code-reads.Asked,
-  code-reads.Learnt,
-  wide-reads.Asked,
-  wide-reads.Learnt,
-  literal-bits-reads.Asked,
-  literal-bits-reads.Learnt,
-  put-child-reads.Asked,
-  put-child-reads.Learnt,
-  write-diff-below t,
-  write-diff.Post,
-  put-tree-reads.Asked,
-  put-tree-reads.Learnt,
-  diff-attributes-reads.Asked,
-  diff-attributes-reads.Learnt,
-  is-zero-reads.Asked,
-  is-zero-reads.Learnt,
-  write-rule-below t,
-  write-rule.Post,
-  write-sum-below t,
-  write-sum.Post,
-  write-product-below t,
-  write-product.Post,
-  write-extremum-below t,
-  write-extremum.Post,
-  parts-of-reads.Asked,
-  parts-of-reads.Learnt,
-  write-node-below t,
-  write-node.Post,
-) (write-rule-at t) write-rule.Post
-write-rule-put-literal-requires-4 t c κs = literal-room _ _ 0 (text-unless-yes (c .before .before .before .before .before .before .before .before .before .before .before .before .before .args .by .symbol) (c .before .before .before .before .before .before .before .before .before .before .before .before .before .args .by .state) (tree (c .before .before .before .before .before .before .before .before .before .before .before .before .before .args .f .now) (c .before .before .before .before .before .before .before .before .before .before .before .before .before .args .k)) (c .before .before .before .before .before .before .before .before .before .before .before .before .before .args .levels) (c .before .before .before .before .before .before .before .before .before .before .before .before .before .args .q) (c .before .before .before .before .before .before .before .before .before .before .before .before .before .args .i) (c .before .before .before .before .before .before .wide .result) (c .before .before .before .before .before .before .before .before .before .if1 .left) (leb-false 128 (c .before .before .before .before .before .before .before .before .before .before .before .before .before .args .i) (c .before .before .before .before .before .before .before .before .if2 .left)) (c .before .before .before .before .before .before .wide .ensures .0 ∙ c .before .before .before .before .before .before .before .code .ensures) (c .before .before .before .before .match .keys5) (tested (c .before .before .is-zero .result) (c .before .before .before .diff-attributes .result) (derived-of (c .before .before .before .before .before .before .before .before .before .before .before .before .before .args .by .symbol) (c .before .before .before .before .before .before .before .before .before .before .before .before .before .args .by .state) (tree (c .before .before .before .before .before .before .before .before .before .before .before .before .before .args .f .now) (c .before .before .before .before .before .before .before .before .before .before .before .before .before .args .k)) (c .before .before .before .before .before .before .wide .result % 16)) _ (c .before .before .is-zero .ensures) (c .before .before .before .diff-attributes .ensures) (c .before .if4 .taken))) (c .before .before .before .before .before .before .before .before .before .before .before .before .before .pre .1 .room)
+write-rule-put-literal-requires-4 : (t : ℕ) → write-rule-lts.Need-put-literal-requires-4 (write-rule-calls t) (write-rule-at t) write-rule.Post
+write-rule-put-literal-requires-4 t c κs =
+    let args = c .before .before .before .before .before .before .before .before .before .before .before .before .before .args in
+    let pre = c .before .before .before .before .before .before .before .before .before .before .before .before .before .pre in
+    let if1 = c .before .before .before .before .before .before .before .before .before .if1 in
+    let if2 = c .before .before .before .before .before .before .before .before .if2 in
+    let code = c .before .before .before .before .before .before .before .code in
+    let wide = c .before .before .before .before .before .before .wide in
+    let match = c .before .before .before .before .match in
+    let diff-attributes = c .before .before .before .diff-attributes in
+    let is-zero = c .before .before .is-zero in
+    let the-tree = tree (args .f .now) (args .k) in
+    literal-room _ _ 0
+    (text-unless-yes (args .by .symbol) (args .by .state) the-tree (args .levels) (args .q) (args .i) (wide .result) (if1 .left)
+    (leb-false 128 (args .i) (if2 .left)) (wide .ensures .0 ∙ code .ensures) (match .keys5)
+    (tested (is-zero .result) (diff-attributes .result) (derived-of (args .by .symbol) (args .by .state) the-tree (wide .result % 16)) _ (is-zero .ensures)
+    (diff-attributes .ensures) (c .before .if4 .taken)))
+    (pre .1 .room)
 
-write-rule-same-length-3 : (t : ℕ) → write-rule-lts.Need-same-length-3 (
-  put-literal-reads.Asked,
-  put-literal-reads.Learnt,
-  code-reads.Asked,
-  code-reads.Learnt,
-  wide-reads.Asked,
-  wide-reads.Learnt,
-  literal-bits-reads.Asked,
-  literal-bits-reads.Learnt,
-  put-child-reads.Asked,
-  put-child-reads.Learnt,
-  write-diff-below t,
-  write-diff.Post,
-  put-tree-reads.Asked,
-  put-tree-reads.Learnt,
-  diff-attributes-reads.Asked,
-  diff-attributes-reads.Learnt,
-  is-zero-reads.Asked,
-  is-zero-reads.Learnt,
-  write-rule-below t,
-  write-rule.Post,
-  write-sum-below t,
-  write-sum.Post,
-  write-product-below t,
-  write-product.Post,
-  write-extremum-below t,
-  write-extremum.Post,
-  parts-of-reads.Asked,
-  parts-of-reads.Learnt,
-  write-node-below t,
-  write-node.Post,
-) (write-rule-at t) write-rule.Post
+write-rule-same-length-3 : (t : ℕ) → write-rule-lts.Need-same-length-3 (write-rule-calls t) (write-rule-at t) write-rule.Post
 write-rule-same-length-3 t c = c .before .before .put-literal4 .kept .1 .0
 
-write-rule-returns-3 : (t : ℕ) → write-rule-lts.Need-returns-3 (
-  put-literal-reads.Asked,
-  put-literal-reads.Learnt,
-  code-reads.Asked,
-  code-reads.Learnt,
-  wide-reads.Asked,
-  wide-reads.Learnt,
-  literal-bits-reads.Asked,
-  literal-bits-reads.Learnt,
-  put-child-reads.Asked,
-  put-child-reads.Learnt,
-  write-diff-below t,
-  write-diff.Post,
-  put-tree-reads.Asked,
-  put-tree-reads.Learnt,
-  diff-attributes-reads.Asked,
-  diff-attributes-reads.Learnt,
-  is-zero-reads.Asked,
-  is-zero-reads.Learnt,
-  write-rule-below t,
-  write-rule.Post,
-  write-sum-below t,
-  write-sum.Post,
-  write-product-below t,
-  write-product.Post,
-  write-extremum-below t,
-  write-extremum.Post,
-  parts-of-reads.Asked,
-  parts-of-reads.Learnt,
-  write-node-below t,
-  write-node.Post,
-) (write-rule-at t) write-rule.Post
-write-rule-returns-3 t c = as-text _ _ _ _ _ (text-unless-yes (c .before .before .before .before .before .before .before .before .before .before .before .before .before .before .before .before .args .by .symbol) (c .before .before .before .before .before .before .before .before .before .before .before .before .before .before .before .before .args .by .state) (tree (c .before .before .before .before .before .before .before .before .before .before .before .before .before .before .before .before .args .f .now) (c .before .before .before .before .before .before .before .before .before .before .before .before .before .before .before .before .args .k)) (c .before .before .before .before .before .before .before .before .before .before .before .before .before .before .before .before .args .levels) (c .before .before .before .before .before .before .before .before .before .before .before .before .before .before .before .before .args .q) (c .before .before .before .before .before .before .before .before .before .before .before .before .before .before .before .before .args .i) (c .before .before .before .before .before .before .before .before .before .wide .result) (c .before .before .before .before .before .before .before .before .before .before .before .before .if1 .left) (leb-false 128 (c .before .before .before .before .before .before .before .before .before .before .before .before .before .before .before .before .args .i) (c .before .before .before .before .before .before .before .before .before .before .before .if2 .left)) (c .before .before .before .before .before .before .before .before .before .wide .ensures .0 ∙ c .before .before .before .before .before .before .before .before .before .before .code .ensures) (c .before .before .before .before .before .before .before .match .keys5) (tested (c .before .before .before .before .before .is-zero .result) (c .before .before .before .before .before .before .diff-attributes .result) (derived-of (c .before .before .before .before .before .before .before .before .before .before .before .before .before .before .before .before .args .by .symbol) (c .before .before .before .before .before .before .before .before .before .before .before .before .before .before .before .before .args .by .state) (tree (c .before .before .before .before .before .before .before .before .before .before .before .before .before .before .before .before .args .f .now) (c .before .before .before .before .before .before .before .before .before .before .before .before .before .before .before .before .args .k)) (c .before .before .before .before .before .before .before .before .before .wide .result % 16)) _ (c .before .before .before .before .before .is-zero .ensures) (c .before .before .before .before .before .before .diff-attributes .ensures) (c .before .before .before .before .if4 .taken))) (c .before .before .put-literal4 .ensures)
+write-rule-returns-3 : (t : ℕ) → write-rule-lts.Need-returns-3 (write-rule-calls t) (write-rule-at t) write-rule.Post
+write-rule-returns-3 t c =
+    let args = c .before .before .before .before .before .before .before .before .before .before .before .before .before .before .before .before .args in
+    let if1 = c .before .before .before .before .before .before .before .before .before .before .before .before .if1 in
+    let if2 = c .before .before .before .before .before .before .before .before .before .before .before .if2 in
+    let code = c .before .before .before .before .before .before .before .before .before .before .code in
+    let wide = c .before .before .before .before .before .before .before .before .before .wide in
+    let match = c .before .before .before .before .before .before .before .match in
+    let diff-attributes = c .before .before .before .before .before .before .diff-attributes in
+    let is-zero = c .before .before .before .before .before .is-zero in
+    let if4 = c .before .before .before .before .if4 in
+    let put-literal4 = c .before .before .put-literal4 in
+    let the-tree = tree (args .f .now) (args .k) in
+    as-text _ _ _ _ _
+    (text-unless-yes (args .by .symbol) (args .by .state) the-tree (args .levels) (args .q) (args .i) (wide .result) (if1 .left)
+    (leb-false 128 (args .i) (if2 .left)) (wide .ensures .0 ∙ code .ensures) (match .keys5)
+    (tested (is-zero .result) (diff-attributes .result) (derived-of (args .by .symbol) (args .by .state) the-tree (wide .result % 16)) _ (is-zero .ensures)
+    (diff-attributes .ensures) (if4 .taken)))
+    (put-literal4 .ensures)
 
-write-rule-add-write-rule : (t : ℕ) → write-rule-lts.Need-add-write-rule (
-  put-literal-reads.Asked,
-  put-literal-reads.Learnt,
-  code-reads.Asked,
-  code-reads.Learnt,
-  wide-reads.Asked,
-  wide-reads.Learnt,
-  literal-bits-reads.Asked,
-  literal-bits-reads.Learnt,
-  put-child-reads.Asked,
-  put-child-reads.Learnt,
-  write-diff-below t,
-  write-diff.Post,
-  put-tree-reads.Asked,
-  put-tree-reads.Learnt,
-  diff-attributes-reads.Asked,
-  diff-attributes-reads.Learnt,
-  is-zero-reads.Asked,
-  is-zero-reads.Learnt,
-  write-rule-below t,
-  write-rule.Post,
-  write-sum-below t,
-  write-sum.Post,
-  write-product-below t,
-  write-product.Post,
-  write-extremum-below t,
-  write-extremum.Post,
-  parts-of-reads.Asked,
-  parts-of-reads.Learnt,
-  write-node-below t,
-  write-node.Post,
-) (write-rule-at t) write-rule.Post
-write-rule-add-write-rule t c = omega (arith, leb-false 128 (c .before .before .before .before .before .before .before .before .before .before .before .before .args .i) (c .before .before .before .before .before .before .before .if2 .left))
+write-rule-add-write-rule : (t : ℕ) → write-rule-lts.Need-add-write-rule (write-rule-calls t) (write-rule-at t) write-rule.Post
+write-rule-add-write-rule t c =
+    let args = c .before .before .before .before .before .before .before .before .before .before .before .before .args in
+    let if2 = c .before .before .before .before .before .before .before .if2 in
+    omega (arith, leb-false 128 (args .i) (if2 .left))
 
-write-rule-sub-write-rule : (t : ℕ) → write-rule-lts.Need-sub-write-rule (
-  put-literal-reads.Asked,
-  put-literal-reads.Learnt,
-  code-reads.Asked,
-  code-reads.Learnt,
-  wide-reads.Asked,
-  wide-reads.Learnt,
-  literal-bits-reads.Asked,
-  literal-bits-reads.Learnt,
-  put-child-reads.Asked,
-  put-child-reads.Learnt,
-  write-diff-below t,
-  write-diff.Post,
-  put-tree-reads.Asked,
-  put-tree-reads.Learnt,
-  diff-attributes-reads.Asked,
-  diff-attributes-reads.Learnt,
-  is-zero-reads.Asked,
-  is-zero-reads.Learnt,
-  write-rule-below t,
-  write-rule.Post,
-  write-sum-below t,
-  write-sum.Post,
-  write-product-below t,
-  write-product.Post,
-  write-extremum-below t,
-  write-extremum.Post,
-  parts-of-reads.Asked,
-  parts-of-reads.Learnt,
-  write-node-below t,
-  write-node.Post,
-) (write-rule-at t) write-rule.Post
+write-rule-sub-write-rule : (t : ℕ) → write-rule-lts.Need-sub-write-rule (write-rule-calls t) (write-rule-at t) write-rule.Post
 write-rule-sub-write-rule t c = omega (arith, c .before .before .before .before .before .before .before .before .if1 .left)
 
-write-rule-write-rule-requires : (t : ℕ) → write-rule-lts.Need-write-rule-requires (
-  put-literal-reads.Asked,
-  put-literal-reads.Learnt,
-  code-reads.Asked,
-  code-reads.Learnt,
-  wide-reads.Asked,
-  wide-reads.Learnt,
-  literal-bits-reads.Asked,
-  literal-bits-reads.Learnt,
-  put-child-reads.Asked,
-  put-child-reads.Learnt,
-  write-diff-below t,
-  write-diff.Post,
-  put-tree-reads.Asked,
-  put-tree-reads.Learnt,
-  diff-attributes-reads.Asked,
-  diff-attributes-reads.Learnt,
-  is-zero-reads.Asked,
-  is-zero-reads.Learnt,
-  write-rule-below t,
-  write-rule.Post,
-  write-sum-below t,
-  write-sum.Post,
-  write-product-below t,
-  write-product.Post,
-  write-extremum-below t,
-  write-extremum.Post,
-  parts-of-reads.Asked,
-  parts-of-reads.Learnt,
-  write-node-below t,
-  write-node.Post,
-) (write-rule-at t) write-rule.Post
-write-rule-write-rule-requires t c κs = (omega (arith, c .before .before .before .before .before .before .before .before .before .before .before .before .before .pre .0, c .before .before .before .before .before .before .before .before .before .if1 .left), task-as (c .before .before .before .before .before .before .before .before .before .before .before .before .before .args .by .symbol) (c .before .before .before .before .before .before .before .before .before .before .before .before .before .args .by .state) (c .before .before .before .before .before .before .before .before .before .before .before .before .before .args .f .now) (c .before .before .before .before .before .before .before .before .before .before .before .before .before .args .table .now) (c .before .before .before .before .before .before .before .before .before .before .before .before .before .args .k) (c .before .before .before .before .before .before .before .before .before .before .before .before .before .args .depth) _ _ (c .before .before .before .before .before .before .before .before .before .before .before .before .before .args .out .now) (text-unless-no (c .before .before .before .before .before .before .before .before .before .before .before .before .before .args .by .symbol) (c .before .before .before .before .before .before .before .before .before .before .before .before .before .args .by .state) (tree (c .before .before .before .before .before .before .before .before .before .before .before .before .before .args .f .now) (c .before .before .before .before .before .before .before .before .before .before .before .before .before .args .k)) (c .before .before .before .before .before .before .before .before .before .before .before .before .before .args .levels) (c .before .before .before .before .before .before .before .before .before .before .before .before .before .args .q) (c .before .before .before .before .before .before .before .before .before .before .before .before .before .args .i) (c .before .before .before .before .before .before .wide .result) (c .before .before .before .before .before .before .before .before .before .if1 .left) (leb-false 128 (c .before .before .before .before .before .before .before .before .before .before .before .before .before .args .i) (c .before .before .before .before .before .before .before .before .if2 .left)) (c .before .before .before .before .before .before .wide .ensures .0 ∙ c .before .before .before .before .before .before .before .code .ensures) (c .before .before .before .before .match .keys5) (tested (c .before .before .is-zero .result) (c .before .before .before .diff-attributes .result) (derived-of (c .before .before .before .before .before .before .before .before .before .before .before .before .before .args .by .symbol) (c .before .before .before .before .before .before .before .before .before .before .before .before .before .args .by .state) (tree (c .before .before .before .before .before .before .before .before .before .before .before .before .before .args .f .now) (c .before .before .before .before .before .before .before .before .before .before .before .before .before .args .k)) (c .before .before .before .before .before .before .wide .result % 16)) _ (c .before .before .is-zero .ensures) (c .before .before .before .diff-attributes .ensures) (c .before .if4 .left))) (c .before .before .before .before .before .before .before .before .before .before .before .before .before .pre .1))
+write-rule-write-rule-requires : (t : ℕ) → write-rule-lts.Need-write-rule-requires (write-rule-calls t) (write-rule-at t) write-rule.Post
+write-rule-write-rule-requires t c κs =
+    let args = c .before .before .before .before .before .before .before .before .before .before .before .before .before .args in
+    let pre = c .before .before .before .before .before .before .before .before .before .before .before .before .before .pre in
+    let if1 = c .before .before .before .before .before .before .before .before .before .if1 in
+    let if2 = c .before .before .before .before .before .before .before .before .if2 in
+    let code = c .before .before .before .before .before .before .before .code in
+    let wide = c .before .before .before .before .before .before .wide in
+    let match = c .before .before .before .before .match in
+    let diff-attributes = c .before .before .before .diff-attributes in
+    let is-zero = c .before .before .is-zero in
+    let the-tree = tree (args .f .now) (args .k) in (
+      omega (arith, pre .0, if1 .left),
+      task-as (args .by .symbol) (args .by .state) (args .f .now) (args .table .now) (args .k) (args .depth) _ _ (args .out .now)
+          (text-unless-no (args .by .symbol) (args .by .state) the-tree (args .levels) (args .q) (args .i) (wide .result) (if1 .left)
+          (leb-false 128 (args .i) (if2 .left)) (wide .ensures .0 ∙ code .ensures) (match .keys5)
+          (tested (is-zero .result) (diff-attributes .result) (derived-of (args .by .symbol) (args .by .state) the-tree (wide .result % 16)) _ (is-zero .ensures)
+          (diff-attributes .ensures) (c .before .if4 .left)))
+          (pre .1),
+    )
 
-write-rule-add-write-sum : (t : ℕ) → write-rule-lts.Need-add-write-sum (
-  put-literal-reads.Asked,
-  put-literal-reads.Learnt,
-  code-reads.Asked,
-  code-reads.Learnt,
-  wide-reads.Asked,
-  wide-reads.Learnt,
-  literal-bits-reads.Asked,
-  literal-bits-reads.Learnt,
-  put-child-reads.Asked,
-  put-child-reads.Learnt,
-  write-diff-below t,
-  write-diff.Post,
-  put-tree-reads.Asked,
-  put-tree-reads.Learnt,
-  diff-attributes-reads.Asked,
-  diff-attributes-reads.Learnt,
-  is-zero-reads.Asked,
-  is-zero-reads.Learnt,
-  write-rule-below t,
-  write-rule.Post,
-  write-sum-below t,
-  write-sum.Post,
-  write-product-below t,
-  write-product.Post,
-  write-extremum-below t,
-  write-extremum.Post,
-  parts-of-reads.Asked,
-  parts-of-reads.Learnt,
-  write-node-below t,
-  write-node.Post,
-) (write-rule-at t) write-rule.Post
+write-rule-add-write-sum : (t : ℕ) → write-rule-lts.Need-add-write-sum (write-rule-calls t) (write-rule-at t) write-rule.Post
 write-rule-add-write-sum t c = omega (arith, leb-false 128 (c .before .before .before .before .before .before .before .before .before .args .i) (c .before .before .before .before .if2 .left))
 
-write-rule-sub-write-sum : (t : ℕ) → write-rule-lts.Need-sub-write-sum (
-  put-literal-reads.Asked,
-  put-literal-reads.Learnt,
-  code-reads.Asked,
-  code-reads.Learnt,
-  wide-reads.Asked,
-  wide-reads.Learnt,
-  literal-bits-reads.Asked,
-  literal-bits-reads.Learnt,
-  put-child-reads.Asked,
-  put-child-reads.Learnt,
-  write-diff-below t,
-  write-diff.Post,
-  put-tree-reads.Asked,
-  put-tree-reads.Learnt,
-  diff-attributes-reads.Asked,
-  diff-attributes-reads.Learnt,
-  is-zero-reads.Asked,
-  is-zero-reads.Learnt,
-  write-rule-below t,
-  write-rule.Post,
-  write-sum-below t,
-  write-sum.Post,
-  write-product-below t,
-  write-product.Post,
-  write-extremum-below t,
-  write-extremum.Post,
-  parts-of-reads.Asked,
-  parts-of-reads.Learnt,
-  write-node-below t,
-  write-node.Post,
-) (write-rule-at t) write-rule.Post
+write-rule-sub-write-sum : (t : ℕ) → write-rule-lts.Need-sub-write-sum (write-rule-calls t) (write-rule-at t) write-rule.Post
 write-rule-sub-write-sum t c = omega (arith, c .before .before .before .before .before .if1 .left)
 
-write-rule-write-sum-requires : (t : ℕ) → write-rule-lts.Need-write-sum-requires (
-  put-literal-reads.Asked,
-  put-literal-reads.Learnt,
-  code-reads.Asked,
-  code-reads.Learnt,
-  wide-reads.Asked,
-  wide-reads.Learnt,
-  literal-bits-reads.Asked,
-  literal-bits-reads.Learnt,
-  put-child-reads.Asked,
-  put-child-reads.Learnt,
-  write-diff-below t,
-  write-diff.Post,
-  put-tree-reads.Asked,
-  put-tree-reads.Learnt,
-  diff-attributes-reads.Asked,
-  diff-attributes-reads.Learnt,
-  is-zero-reads.Asked,
-  is-zero-reads.Learnt,
-  write-rule-below t,
-  write-rule.Post,
-  write-sum-below t,
-  write-sum.Post,
-  write-product-below t,
-  write-product.Post,
-  write-extremum-below t,
-  write-extremum.Post,
-  parts-of-reads.Asked,
-  parts-of-reads.Learnt,
-  write-node-below t,
-  write-node.Post,
-) (write-rule-at t) write-rule.Post
-write-rule-write-sum-requires t c κs = (omega (arith, c .before .before .before .before .before .before .before .before .before .before .pre .0, c .before .before .before .before .before .before .if1 .left), task-as (c .before .before .before .before .before .before .before .before .before .before .args .by .symbol) (c .before .before .before .before .before .before .before .before .before .before .args .by .state) (c .before .before .before .before .before .before .before .before .before .before .args .f .now) (c .before .before .before .before .before .before .before .before .before .before .args .table .now) (c .before .before .before .before .before .before .before .before .before .before .args .k) (c .before .before .before .before .before .before .before .before .before .before .args .depth) _ _ (c .before .before .before .before .before .before .before .before .before .before .args .out .now) (text-sum (c .before .before .before .before .before .before .before .before .before .before .args .by .symbol) (c .before .before .before .before .before .before .before .before .before .before .args .by .state) (tree (c .before .before .before .before .before .before .before .before .before .before .args .f .now) (c .before .before .before .before .before .before .before .before .before .before .args .k)) (c .before .before .before .before .before .before .before .before .before .before .args .levels) (c .before .before .before .before .before .before .before .before .before .before .args .q) (c .before .before .before .before .before .before .before .before .before .before .args .i) (c .before .before .before .wide .result) (c .before .before .before .before .before .before .if1 .left) (leb-false 128 (c .before .before .before .before .before .before .before .before .before .before .args .i) (c .before .before .before .before .before .if2 .left)) (c .before .before .before .wide .ensures .0 ∙ c .before .before .before .before .code .ensures) (c .before .match .keys6)) (c .before .before .before .before .before .before .before .before .before .before .pre .1))
+write-rule-write-sum-requires : (t : ℕ) → write-rule-lts.Need-write-sum-requires (write-rule-calls t) (write-rule-at t) write-rule.Post
+write-rule-write-sum-requires t c κs =
+    let args = c .before .before .before .before .before .before .before .before .before .before .args in
+    let pre = c .before .before .before .before .before .before .before .before .before .before .pre in
+    let if1 = c .before .before .before .before .before .before .if1 in
+    let if2 = c .before .before .before .before .before .if2 in
+    let code = c .before .before .before .before .code in
+    let wide = c .before .before .before .wide in (
+      omega (arith, pre .0, if1 .left),
+      task-as (args .by .symbol) (args .by .state) (args .f .now) (args .table .now) (args .k) (args .depth) _ _ (args .out .now)
+          (text-sum (args .by .symbol) (args .by .state) (tree (args .f .now) (args .k)) (args .levels) (args .q) (args .i) (wide .result) (if1 .left)
+          (leb-false 128 (args .i) (if2 .left)) (wide .ensures .0 ∙ code .ensures) (c .before .match .keys6))
+          (pre .1),
+    )
 
-write-rule-add-write-product : (t : ℕ) → write-rule-lts.Need-add-write-product (
-  put-literal-reads.Asked,
-  put-literal-reads.Learnt,
-  code-reads.Asked,
-  code-reads.Learnt,
-  wide-reads.Asked,
-  wide-reads.Learnt,
-  literal-bits-reads.Asked,
-  literal-bits-reads.Learnt,
-  put-child-reads.Asked,
-  put-child-reads.Learnt,
-  write-diff-below t,
-  write-diff.Post,
-  put-tree-reads.Asked,
-  put-tree-reads.Learnt,
-  diff-attributes-reads.Asked,
-  diff-attributes-reads.Learnt,
-  is-zero-reads.Asked,
-  is-zero-reads.Learnt,
-  write-rule-below t,
-  write-rule.Post,
-  write-sum-below t,
-  write-sum.Post,
-  write-product-below t,
-  write-product.Post,
-  write-extremum-below t,
-  write-extremum.Post,
-  parts-of-reads.Asked,
-  parts-of-reads.Learnt,
-  write-node-below t,
-  write-node.Post,
-) (write-rule-at t) write-rule.Post
+write-rule-add-write-product : (t : ℕ) → write-rule-lts.Need-add-write-product (write-rule-calls t) (write-rule-at t) write-rule.Post
 write-rule-add-write-product t c = omega (arith, leb-false 128 (c .before .before .before .before .before .before .before .before .before .args .i) (c .before .before .before .before .if2 .left))
 
-write-rule-sub-write-product : (t : ℕ) → write-rule-lts.Need-sub-write-product (
-  put-literal-reads.Asked,
-  put-literal-reads.Learnt,
-  code-reads.Asked,
-  code-reads.Learnt,
-  wide-reads.Asked,
-  wide-reads.Learnt,
-  literal-bits-reads.Asked,
-  literal-bits-reads.Learnt,
-  put-child-reads.Asked,
-  put-child-reads.Learnt,
-  write-diff-below t,
-  write-diff.Post,
-  put-tree-reads.Asked,
-  put-tree-reads.Learnt,
-  diff-attributes-reads.Asked,
-  diff-attributes-reads.Learnt,
-  is-zero-reads.Asked,
-  is-zero-reads.Learnt,
-  write-rule-below t,
-  write-rule.Post,
-  write-sum-below t,
-  write-sum.Post,
-  write-product-below t,
-  write-product.Post,
-  write-extremum-below t,
-  write-extremum.Post,
-  parts-of-reads.Asked,
-  parts-of-reads.Learnt,
-  write-node-below t,
-  write-node.Post,
-) (write-rule-at t) write-rule.Post
+write-rule-sub-write-product : (t : ℕ) → write-rule-lts.Need-sub-write-product (write-rule-calls t) (write-rule-at t) write-rule.Post
 write-rule-sub-write-product t c = omega (arith, c .before .before .before .before .before .if1 .left)
 
-write-rule-write-product-requires : (t : ℕ) → write-rule-lts.Need-write-product-requires (
-  put-literal-reads.Asked,
-  put-literal-reads.Learnt,
-  code-reads.Asked,
-  code-reads.Learnt,
-  wide-reads.Asked,
-  wide-reads.Learnt,
-  literal-bits-reads.Asked,
-  literal-bits-reads.Learnt,
-  put-child-reads.Asked,
-  put-child-reads.Learnt,
-  write-diff-below t,
-  write-diff.Post,
-  put-tree-reads.Asked,
-  put-tree-reads.Learnt,
-  diff-attributes-reads.Asked,
-  diff-attributes-reads.Learnt,
-  is-zero-reads.Asked,
-  is-zero-reads.Learnt,
-  write-rule-below t,
-  write-rule.Post,
-  write-sum-below t,
-  write-sum.Post,
-  write-product-below t,
-  write-product.Post,
-  write-extremum-below t,
-  write-extremum.Post,
-  parts-of-reads.Asked,
-  parts-of-reads.Learnt,
-  write-node-below t,
-  write-node.Post,
-) (write-rule-at t) write-rule.Post
-write-rule-write-product-requires t c κs = (omega (arith, c .before .before .before .before .before .before .before .before .before .before .pre .0, c .before .before .before .before .before .before .if1 .left), task-as (c .before .before .before .before .before .before .before .before .before .before .args .by .symbol) (c .before .before .before .before .before .before .before .before .before .before .args .by .state) (c .before .before .before .before .before .before .before .before .before .before .args .f .now) (c .before .before .before .before .before .before .before .before .before .before .args .table .now) (c .before .before .before .before .before .before .before .before .before .before .args .k) (c .before .before .before .before .before .before .before .before .before .before .args .depth) _ _ (c .before .before .before .before .before .before .before .before .before .before .args .out .now) (text-product (c .before .before .before .before .before .before .before .before .before .before .args .by .symbol) (c .before .before .before .before .before .before .before .before .before .before .args .by .state) (tree (c .before .before .before .before .before .before .before .before .before .before .args .f .now) (c .before .before .before .before .before .before .before .before .before .before .args .k)) (c .before .before .before .before .before .before .before .before .before .before .args .levels) (c .before .before .before .before .before .before .before .before .before .before .args .q) (c .before .before .before .before .before .before .before .before .before .before .args .i) (c .before .before .before .wide .result) (c .before .before .before .before .before .before .if1 .left) (leb-false 128 (c .before .before .before .before .before .before .before .before .before .before .args .i) (c .before .before .before .before .before .if2 .left)) (c .before .before .before .wide .ensures .0 ∙ c .before .before .before .before .code .ensures) (c .before .match .keys7)) (c .before .before .before .before .before .before .before .before .before .before .pre .1))
+write-rule-write-product-requires : (t : ℕ) → write-rule-lts.Need-write-product-requires (write-rule-calls t) (write-rule-at t) write-rule.Post
+write-rule-write-product-requires t c κs =
+    let args = c .before .before .before .before .before .before .before .before .before .before .args in
+    let pre = c .before .before .before .before .before .before .before .before .before .before .pre in
+    let if1 = c .before .before .before .before .before .before .if1 in
+    let if2 = c .before .before .before .before .before .if2 in
+    let code = c .before .before .before .before .code in
+    let wide = c .before .before .before .wide in (
+      omega (arith, pre .0, if1 .left),
+      task-as (args .by .symbol) (args .by .state) (args .f .now) (args .table .now) (args .k) (args .depth) _ _ (args .out .now)
+          (text-product (args .by .symbol) (args .by .state) (tree (args .f .now) (args .k)) (args .levels) (args .q) (args .i) (wide .result) (if1 .left)
+          (leb-false 128 (args .i) (if2 .left)) (wide .ensures .0 ∙ code .ensures) (c .before .match .keys7))
+          (pre .1),
+    )
 
-write-rule-write-extremum-requires : (t : ℕ) → write-rule-lts.Need-write-extremum-requires (
-  put-literal-reads.Asked,
-  put-literal-reads.Learnt,
-  code-reads.Asked,
-  code-reads.Learnt,
-  wide-reads.Asked,
-  wide-reads.Learnt,
-  literal-bits-reads.Asked,
-  literal-bits-reads.Learnt,
-  put-child-reads.Asked,
-  put-child-reads.Learnt,
-  write-diff-below t,
-  write-diff.Post,
-  put-tree-reads.Asked,
-  put-tree-reads.Learnt,
-  diff-attributes-reads.Asked,
-  diff-attributes-reads.Learnt,
-  is-zero-reads.Asked,
-  is-zero-reads.Learnt,
-  write-rule-below t,
-  write-rule.Post,
-  write-sum-below t,
-  write-sum.Post,
-  write-product-below t,
-  write-product.Post,
-  write-extremum-below t,
-  write-extremum.Post,
-  parts-of-reads.Asked,
-  parts-of-reads.Learnt,
-  write-node-below t,
-  write-node.Post,
-) (write-rule-at t) write-rule.Post
-write-rule-write-extremum-requires t c κs = (omega (arith, c .before .before .before .before .before .before .before .before .before .before .pre .0, depth-pos (tree (c .before .before .before .before .before .before .before .before .before .before .args .f .now) (c .before .before .before .before .before .before .before .before .before .before .args .k)), c .before .before .before .before .before .before .before .before .before .before .pre .1 .deep), task-as (c .before .before .before .before .before .before .before .before .before .before .args .by .symbol) (c .before .before .before .before .before .before .before .before .before .before .args .by .state) (c .before .before .before .before .before .before .before .before .before .before .args .f .now) (c .before .before .before .before .before .before .before .before .before .before .args .table .now) (c .before .before .before .before .before .before .before .before .before .before .args .k) (c .before .before .before .before .before .before .before .before .before .before .args .depth) _ _ (c .before .before .before .before .before .before .before .before .before .before .args .out .now) (text-extremum (c .before .before .before .before .before .before .before .before .before .before .args .by .symbol) (c .before .before .before .before .before .before .before .before .before .before .args .by .state) (tree (c .before .before .before .before .before .before .before .before .before .before .args .f .now) (c .before .before .before .before .before .before .before .before .before .before .args .k)) (c .before .before .before .before .before .before .before .before .before .before .args .levels) (c .before .before .before .before .before .before .before .before .before .before .args .q) (c .before .before .before .before .before .before .before .before .before .before .args .i) (c .before .before .before .wide .result) (c .before .before .before .before .before .before .if1 .left) (leb-false 128 (c .before .before .before .before .before .before .before .before .before .before .args .i) (c .before .before .before .before .before .if2 .left)) (c .before .before .before .wide .ensures .0 ∙ c .before .before .before .before .code .ensures) (c .before .match .keys8)) (c .before .before .before .before .before .before .before .before .before .before .pre .1))
+write-rule-write-extremum-requires : (t : ℕ) → write-rule-lts.Need-write-extremum-requires (write-rule-calls t) (write-rule-at t) write-rule.Post
+write-rule-write-extremum-requires t c κs =
+    let args = c .before .before .before .before .before .before .before .before .before .before .args in
+    let pre = c .before .before .before .before .before .before .before .before .before .before .pre in
+    let if1 = c .before .before .before .before .before .before .if1 in
+    let if2 = c .before .before .before .before .before .if2 in
+    let code = c .before .before .before .before .code in
+    let wide = c .before .before .before .wide in
+    let the-tree = tree (args .f .now) (args .k) in (
+      omega (arith, pre .0, depth-pos the-tree, pre .1 .deep),
+      task-as (args .by .symbol) (args .by .state) (args .f .now) (args .table .now) (args .k) (args .depth) _ _ (args .out .now)
+          (text-extremum (args .by .symbol) (args .by .state) the-tree (args .levels) (args .q) (args .i) (wide .result) (if1 .left)
+          (leb-false 128 (args .i) (if2 .left)) (wide .ensures .0 ∙ code .ensures) (c .before .match .keys8))
+          (pre .1),
+    )
 
-write-rule-parts-of-requires : (t : ℕ) → write-rule-lts.Need-parts-of-requires (
-  put-literal-reads.Asked,
-  put-literal-reads.Learnt,
-  code-reads.Asked,
-  code-reads.Learnt,
-  wide-reads.Asked,
-  wide-reads.Learnt,
-  literal-bits-reads.Asked,
-  literal-bits-reads.Learnt,
-  put-child-reads.Asked,
-  put-child-reads.Learnt,
-  write-diff-below t,
-  write-diff.Post,
-  put-tree-reads.Asked,
-  put-tree-reads.Learnt,
-  diff-attributes-reads.Asked,
-  diff-attributes-reads.Learnt,
-  is-zero-reads.Asked,
-  is-zero-reads.Learnt,
-  write-rule-below t,
-  write-rule.Post,
-  write-sum-below t,
-  write-sum.Post,
-  write-product-below t,
-  write-product.Post,
-  write-extremum-below t,
-  write-extremum.Post,
-  parts-of-reads.Asked,
-  parts-of-reads.Learnt,
-  write-node-below t,
-  write-node.Post,
-) (write-rule-at t) write-rule.Post
+write-rule-parts-of-requires : (t : ℕ) → write-rule-lts.Need-parts-of-requires (write-rule-calls t) (write-rule-at t) write-rule.Post
 write-rule-parts-of-requires t c κs = search needs
 
-write-rule-add-write-node : (t : ℕ) → write-rule-lts.Need-add-write-node (
-  put-literal-reads.Asked,
-  put-literal-reads.Learnt,
-  code-reads.Asked,
-  code-reads.Learnt,
-  wide-reads.Asked,
-  wide-reads.Learnt,
-  literal-bits-reads.Asked,
-  literal-bits-reads.Learnt,
-  put-child-reads.Asked,
-  put-child-reads.Learnt,
-  write-diff-below t,
-  write-diff.Post,
-  put-tree-reads.Asked,
-  put-tree-reads.Learnt,
-  diff-attributes-reads.Asked,
-  diff-attributes-reads.Learnt,
-  is-zero-reads.Asked,
-  is-zero-reads.Learnt,
-  write-rule-below t,
-  write-rule.Post,
-  write-sum-below t,
-  write-sum.Post,
-  write-product-below t,
-  write-product.Post,
-  write-extremum-below t,
-  write-extremum.Post,
-  parts-of-reads.Asked,
-  parts-of-reads.Learnt,
-  write-node-below t,
-  write-node.Post,
-) (write-rule-at t) write-rule.Post
-write-rule-add-write-node t c = omega (arith, leb-false 128 (c .before .before .before .before .before .before .before .before .before .before .args .i) (c .before .before .before .before .before .if2 .left))
+write-rule-add-write-node : (t : ℕ) → write-rule-lts.Need-add-write-node (write-rule-calls t) (write-rule-at t) write-rule.Post
+write-rule-add-write-node t c =
+    let args = c .before .before .before .before .before .before .before .before .before .before .args in
+    let if2 = c .before .before .before .before .before .if2 in
+    omega (arith, leb-false 128 (args .i) (if2 .left))
 
-write-rule-sub-d : (t : ℕ) → write-rule-lts.Need-sub-d (
-  put-literal-reads.Asked,
-  put-literal-reads.Learnt,
-  code-reads.Asked,
-  code-reads.Learnt,
-  wide-reads.Asked,
-  wide-reads.Learnt,
-  literal-bits-reads.Asked,
-  literal-bits-reads.Learnt,
-  put-child-reads.Asked,
-  put-child-reads.Learnt,
-  write-diff-below t,
-  write-diff.Post,
-  put-tree-reads.Asked,
-  put-tree-reads.Learnt,
-  diff-attributes-reads.Asked,
-  diff-attributes-reads.Learnt,
-  is-zero-reads.Asked,
-  is-zero-reads.Learnt,
-  write-rule-below t,
-  write-rule.Post,
-  write-sum-below t,
-  write-sum.Post,
-  write-product-below t,
-  write-product.Post,
-  write-extremum-below t,
-  write-extremum.Post,
-  parts-of-reads.Asked,
-  parts-of-reads.Learnt,
-  write-node-below t,
-  write-node.Post,
-) (write-rule-at t) write-rule.Post
+write-rule-sub-d : (t : ℕ) → write-rule-lts.Need-sub-d (write-rule-calls t) (write-rule-at t) write-rule.Post
 write-rule-sub-d t c = omega (arith, c .before .before .before .before .before .before .if1 .left)
 
-write-rule-write-node-requires : (t : ℕ) → write-rule-lts.Need-write-node-requires (
-  put-literal-reads.Asked,
-  put-literal-reads.Learnt,
-  code-reads.Asked,
-  code-reads.Learnt,
-  wide-reads.Asked,
-  wide-reads.Learnt,
-  literal-bits-reads.Asked,
-  literal-bits-reads.Learnt,
-  put-child-reads.Asked,
-  put-child-reads.Learnt,
-  write-diff-below t,
-  write-diff.Post,
-  put-tree-reads.Asked,
-  put-tree-reads.Learnt,
-  diff-attributes-reads.Asked,
-  diff-attributes-reads.Learnt,
-  is-zero-reads.Asked,
-  is-zero-reads.Learnt,
-  write-rule-below t,
-  write-rule.Post,
-  write-sum-below t,
-  write-sum.Post,
-  write-product-below t,
-  write-product.Post,
-  write-extremum-below t,
-  write-extremum.Post,
-  parts-of-reads.Asked,
-  parts-of-reads.Learnt,
-  write-node-below t,
-  write-node.Post,
-) (write-rule-at t) write-rule.Post
-write-rule-write-node-requires t c κs = (omega (arith, c .before .before .before .before .before .before .before .before .before .before .before .pre .0, c .before .before .before .before .before .before .before .if1 .left), (record { kind-byte = omega (arith, c .before .before .before .if3 .left); operator-byte = omega arith; few = c .before .parts-of .ensures .1 }, task-as (c .before .before .before .before .before .before .before .before .before .before .before .args .by .symbol) (c .before .before .before .before .before .before .before .before .before .before .before .args .by .state) (c .before .before .before .before .before .before .before .before .before .before .before .args .f .now) (c .before .before .before .before .before .before .before .before .before .before .before .args .table .now) (c .before .before .before .before .before .before .before .before .before .before .before .args .k) (c .before .before .before .before .before .before .before .before .before .before .before .args .depth) _ _ (c .before .before .before .before .before .before .before .before .before .before .before .args .out .now) (text-node (c .before .before .before .before .before .before .before .before .before .before .before .args .by .symbol) (c .before .before .before .before .before .before .before .before .before .before .before .args .by .state) (tree (c .before .before .before .before .before .before .before .before .before .before .before .args .f .now) (c .before .before .before .before .before .before .before .before .before .before .before .args .k)) (c .before .before .before .before .before .before .before .before .before .before .before .args .levels) (c .before .before .before .before .before .before .before .before .before .before .before .args .q) (c .before .before .before .before .before .before .before .before .before .before .before .args .i) (c .before .before .before .before .wide .result) (c .before .before .before .before .before .before .before .if1 .left) (leb-false 128 (c .before .before .before .before .before .before .before .before .before .before .before .args .i) (c .before .before .before .before .before .before .if2 .left)) (c .before .before .before .before .wide .ensures .0 ∙ c .before .before .before .before .before .code .ensures) (writing (c .before .before .before .before .wide .result / 16) (c .before .before .before .if3 .left) (c .before .before .match .rest .0 .0 .0 .0 .0 .0 .0 .1) (c .before .before .match .rest .0 .0 .0 .0 .0 .0 .1) (c .before .before .match .rest .0 .0 .0 .0 .0 .1) (c .before .before .match .rest .0 .0 .0 .0 .1) (c .before .before .match .rest .0 .0 .0 .1) (c .before .before .match .rest .0 .0 .1) (c .before .before .match .rest .0 .1) (c .before .before .match .rest .1)) (c .before .parts-of .result) (c .before .parts-of .ensures .0)) (c .before .before .before .before .before .before .before .before .before .before .before .pre .1)))
+write-rule-write-node-requires : (t : ℕ) → write-rule-lts.Need-write-node-requires (write-rule-calls t) (write-rule-at t) write-rule.Post
+write-rule-write-node-requires t c κs =
+    let args = c .before .before .before .before .before .before .before .before .before .before .before .args in
+    let pre = c .before .before .before .before .before .before .before .before .before .before .before .pre in
+    let if1 = c .before .before .before .before .before .before .before .if1 in
+    let if2 = c .before .before .before .before .before .before .if2 in
+    let code = c .before .before .before .before .before .code in
+    let wide = c .before .before .before .before .wide in
+    let if3 = c .before .before .before .if3 in
+    let match = c .before .before .match in
+    let parts-of = c .before .parts-of in (
+      omega (arith, pre .0, if1 .left),
+      (
+        record { kind-byte = omega (arith, if3 .left); operator-byte = omega arith; few = parts-of .ensures .1 },
+        task-as (args .by .symbol) (args .by .state) (args .f .now) (args .table .now) (args .k) (args .depth) _ _ (args .out .now)
+            (text-node (args .by .symbol) (args .by .state) (tree (args .f .now) (args .k)) (args .levels) (args .q) (args .i) (wide .result) (if1 .left)
+            (leb-false 128 (args .i) (if2 .left)) (wide .ensures .0 ∙ code .ensures)
+            (writing (wide .result / 16) (if3 .left) (match .rest .0 .0 .0 .0 .0 .0 .0 .1) (match .rest .0 .0 .0 .0 .0 .0 .1) (match .rest .0 .0 .0 .0 .0 .1)
+            (match .rest .0 .0 .0 .0 .1) (match .rest .0 .0 .0 .1) (match .rest .0 .0 .1) (match .rest .0 .1) (match .rest .1))
+            (parts-of .result) (parts-of .ensures .0))
+            (pre .1),
+      ),
+    )
 
-write-rule-same-length-4 : (t : ℕ) → write-rule-lts.Need-same-length-4 (
-  put-literal-reads.Asked,
-  put-literal-reads.Learnt,
-  code-reads.Asked,
-  code-reads.Learnt,
-  wide-reads.Asked,
-  wide-reads.Learnt,
-  literal-bits-reads.Asked,
-  literal-bits-reads.Learnt,
-  put-child-reads.Asked,
-  put-child-reads.Learnt,
-  write-diff-below t,
-  write-diff.Post,
-  put-tree-reads.Asked,
-  put-tree-reads.Learnt,
-  diff-attributes-reads.Asked,
-  diff-attributes-reads.Learnt,
-  is-zero-reads.Asked,
-  is-zero-reads.Learnt,
-  write-rule-below t,
-  write-rule.Post,
-  write-sum-below t,
-  write-sum.Post,
-  write-product-below t,
-  write-product.Post,
-  write-extremum-below t,
-  write-extremum.Post,
-  parts-of-reads.Asked,
-  parts-of-reads.Learnt,
-  write-node-below t,
-  write-node.Post,
-) (write-rule-at t) write-rule.Post
+write-rule-same-length-4 : (t : ℕ) → write-rule-lts.Need-same-length-4 (write-rule-calls t) (write-rule-at t) write-rule.Post
 write-rule-same-length-4 t c = c .before .before .put-literal3 .kept .1 .0
 
-write-rule-returns-4 : (t : ℕ) → write-rule-lts.Need-returns-4 (
-  put-literal-reads.Asked,
-  put-literal-reads.Learnt,
-  code-reads.Asked,
-  code-reads.Learnt,
-  wide-reads.Asked,
-  wide-reads.Learnt,
-  literal-bits-reads.Asked,
-  literal-bits-reads.Learnt,
-  put-child-reads.Asked,
-  put-child-reads.Learnt,
-  write-diff-below t,
-  write-diff.Post,
-  put-tree-reads.Asked,
-  put-tree-reads.Learnt,
-  diff-attributes-reads.Asked,
-  diff-attributes-reads.Learnt,
-  is-zero-reads.Asked,
-  is-zero-reads.Learnt,
-  write-rule-below t,
-  write-rule.Post,
-  write-sum-below t,
-  write-sum.Post,
-  write-product-below t,
-  write-product.Post,
-  write-extremum-below t,
-  write-extremum.Post,
-  parts-of-reads.Asked,
-  parts-of-reads.Learnt,
-  write-node-below t,
-  write-node.Post,
-) (write-rule-at t) write-rule.Post
-write-rule-returns-4 t c = as-text _ _ _ _ _ (text-zero (c .before .before .before .before .before .before .before .before .before .before .before .before .before .args .by .symbol) (c .before .before .before .before .before .before .before .before .before .before .before .before .before .args .by .state) (tree (c .before .before .before .before .before .before .before .before .before .before .before .before .before .args .f .now) (c .before .before .before .before .before .before .before .before .before .before .before .before .before .args .k)) (c .before .before .before .before .before .before .before .before .before .before .before .before .before .args .levels) (c .before .before .before .before .before .before .before .before .before .before .before .before .before .args .q) (c .before .before .before .before .before .before .before .before .before .before .before .before .before .args .i) (c .before .before .before .before .before .before .wide .result) (c .before .before .before .before .before .before .before .before .before .if1 .left) (leb-false 128 (c .before .before .before .before .before .before .before .before .before .before .before .before .before .args .i) (c .before .before .before .before .before .before .before .before .if2 .left)) (c .before .before .before .before .before .before .wide .ensures .0 ∙ c .before .before .before .before .before .before .before .code .ensures) (c .before .before .before .before .match .keys1)) (c .before .before .put-literal3 .ensures)
+write-rule-returns-4 : (t : ℕ) → write-rule-lts.Need-returns-4 (write-rule-calls t) (write-rule-at t) write-rule.Post
+write-rule-returns-4 t c =
+    let args = c .before .before .before .before .before .before .before .before .before .before .before .before .before .args in
+    let if1 = c .before .before .before .before .before .before .before .before .before .if1 in
+    let if2 = c .before .before .before .before .before .before .before .before .if2 in
+    let code = c .before .before .before .before .before .before .before .code in
+    let wide = c .before .before .before .before .before .before .wide in
+    let match = c .before .before .before .before .match in
+    let put-literal3 = c .before .before .put-literal3 in
+    as-text _ _ _ _ _
+    (text-zero (args .by .symbol) (args .by .state) (tree (args .f .now) (args .k)) (args .levels) (args .q) (args .i) (wide .result) (if1 .left)
+    (leb-false 128 (args .i) (if2 .left)) (wide .ensures .0 ∙ code .ensures) (match .keys1))
+    (put-literal3 .ensures)
 
-write-rule-same-length-5 : (t : ℕ) → write-rule-lts.Need-same-length-5 (
-  put-literal-reads.Asked,
-  put-literal-reads.Learnt,
-  code-reads.Asked,
-  code-reads.Learnt,
-  wide-reads.Asked,
-  wide-reads.Learnt,
-  literal-bits-reads.Asked,
-  literal-bits-reads.Learnt,
-  put-child-reads.Asked,
-  put-child-reads.Learnt,
-  write-diff-below t,
-  write-diff.Post,
-  put-tree-reads.Asked,
-  put-tree-reads.Learnt,
-  diff-attributes-reads.Asked,
-  diff-attributes-reads.Learnt,
-  is-zero-reads.Asked,
-  is-zero-reads.Learnt,
-  write-rule-below t,
-  write-rule.Post,
-  write-sum-below t,
-  write-sum.Post,
-  write-product-below t,
-  write-product.Post,
-  write-extremum-below t,
-  write-extremum.Post,
-  parts-of-reads.Asked,
-  parts-of-reads.Learnt,
-  write-node-below t,
-  write-node.Post,
-) (write-rule-at t) write-rule.Post
+write-rule-same-length-5 : (t : ℕ) → write-rule-lts.Need-same-length-5 (write-rule-calls t) (write-rule-at t) write-rule.Post
 write-rule-same-length-5 t c = c .before .before .put-child .kept .1 .1 .1 .1 .0
 
-write-rule-returns-5 : (t : ℕ) → write-rule-lts.Need-returns-5 (
-  put-literal-reads.Asked,
-  put-literal-reads.Learnt,
-  code-reads.Asked,
-  code-reads.Learnt,
-  wide-reads.Asked,
-  wide-reads.Learnt,
-  literal-bits-reads.Asked,
-  literal-bits-reads.Learnt,
-  put-child-reads.Asked,
-  put-child-reads.Learnt,
-  write-diff-below t,
-  write-diff.Post,
-  put-tree-reads.Asked,
-  put-tree-reads.Learnt,
-  diff-attributes-reads.Asked,
-  diff-attributes-reads.Learnt,
-  is-zero-reads.Asked,
-  is-zero-reads.Learnt,
-  write-rule-below t,
-  write-rule.Post,
-  write-sum-below t,
-  write-sum.Post,
-  write-product-below t,
-  write-product.Post,
-  write-extremum-below t,
-  write-extremum.Post,
-  parts-of-reads.Asked,
-  parts-of-reads.Learnt,
-  write-node-below t,
-  write-node.Post,
-) (write-rule-at t) write-rule.Post
-write-rule-returns-5 t c = as-text _ _ _ _ _ (text-child (c .before .before .before .before .before .before .before .before .before .before .before .before .before .args .by .symbol) (c .before .before .before .before .before .before .before .before .before .before .before .before .before .args .by .state) (tree (c .before .before .before .before .before .before .before .before .before .before .before .before .before .args .f .now) (c .before .before .before .before .before .before .before .before .before .before .before .before .before .args .k)) (c .before .before .before .before .before .before .before .before .before .before .before .before .before .args .levels) (c .before .before .before .before .before .before .before .before .before .before .before .before .before .args .q) (c .before .before .before .before .before .before .before .before .before .before .before .before .before .args .i) (c .before .before .before .before .before .before .wide .result) (c .before .before .before .before .before .before .before .before .before .if1 .left) (leb-false 128 (c .before .before .before .before .before .before .before .before .before .before .before .before .before .args .i) (c .before .before .before .before .before .before .before .before .if2 .left)) (c .before .before .before .before .before .before .wide .ensures .0 ∙ c .before .before .before .before .before .before .before .code .ensures) (c .before .before .before .before .match .keys2)) (c .before .before .put-child .ensures)
+write-rule-returns-5 : (t : ℕ) → write-rule-lts.Need-returns-5 (write-rule-calls t) (write-rule-at t) write-rule.Post
+write-rule-returns-5 t c =
+    let args = c .before .before .before .before .before .before .before .before .before .before .before .before .before .args in
+    let if1 = c .before .before .before .before .before .before .before .before .before .if1 in
+    let if2 = c .before .before .before .before .before .before .before .before .if2 in
+    let code = c .before .before .before .before .before .before .before .code in
+    let wide = c .before .before .before .before .before .before .wide in
+    let match = c .before .before .before .before .match in
+    let put-child = c .before .before .put-child in
+    as-text _ _ _ _ _
+    (text-child (args .by .symbol) (args .by .state) (tree (args .f .now) (args .k)) (args .levels) (args .q) (args .i) (wide .result) (if1 .left)
+    (leb-false 128 (args .i) (if2 .left)) (wide .ensures .0 ∙ code .ensures) (match .keys2))
+    (put-child .ensures)
 
-write-rule-same-length-6 : (t : ℕ) → write-rule-lts.Need-same-length-6 (
-  put-literal-reads.Asked,
-  put-literal-reads.Learnt,
-  code-reads.Asked,
-  code-reads.Learnt,
-  wide-reads.Asked,
-  wide-reads.Learnt,
-  literal-bits-reads.Asked,
-  literal-bits-reads.Learnt,
-  put-child-reads.Asked,
-  put-child-reads.Learnt,
-  write-diff-below t,
-  write-diff.Post,
-  put-tree-reads.Asked,
-  put-tree-reads.Learnt,
-  diff-attributes-reads.Asked,
-  diff-attributes-reads.Learnt,
-  is-zero-reads.Asked,
-  is-zero-reads.Learnt,
-  write-rule-below t,
-  write-rule.Post,
-  write-sum-below t,
-  write-sum.Post,
-  write-product-below t,
-  write-product.Post,
-  write-extremum-below t,
-  write-extremum.Post,
-  parts-of-reads.Asked,
-  parts-of-reads.Learnt,
-  write-node-below t,
-  write-node.Post,
-) (write-rule-at t) write-rule.Post
+write-rule-same-length-6 : (t : ℕ) → write-rule-lts.Need-same-length-6 (write-rule-calls t) (write-rule-at t) write-rule.Post
 write-rule-same-length-6 t c = c .before .before .write-diff .kept .1 .1 .1 .1 .1 .1 .0
 
-write-rule-returns-6 : (t : ℕ) → write-rule-lts.Need-returns-6 (
-  put-literal-reads.Asked,
-  put-literal-reads.Learnt,
-  code-reads.Asked,
-  code-reads.Learnt,
-  wide-reads.Asked,
-  wide-reads.Learnt,
-  literal-bits-reads.Asked,
-  literal-bits-reads.Learnt,
-  put-child-reads.Asked,
-  put-child-reads.Learnt,
-  write-diff-below t,
-  write-diff.Post,
-  put-tree-reads.Asked,
-  put-tree-reads.Learnt,
-  diff-attributes-reads.Asked,
-  diff-attributes-reads.Learnt,
-  is-zero-reads.Asked,
-  is-zero-reads.Learnt,
-  write-rule-below t,
-  write-rule.Post,
-  write-sum-below t,
-  write-sum.Post,
-  write-product-below t,
-  write-product.Post,
-  write-extremum-below t,
-  write-extremum.Post,
-  parts-of-reads.Asked,
-  parts-of-reads.Learnt,
-  write-node-below t,
-  write-node.Post,
-) (write-rule-at t) write-rule.Post
-write-rule-returns-6 t c = as-text _ _ _ _ _ (text-diff (c .before .before .before .before .before .before .before .before .before .before .before .before .before .args .by .symbol) (c .before .before .before .before .before .before .before .before .before .before .before .before .before .args .by .state) (tree (c .before .before .before .before .before .before .before .before .before .before .before .before .before .args .f .now) (c .before .before .before .before .before .before .before .before .before .before .before .before .before .args .k)) (c .before .before .before .before .before .before .before .before .before .before .before .before .before .args .levels) (c .before .before .before .before .before .before .before .before .before .before .before .before .before .args .q) (c .before .before .before .before .before .before .before .before .before .before .before .before .before .args .i) (c .before .before .before .before .before .before .wide .result) (c .before .before .before .before .before .before .before .before .before .if1 .left) (leb-false 128 (c .before .before .before .before .before .before .before .before .before .before .before .before .before .args .i) (c .before .before .before .before .before .before .before .before .if2 .left)) (c .before .before .before .before .before .before .wide .ensures .0 ∙ c .before .before .before .before .before .before .before .code .ensures) (c .before .before .before .before .match .keys3)) (c .before .before .write-diff .ensures)
+write-rule-returns-6 : (t : ℕ) → write-rule-lts.Need-returns-6 (write-rule-calls t) (write-rule-at t) write-rule.Post
+write-rule-returns-6 t c =
+    let args = c .before .before .before .before .before .before .before .before .before .before .before .before .before .args in
+    let if1 = c .before .before .before .before .before .before .before .before .before .if1 in
+    let if2 = c .before .before .before .before .before .before .before .before .if2 in
+    let code = c .before .before .before .before .before .before .before .code in
+    let wide = c .before .before .before .before .before .before .wide in
+    let match = c .before .before .before .before .match in
+    let write-diff = c .before .before .write-diff in
+    as-text _ _ _ _ _
+    (text-diff (args .by .symbol) (args .by .state) (tree (args .f .now) (args .k)) (args .levels) (args .q) (args .i) (wide .result) (if1 .left)
+    (leb-false 128 (args .i) (if2 .left)) (wide .ensures .0 ∙ code .ensures) (match .keys3))
+    (write-diff .ensures)
 
-write-rule-same-length-7 : (t : ℕ) → write-rule-lts.Need-same-length-7 (
-  put-literal-reads.Asked,
-  put-literal-reads.Learnt,
-  code-reads.Asked,
-  code-reads.Learnt,
-  wide-reads.Asked,
-  wide-reads.Learnt,
-  literal-bits-reads.Asked,
-  literal-bits-reads.Learnt,
-  put-child-reads.Asked,
-  put-child-reads.Learnt,
-  write-diff-below t,
-  write-diff.Post,
-  put-tree-reads.Asked,
-  put-tree-reads.Learnt,
-  diff-attributes-reads.Asked,
-  diff-attributes-reads.Learnt,
-  is-zero-reads.Asked,
-  is-zero-reads.Learnt,
-  write-rule-below t,
-  write-rule.Post,
-  write-sum-below t,
-  write-sum.Post,
-  write-product-below t,
-  write-product.Post,
-  write-extremum-below t,
-  write-extremum.Post,
-  parts-of-reads.Asked,
-  parts-of-reads.Learnt,
-  write-node-below t,
-  write-node.Post,
-) (write-rule-at t) write-rule.Post
+write-rule-same-length-7 : (t : ℕ) → write-rule-lts.Need-same-length-7 (write-rule-calls t) (write-rule-at t) write-rule.Post
 write-rule-same-length-7 t c = c .before .before .put-tree .kept .1 .1 .1 .0
 
-write-rule-returns-7 : (t : ℕ) → write-rule-lts.Need-returns-7 (
-  put-literal-reads.Asked,
-  put-literal-reads.Learnt,
-  code-reads.Asked,
-  code-reads.Learnt,
-  wide-reads.Asked,
-  wide-reads.Learnt,
-  literal-bits-reads.Asked,
-  literal-bits-reads.Learnt,
-  put-child-reads.Asked,
-  put-child-reads.Learnt,
-  write-diff-below t,
-  write-diff.Post,
-  put-tree-reads.Asked,
-  put-tree-reads.Learnt,
-  diff-attributes-reads.Asked,
-  diff-attributes-reads.Learnt,
-  is-zero-reads.Asked,
-  is-zero-reads.Learnt,
-  write-rule-below t,
-  write-rule.Post,
-  write-sum-below t,
-  write-sum.Post,
-  write-product-below t,
-  write-product.Post,
-  write-extremum-below t,
-  write-extremum.Post,
-  parts-of-reads.Asked,
-  parts-of-reads.Learnt,
-  write-node-below t,
-  write-node.Post,
-) (write-rule-at t) write-rule.Post
-write-rule-returns-7 t c = as-text _ _ _ _ _ (text-whole (c .before .before .before .before .before .before .before .before .before .before .before .before .before .args .by .symbol) (c .before .before .before .before .before .before .before .before .before .before .before .before .before .args .by .state) (tree (c .before .before .before .before .before .before .before .before .before .before .before .before .before .args .f .now) (c .before .before .before .before .before .before .before .before .before .before .before .before .before .args .k)) (c .before .before .before .before .before .before .before .before .before .before .before .before .before .args .levels) (c .before .before .before .before .before .before .before .before .before .before .before .before .before .args .q) (c .before .before .before .before .before .before .before .before .before .before .before .before .before .args .i) (c .before .before .before .before .before .before .wide .result) (c .before .before .before .before .before .before .before .before .before .if1 .left) (leb-false 128 (c .before .before .before .before .before .before .before .before .before .before .before .before .before .args .i) (c .before .before .before .before .before .before .before .before .if2 .left)) (c .before .before .before .before .before .before .wide .ensures .0 ∙ c .before .before .before .before .before .before .before .code .ensures) (c .before .before .before .before .match .keys4)) (c .before .before .put-tree .ensures)
+write-rule-returns-7 : (t : ℕ) → write-rule-lts.Need-returns-7 (write-rule-calls t) (write-rule-at t) write-rule.Post
+write-rule-returns-7 t c =
+    let args = c .before .before .before .before .before .before .before .before .before .before .before .before .before .args in
+    let if1 = c .before .before .before .before .before .before .before .before .before .if1 in
+    let if2 = c .before .before .before .before .before .before .before .before .if2 in
+    let code = c .before .before .before .before .before .before .before .code in
+    let wide = c .before .before .before .before .before .before .wide in
+    let match = c .before .before .before .before .match in
+    let put-tree = c .before .before .put-tree in
+    as-text _ _ _ _ _
+    (text-whole (args .by .symbol) (args .by .state) (tree (args .f .now) (args .k)) (args .levels) (args .q) (args .i) (wide .result) (if1 .left)
+    (leb-false 128 (args .i) (if2 .left)) (wide .ensures .0 ∙ code .ensures) (match .keys4))
+    (put-tree .ensures)
 
-write-rule-same-length-8 : (t : ℕ) → write-rule-lts.Need-same-length-8 (
-  put-literal-reads.Asked,
-  put-literal-reads.Learnt,
-  code-reads.Asked,
-  code-reads.Learnt,
-  wide-reads.Asked,
-  wide-reads.Learnt,
-  literal-bits-reads.Asked,
-  literal-bits-reads.Learnt,
-  put-child-reads.Asked,
-  put-child-reads.Learnt,
-  write-diff-below t,
-  write-diff.Post,
-  put-tree-reads.Asked,
-  put-tree-reads.Learnt,
-  diff-attributes-reads.Asked,
-  diff-attributes-reads.Learnt,
-  is-zero-reads.Asked,
-  is-zero-reads.Learnt,
-  write-rule-below t,
-  write-rule.Post,
-  write-sum-below t,
-  write-sum.Post,
-  write-product-below t,
-  write-product.Post,
-  write-extremum-below t,
-  write-extremum.Post,
-  parts-of-reads.Asked,
-  parts-of-reads.Learnt,
-  write-node-below t,
-  write-node.Post,
-) (write-rule-at t) write-rule.Post
+write-rule-same-length-8 : (t : ℕ) → write-rule-lts.Need-same-length-8 (write-rule-calls t) (write-rule-at t) write-rule.Post
 write-rule-same-length-8 t c = c .before .before .write-rule .kept .1 .1 .1 .1 .1 .1 .1 .1 .0
 
-write-rule-returns-8 : (t : ℕ) → write-rule-lts.Need-returns-8 (
-  put-literal-reads.Asked,
-  put-literal-reads.Learnt,
-  code-reads.Asked,
-  code-reads.Learnt,
-  wide-reads.Asked,
-  wide-reads.Learnt,
-  literal-bits-reads.Asked,
-  literal-bits-reads.Learnt,
-  put-child-reads.Asked,
-  put-child-reads.Learnt,
-  write-diff-below t,
-  write-diff.Post,
-  put-tree-reads.Asked,
-  put-tree-reads.Learnt,
-  diff-attributes-reads.Asked,
-  diff-attributes-reads.Learnt,
-  is-zero-reads.Asked,
-  is-zero-reads.Learnt,
-  write-rule-below t,
-  write-rule.Post,
-  write-sum-below t,
-  write-sum.Post,
-  write-product-below t,
-  write-product.Post,
-  write-extremum-below t,
-  write-extremum.Post,
-  parts-of-reads.Asked,
-  parts-of-reads.Learnt,
-  write-node-below t,
-  write-node.Post,
-) (write-rule-at t) write-rule.Post
-write-rule-returns-8 t c = as-text _ _ _ _ _ (text-unless-no (c .before .before .before .before .before .before .before .before .before .before .before .before .before .before .before .before .args .by .symbol) (c .before .before .before .before .before .before .before .before .before .before .before .before .before .before .before .before .args .by .state) (tree (c .before .before .before .before .before .before .before .before .before .before .before .before .before .before .before .before .args .f .now) (c .before .before .before .before .before .before .before .before .before .before .before .before .before .before .before .before .args .k)) (c .before .before .before .before .before .before .before .before .before .before .before .before .before .before .before .before .args .levels) (c .before .before .before .before .before .before .before .before .before .before .before .before .before .before .before .before .args .q) (c .before .before .before .before .before .before .before .before .before .before .before .before .before .before .before .before .args .i) (c .before .before .before .before .before .before .before .before .before .wide .result) (c .before .before .before .before .before .before .before .before .before .before .before .before .if1 .left) (leb-false 128 (c .before .before .before .before .before .before .before .before .before .before .before .before .before .before .before .before .args .i) (c .before .before .before .before .before .before .before .before .before .before .before .if2 .left)) (c .before .before .before .before .before .before .before .before .before .wide .ensures .0 ∙ c .before .before .before .before .before .before .before .before .before .before .code .ensures) (c .before .before .before .before .before .before .before .match .keys5) (tested (c .before .before .before .before .before .is-zero .result) (c .before .before .before .before .before .before .diff-attributes .result) (derived-of (c .before .before .before .before .before .before .before .before .before .before .before .before .before .before .before .before .args .by .symbol) (c .before .before .before .before .before .before .before .before .before .before .before .before .before .before .before .before .args .by .state) (tree (c .before .before .before .before .before .before .before .before .before .before .before .before .before .before .before .before .args .f .now) (c .before .before .before .before .before .before .before .before .before .before .before .before .before .before .before .before .args .k)) (c .before .before .before .before .before .before .before .before .before .wide .result % 16)) _ (c .before .before .before .before .before .is-zero .ensures) (c .before .before .before .before .before .before .diff-attributes .ensures) (c .before .before .before .before .if4 .left))) (c .before .before .write-rule .ensures)
+write-rule-returns-8 : (t : ℕ) → write-rule-lts.Need-returns-8 (write-rule-calls t) (write-rule-at t) write-rule.Post
+write-rule-returns-8 t c =
+    let args = c .before .before .before .before .before .before .before .before .before .before .before .before .before .before .before .before .args in
+    let if1 = c .before .before .before .before .before .before .before .before .before .before .before .before .if1 in
+    let if2 = c .before .before .before .before .before .before .before .before .before .before .before .if2 in
+    let code = c .before .before .before .before .before .before .before .before .before .before .code in
+    let wide = c .before .before .before .before .before .before .before .before .before .wide in
+    let match = c .before .before .before .before .before .before .before .match in
+    let diff-attributes = c .before .before .before .before .before .before .diff-attributes in
+    let is-zero = c .before .before .before .before .before .is-zero in
+    let if4 = c .before .before .before .before .if4 in
+    let write-rule = c .before .before .write-rule in
+    let the-tree = tree (args .f .now) (args .k) in
+    as-text _ _ _ _ _
+    (text-unless-no (args .by .symbol) (args .by .state) the-tree (args .levels) (args .q) (args .i) (wide .result) (if1 .left)
+    (leb-false 128 (args .i) (if2 .left)) (wide .ensures .0 ∙ code .ensures) (match .keys5)
+    (tested (is-zero .result) (diff-attributes .result) (derived-of (args .by .symbol) (args .by .state) the-tree (wide .result % 16)) _ (is-zero .ensures)
+    (diff-attributes .ensures) (if4 .left)))
+    (write-rule .ensures)
 
-write-rule-same-length-9 : (t : ℕ) → write-rule-lts.Need-same-length-9 (
-  put-literal-reads.Asked,
-  put-literal-reads.Learnt,
-  code-reads.Asked,
-  code-reads.Learnt,
-  wide-reads.Asked,
-  wide-reads.Learnt,
-  literal-bits-reads.Asked,
-  literal-bits-reads.Learnt,
-  put-child-reads.Asked,
-  put-child-reads.Learnt,
-  write-diff-below t,
-  write-diff.Post,
-  put-tree-reads.Asked,
-  put-tree-reads.Learnt,
-  diff-attributes-reads.Asked,
-  diff-attributes-reads.Learnt,
-  is-zero-reads.Asked,
-  is-zero-reads.Learnt,
-  write-rule-below t,
-  write-rule.Post,
-  write-sum-below t,
-  write-sum.Post,
-  write-product-below t,
-  write-product.Post,
-  write-extremum-below t,
-  write-extremum.Post,
-  parts-of-reads.Asked,
-  parts-of-reads.Learnt,
-  write-node-below t,
-  write-node.Post,
-) (write-rule-at t) write-rule.Post
+write-rule-same-length-9 : (t : ℕ) → write-rule-lts.Need-same-length-9 (write-rule-calls t) (write-rule-at t) write-rule.Post
 write-rule-same-length-9 t c = c .before .before .write-sum .kept .1 .1 .1 .1 .1 .1 .1 .1 .0
 
-write-rule-returns-9 : (t : ℕ) → write-rule-lts.Need-returns-9 (
-  put-literal-reads.Asked,
-  put-literal-reads.Learnt,
-  code-reads.Asked,
-  code-reads.Learnt,
-  wide-reads.Asked,
-  wide-reads.Learnt,
-  literal-bits-reads.Asked,
-  literal-bits-reads.Learnt,
-  put-child-reads.Asked,
-  put-child-reads.Learnt,
-  write-diff-below t,
-  write-diff.Post,
-  put-tree-reads.Asked,
-  put-tree-reads.Learnt,
-  diff-attributes-reads.Asked,
-  diff-attributes-reads.Learnt,
-  is-zero-reads.Asked,
-  is-zero-reads.Learnt,
-  write-rule-below t,
-  write-rule.Post,
-  write-sum-below t,
-  write-sum.Post,
-  write-product-below t,
-  write-product.Post,
-  write-extremum-below t,
-  write-extremum.Post,
-  parts-of-reads.Asked,
-  parts-of-reads.Learnt,
-  write-node-below t,
-  write-node.Post,
-) (write-rule-at t) write-rule.Post
-write-rule-returns-9 t c = as-text _ _ _ _ _ (text-sum (c .before .before .before .before .before .before .before .before .before .before .before .before .before .args .by .symbol) (c .before .before .before .before .before .before .before .before .before .before .before .before .before .args .by .state) (tree (c .before .before .before .before .before .before .before .before .before .before .before .before .before .args .f .now) (c .before .before .before .before .before .before .before .before .before .before .before .before .before .args .k)) (c .before .before .before .before .before .before .before .before .before .before .before .before .before .args .levels) (c .before .before .before .before .before .before .before .before .before .before .before .before .before .args .q) (c .before .before .before .before .before .before .before .before .before .before .before .before .before .args .i) (c .before .before .before .before .before .before .wide .result) (c .before .before .before .before .before .before .before .before .before .if1 .left) (leb-false 128 (c .before .before .before .before .before .before .before .before .before .before .before .before .before .args .i) (c .before .before .before .before .before .before .before .before .if2 .left)) (c .before .before .before .before .before .before .wide .ensures .0 ∙ c .before .before .before .before .before .before .before .code .ensures) (c .before .before .before .before .match .keys6)) (c .before .before .write-sum .ensures)
+write-rule-returns-9 : (t : ℕ) → write-rule-lts.Need-returns-9 (write-rule-calls t) (write-rule-at t) write-rule.Post
+write-rule-returns-9 t c =
+    let args = c .before .before .before .before .before .before .before .before .before .before .before .before .before .args in
+    let if1 = c .before .before .before .before .before .before .before .before .before .if1 in
+    let if2 = c .before .before .before .before .before .before .before .before .if2 in
+    let code = c .before .before .before .before .before .before .before .code in
+    let wide = c .before .before .before .before .before .before .wide in
+    let match = c .before .before .before .before .match in
+    let write-sum = c .before .before .write-sum in
+    as-text _ _ _ _ _
+    (text-sum (args .by .symbol) (args .by .state) (tree (args .f .now) (args .k)) (args .levels) (args .q) (args .i) (wide .result) (if1 .left)
+    (leb-false 128 (args .i) (if2 .left)) (wide .ensures .0 ∙ code .ensures) (match .keys6))
+    (write-sum .ensures)
 
-write-rule-same-length-10 : (t : ℕ) → write-rule-lts.Need-same-length-10 (
-  put-literal-reads.Asked,
-  put-literal-reads.Learnt,
-  code-reads.Asked,
-  code-reads.Learnt,
-  wide-reads.Asked,
-  wide-reads.Learnt,
-  literal-bits-reads.Asked,
-  literal-bits-reads.Learnt,
-  put-child-reads.Asked,
-  put-child-reads.Learnt,
-  write-diff-below t,
-  write-diff.Post,
-  put-tree-reads.Asked,
-  put-tree-reads.Learnt,
-  diff-attributes-reads.Asked,
-  diff-attributes-reads.Learnt,
-  is-zero-reads.Asked,
-  is-zero-reads.Learnt,
-  write-rule-below t,
-  write-rule.Post,
-  write-sum-below t,
-  write-sum.Post,
-  write-product-below t,
-  write-product.Post,
-  write-extremum-below t,
-  write-extremum.Post,
-  parts-of-reads.Asked,
-  parts-of-reads.Learnt,
-  write-node-below t,
-  write-node.Post,
-) (write-rule-at t) write-rule.Post
+write-rule-same-length-10 : (t : ℕ) → write-rule-lts.Need-same-length-10 (write-rule-calls t) (write-rule-at t) write-rule.Post
 write-rule-same-length-10 t c = c .before .before .write-product .kept .1 .1 .1 .1 .1 .1 .1 .1 .0
 
-write-rule-returns-10 : (t : ℕ) → write-rule-lts.Need-returns-10 (
-  put-literal-reads.Asked,
-  put-literal-reads.Learnt,
-  code-reads.Asked,
-  code-reads.Learnt,
-  wide-reads.Asked,
-  wide-reads.Learnt,
-  literal-bits-reads.Asked,
-  literal-bits-reads.Learnt,
-  put-child-reads.Asked,
-  put-child-reads.Learnt,
-  write-diff-below t,
-  write-diff.Post,
-  put-tree-reads.Asked,
-  put-tree-reads.Learnt,
-  diff-attributes-reads.Asked,
-  diff-attributes-reads.Learnt,
-  is-zero-reads.Asked,
-  is-zero-reads.Learnt,
-  write-rule-below t,
-  write-rule.Post,
-  write-sum-below t,
-  write-sum.Post,
-  write-product-below t,
-  write-product.Post,
-  write-extremum-below t,
-  write-extremum.Post,
-  parts-of-reads.Asked,
-  parts-of-reads.Learnt,
-  write-node-below t,
-  write-node.Post,
-) (write-rule-at t) write-rule.Post
-write-rule-returns-10 t c = as-text _ _ _ _ _ (text-product (c .before .before .before .before .before .before .before .before .before .before .before .before .before .args .by .symbol) (c .before .before .before .before .before .before .before .before .before .before .before .before .before .args .by .state) (tree (c .before .before .before .before .before .before .before .before .before .before .before .before .before .args .f .now) (c .before .before .before .before .before .before .before .before .before .before .before .before .before .args .k)) (c .before .before .before .before .before .before .before .before .before .before .before .before .before .args .levels) (c .before .before .before .before .before .before .before .before .before .before .before .before .before .args .q) (c .before .before .before .before .before .before .before .before .before .before .before .before .before .args .i) (c .before .before .before .before .before .before .wide .result) (c .before .before .before .before .before .before .before .before .before .if1 .left) (leb-false 128 (c .before .before .before .before .before .before .before .before .before .before .before .before .before .args .i) (c .before .before .before .before .before .before .before .before .if2 .left)) (c .before .before .before .before .before .before .wide .ensures .0 ∙ c .before .before .before .before .before .before .before .code .ensures) (c .before .before .before .before .match .keys7)) (c .before .before .write-product .ensures)
+write-rule-returns-10 : (t : ℕ) → write-rule-lts.Need-returns-10 (write-rule-calls t) (write-rule-at t) write-rule.Post
+write-rule-returns-10 t c =
+    let args = c .before .before .before .before .before .before .before .before .before .before .before .before .before .args in
+    let if1 = c .before .before .before .before .before .before .before .before .before .if1 in
+    let if2 = c .before .before .before .before .before .before .before .before .if2 in
+    let code = c .before .before .before .before .before .before .before .code in
+    let wide = c .before .before .before .before .before .before .wide in
+    let match = c .before .before .before .before .match in
+    let write-product = c .before .before .write-product in
+    as-text _ _ _ _ _
+    (text-product (args .by .symbol) (args .by .state) (tree (args .f .now) (args .k)) (args .levels) (args .q) (args .i) (wide .result) (if1 .left)
+    (leb-false 128 (args .i) (if2 .left)) (wide .ensures .0 ∙ code .ensures) (match .keys7))
+    (write-product .ensures)
 
-write-rule-same-length-11 : (t : ℕ) → write-rule-lts.Need-same-length-11 (
-  put-literal-reads.Asked,
-  put-literal-reads.Learnt,
-  code-reads.Asked,
-  code-reads.Learnt,
-  wide-reads.Asked,
-  wide-reads.Learnt,
-  literal-bits-reads.Asked,
-  literal-bits-reads.Learnt,
-  put-child-reads.Asked,
-  put-child-reads.Learnt,
-  write-diff-below t,
-  write-diff.Post,
-  put-tree-reads.Asked,
-  put-tree-reads.Learnt,
-  diff-attributes-reads.Asked,
-  diff-attributes-reads.Learnt,
-  is-zero-reads.Asked,
-  is-zero-reads.Learnt,
-  write-rule-below t,
-  write-rule.Post,
-  write-sum-below t,
-  write-sum.Post,
-  write-product-below t,
-  write-product.Post,
-  write-extremum-below t,
-  write-extremum.Post,
-  parts-of-reads.Asked,
-  parts-of-reads.Learnt,
-  write-node-below t,
-  write-node.Post,
-) (write-rule-at t) write-rule.Post
+write-rule-same-length-11 : (t : ℕ) → write-rule-lts.Need-same-length-11 (write-rule-calls t) (write-rule-at t) write-rule.Post
 write-rule-same-length-11 t c = c .before .before .write-extremum .kept .1 .1 .1 .1 .1 .0
 
-write-rule-returns-11 : (t : ℕ) → write-rule-lts.Need-returns-11 (
-  put-literal-reads.Asked,
-  put-literal-reads.Learnt,
-  code-reads.Asked,
-  code-reads.Learnt,
-  wide-reads.Asked,
-  wide-reads.Learnt,
-  literal-bits-reads.Asked,
-  literal-bits-reads.Learnt,
-  put-child-reads.Asked,
-  put-child-reads.Learnt,
-  write-diff-below t,
-  write-diff.Post,
-  put-tree-reads.Asked,
-  put-tree-reads.Learnt,
-  diff-attributes-reads.Asked,
-  diff-attributes-reads.Learnt,
-  is-zero-reads.Asked,
-  is-zero-reads.Learnt,
-  write-rule-below t,
-  write-rule.Post,
-  write-sum-below t,
-  write-sum.Post,
-  write-product-below t,
-  write-product.Post,
-  write-extremum-below t,
-  write-extremum.Post,
-  parts-of-reads.Asked,
-  parts-of-reads.Learnt,
-  write-node-below t,
-  write-node.Post,
-) (write-rule-at t) write-rule.Post
-write-rule-returns-11 t c = as-text _ _ _ _ _ (text-extremum (c .before .before .before .before .before .before .before .before .before .before .before .before .before .args .by .symbol) (c .before .before .before .before .before .before .before .before .before .before .before .before .before .args .by .state) (tree (c .before .before .before .before .before .before .before .before .before .before .before .before .before .args .f .now) (c .before .before .before .before .before .before .before .before .before .before .before .before .before .args .k)) (c .before .before .before .before .before .before .before .before .before .before .before .before .before .args .levels) (c .before .before .before .before .before .before .before .before .before .before .before .before .before .args .q) (c .before .before .before .before .before .before .before .before .before .before .before .before .before .args .i) (c .before .before .before .before .before .before .wide .result) (c .before .before .before .before .before .before .before .before .before .if1 .left) (leb-false 128 (c .before .before .before .before .before .before .before .before .before .before .before .before .before .args .i) (c .before .before .before .before .before .before .before .before .if2 .left)) (c .before .before .before .before .before .before .wide .ensures .0 ∙ c .before .before .before .before .before .before .before .code .ensures) (c .before .before .before .before .match .keys8)) (c .before .before .write-extremum .ensures)
+write-rule-returns-11 : (t : ℕ) → write-rule-lts.Need-returns-11 (write-rule-calls t) (write-rule-at t) write-rule.Post
+write-rule-returns-11 t c =
+    let args = c .before .before .before .before .before .before .before .before .before .before .before .before .before .args in
+    let if1 = c .before .before .before .before .before .before .before .before .before .if1 in
+    let if2 = c .before .before .before .before .before .before .before .before .if2 in
+    let code = c .before .before .before .before .before .before .before .code in
+    let wide = c .before .before .before .before .before .before .wide in
+    let match = c .before .before .before .before .match in
+    let write-extremum = c .before .before .write-extremum in
+    as-text _ _ _ _ _
+    (text-extremum (args .by .symbol) (args .by .state) (tree (args .f .now) (args .k)) (args .levels) (args .q) (args .i) (wide .result) (if1 .left)
+    (leb-false 128 (args .i) (if2 .left)) (wide .ensures .0 ∙ code .ensures) (match .keys8))
+    (write-extremum .ensures)
 
-write-rule-same-length-12 : (t : ℕ) → write-rule-lts.Need-same-length-12 (
-  put-literal-reads.Asked,
-  put-literal-reads.Learnt,
-  code-reads.Asked,
-  code-reads.Learnt,
-  wide-reads.Asked,
-  wide-reads.Learnt,
-  literal-bits-reads.Asked,
-  literal-bits-reads.Learnt,
-  put-child-reads.Asked,
-  put-child-reads.Learnt,
-  write-diff-below t,
-  write-diff.Post,
-  put-tree-reads.Asked,
-  put-tree-reads.Learnt,
-  diff-attributes-reads.Asked,
-  diff-attributes-reads.Learnt,
-  is-zero-reads.Asked,
-  is-zero-reads.Learnt,
-  write-rule-below t,
-  write-rule.Post,
-  write-sum-below t,
-  write-sum.Post,
-  write-product-below t,
-  write-product.Post,
-  write-extremum-below t,
-  write-extremum.Post,
-  parts-of-reads.Asked,
-  parts-of-reads.Learnt,
-  write-node-below t,
-  write-node.Post,
-) (write-rule-at t) write-rule.Post
+write-rule-same-length-12 : (t : ℕ) → write-rule-lts.Need-same-length-12 (write-rule-calls t) (write-rule-at t) write-rule.Post
 write-rule-same-length-12 t c = c .before .before .write-node .kept .1 .1 .1 .1 .1 .1 .1 .1 .1 .1 .1 .0
 
-write-rule-returns-12 : (t : ℕ) → write-rule-lts.Need-returns-12 (
-  put-literal-reads.Asked,
-  put-literal-reads.Learnt,
-  code-reads.Asked,
-  code-reads.Learnt,
-  wide-reads.Asked,
-  wide-reads.Learnt,
-  literal-bits-reads.Asked,
-  literal-bits-reads.Learnt,
-  put-child-reads.Asked,
-  put-child-reads.Learnt,
-  write-diff-below t,
-  write-diff.Post,
-  put-tree-reads.Asked,
-  put-tree-reads.Learnt,
-  diff-attributes-reads.Asked,
-  diff-attributes-reads.Learnt,
-  is-zero-reads.Asked,
-  is-zero-reads.Learnt,
-  write-rule-below t,
-  write-rule.Post,
-  write-sum-below t,
-  write-sum.Post,
-  write-product-below t,
-  write-product.Post,
-  write-extremum-below t,
-  write-extremum.Post,
-  parts-of-reads.Asked,
-  parts-of-reads.Learnt,
-  write-node-below t,
-  write-node.Post,
-) (write-rule-at t) write-rule.Post
-write-rule-returns-12 t c = as-text _ _ _ _ _ (text-node (c .before .before .before .before .before .before .before .before .before .before .before .before .before .before .args .by .symbol) (c .before .before .before .before .before .before .before .before .before .before .before .before .before .before .args .by .state) (tree (c .before .before .before .before .before .before .before .before .before .before .before .before .before .before .args .f .now) (c .before .before .before .before .before .before .before .before .before .before .before .before .before .before .args .k)) (c .before .before .before .before .before .before .before .before .before .before .before .before .before .before .args .levels) (c .before .before .before .before .before .before .before .before .before .before .before .before .before .before .args .q) (c .before .before .before .before .before .before .before .before .before .before .before .before .before .before .args .i) (c .before .before .before .before .before .before .before .wide .result) (c .before .before .before .before .before .before .before .before .before .before .if1 .left) (leb-false 128 (c .before .before .before .before .before .before .before .before .before .before .before .before .before .before .args .i) (c .before .before .before .before .before .before .before .before .before .if2 .left)) (c .before .before .before .before .before .before .before .wide .ensures .0 ∙ c .before .before .before .before .before .before .before .before .code .ensures) (writing (c .before .before .before .before .before .before .before .wide .result / 16) (c .before .before .before .before .before .before .if3 .left) (c .before .before .before .before .before .match .rest .0 .0 .0 .0 .0 .0 .0 .1) (c .before .before .before .before .before .match .rest .0 .0 .0 .0 .0 .0 .1) (c .before .before .before .before .before .match .rest .0 .0 .0 .0 .0 .1) (c .before .before .before .before .before .match .rest .0 .0 .0 .0 .1) (c .before .before .before .before .before .match .rest .0 .0 .0 .1) (c .before .before .before .before .before .match .rest .0 .0 .1) (c .before .before .before .before .before .match .rest .0 .1) (c .before .before .before .before .before .match .rest .1)) (c .before .before .before .before .parts-of .result) (c .before .before .before .before .parts-of .ensures .0)) (c .before .before .write-node .ensures)
+write-rule-returns-12 : (t : ℕ) → write-rule-lts.Need-returns-12 (write-rule-calls t) (write-rule-at t) write-rule.Post
+write-rule-returns-12 t c =
+    let args = c .before .before .before .before .before .before .before .before .before .before .before .before .before .before .args in
+    let if1 = c .before .before .before .before .before .before .before .before .before .before .if1 in
+    let if2 = c .before .before .before .before .before .before .before .before .before .if2 in
+    let code = c .before .before .before .before .before .before .before .before .code in
+    let wide = c .before .before .before .before .before .before .before .wide in
+    let if3 = c .before .before .before .before .before .before .if3 in
+    let match = c .before .before .before .before .before .match in
+    let parts-of = c .before .before .before .before .parts-of in
+    let write-node = c .before .before .write-node in
+    as-text _ _ _ _ _
+    (text-node (args .by .symbol) (args .by .state) (tree (args .f .now) (args .k)) (args .levels) (args .q) (args .i) (wide .result) (if1 .left)
+    (leb-false 128 (args .i) (if2 .left)) (wide .ensures .0 ∙ code .ensures)
+    (writing (wide .result / 16) (if3 .left) (match .rest .0 .0 .0 .0 .0 .0 .0 .1) (match .rest .0 .0 .0 .0 .0 .0 .1) (match .rest .0 .0 .0 .0 .0 .1)
+    (match .rest .0 .0 .0 .0 .1) (match .rest .0 .0 .0 .1) (match .rest .0 .0 .1) (match .rest .0 .1) (match .rest .1))
+    (parts-of .result) (parts-of .ensures .0))
+    (write-node .ensures)
 
-write-rules-returns : (t : ℕ) → write-rules-lts.Need-returns (
-  write-rule-below t,
-  write-rule.Post,
-  end-of-reads.Asked,
-  end-of-reads.Learnt,
-  write-rules-below t,
-  write-rules.Post,
-) (write-rules-at t) write-rules.Post
-write-rules-returns t c = as-text _ _ _ _ _ (none-left (c .before .before .before .before .args .by .symbol) (c .before .before .before .before .args .by .state) (tree (c .before .before .before .before .args .f .now) (c .before .before .before .before .args .k)) (c .before .before .before .before .args .levels) (c .before .before .before .before .args .q) (c .before .before .before .before .args .left) (c .before .before .before .before .args .i) (c .if1 .taken)) (writes-none (c .before .before .before .before .args .out .now))
+write-rules-returns : (t : ℕ) → write-rules-lts.Need-returns (write-rules-calls t) (write-rules-at t) write-rules.Post
+write-rules-returns t c =
+    let args = c .before .before .before .before .args in
+    as-text _ _ _ _ _
+    (none-left (args .by .symbol) (args .by .state) (tree (args .f .now) (args .k)) (args .levels) (args .q) (args .left) (args .i) (c .if1 .taken))
+    (writes-none (args .out .now))
 
-write-rules-write-rule-requires : (t : ℕ) → write-rules-lts.Need-write-rule-requires (
-  write-rule-below t,
-  write-rule.Post,
-  end-of-reads.Asked,
-  end-of-reads.Learnt,
-  write-rules-below t,
-  write-rules.Post,
-) (write-rules-at t) write-rules.Post
-write-rules-write-rule-requires t c κs = (omega (arith, c .before .before .before .before .before .pre .0), record { known = c .before .before .before .before .before .pre .1 .1 .known; deep = c .before .before .before .before .before .pre .1 .1 .deep; room = omega (arith, c .before .before .before .before .before .pre .1 .1 .room, ap length (next-part (c .before .before .before .before .before .args .by .symbol) (c .before .before .before .before .before .args .by .state) (tree (c .before .before .before .before .before .args .f .now) (c .before .before .before .before .before .args .k)) (c .before .before .before .before .before .args .levels) (c .before .before .before .before .before .args .q) (c .before .before .before .before .before .args .left) (c .before .before .before .before .before .args .i) (end-at (c .before .before .before .before .before .args .levels) (c .before .before .before .before .before .args .q) (c .before .before .before .before .before .args .i)) (c .before .if1 .left) refl), length-append (encode (part (c .before .before .before .before .before .args .by .symbol) (c .before .before .before .before .before .args .by .state) (tree (c .before .before .before .before .before .args .f .now) (c .before .before .before .before .before .args .k)) (c .before .before .before .before .before .args .levels) (c .before .before .before .before .before .args .q) (c .before .before .before .before .before .args .i))) (parts-bytes (c .before .before .before .before .before .args .by .symbol) (c .before .before .before .before .before .args .by .state) (tree (c .before .before .before .before .before .args .f .now) (c .before .before .before .before .before .args .k)) (c .before .before .before .before .before .args .levels) (c .before .before .before .before .before .args .q) (c .before .before .before .before .before .args .left - 1) (end-at (c .before .before .before .before .before .args .levels) (c .before .before .before .before .before .args .q) (c .before .before .before .before .before .args .i)))) })
+write-rules-write-rule-requires : (t : ℕ) → write-rules-lts.Need-write-rule-requires (write-rules-calls t) (write-rules-at t) write-rules.Post
+write-rules-write-rule-requires t c κs =
+    let args = c .before .before .before .before .before .args in
+    let pre = c .before .before .before .before .before .pre in
+    let the-tree = tree (args .f .now) (args .k) in
+    let the-end-at = end-at (args .levels) (args .q) (args .i) in (
+      omega (arith, pre .0),
+      record {
+        known = pre .1 .1 .known;
+        deep = pre .1 .1 .deep;
+        room =
+            omega (
+              arith,
+              pre .1 .1 .room,
+              ap length
+                  (next-part (args .by .symbol) (args .by .state) the-tree (args .levels) (args .q) (args .left) (args .i) the-end-at (c .before .if1 .left) refl),
+              length-append (encode (part (args .by .symbol) (args .by .state) the-tree (args .levels) (args .q) (args .i)))
+                  (parts-bytes (args .by .symbol) (args .by .state) the-tree (args .levels) (args .q) (args .left - 1) the-end-at),
+            );
+      },
+    )
 
-write-rules-end-of-requires : (t : ℕ) → write-rules-lts.Need-end-of-requires (
-  write-rule-below t,
-  write-rule.Post,
-  end-of-reads.Asked,
-  end-of-reads.Learnt,
-  write-rules-below t,
-  write-rules.Post,
-) (write-rules-at t) write-rules.Post
+write-rules-end-of-requires : (t : ℕ) → write-rules-lts.Need-end-of-requires (write-rules-calls t) (write-rules-at t) write-rules.Post
 write-rules-end-of-requires t c κs = search needs
 
-write-rules-sub-write-rules : (t : ℕ) → write-rules-lts.Need-sub-write-rules (
-  write-rule-below t,
-  write-rule.Post,
-  end-of-reads.Asked,
-  end-of-reads.Learnt,
-  write-rules-below t,
-  write-rules.Post,
-) (write-rules-at t) write-rules.Post
-write-rules-sub-write-rules t c = let h = free-start (encode (part (c .before .before .before .before .before .before .before .before .before .args .by .symbol) (c .before .before .before .before .before .before .before .before .before .args .by .state) (tree (c .before .before .before .before .before .before .before .before .before .args .f .now) (c .before .before .before .before .before .before .before .before .before .args .k)) (c .before .before .before .before .before .before .before .before .before .args .levels) (c .before .before .before .before .before .before .before .before .before .args .q) (c .before .before .before .before .before .before .before .before .before .args .i))) (c .before .before .before .before .before .before .before .before .before .args .out .now) (c .before .before .before .write-rule .last .1 .1 .1 .1 .1 .1 .1 .1 .0) (c .before .before .before .write-rule .result) (c .before .before .before .write-rule .ensures) (omega (arith, c .before .before .before .before .before .before .before .before .before .pre .1 .1 .room, ap length (next-part (c .before .before .before .before .before .before .before .before .before .args .by .symbol) (c .before .before .before .before .before .before .before .before .before .args .by .state) (tree (c .before .before .before .before .before .before .before .before .before .args .f .now) (c .before .before .before .before .before .before .before .before .before .args .k)) (c .before .before .before .before .before .before .before .before .before .args .levels) (c .before .before .before .before .before .before .before .before .before .args .q) (c .before .before .before .before .before .before .before .before .before .args .left) (c .before .before .before .before .before .before .before .before .before .args .i) (end-at (c .before .before .before .before .before .before .before .before .before .args .levels) (c .before .before .before .before .before .before .before .before .before .args .q) (c .before .before .before .before .before .before .before .before .before .args .i)) (c .before .before .before .before .before .if1 .left) refl), length-append (encode (part (c .before .before .before .before .before .before .before .before .before .args .by .symbol) (c .before .before .before .before .before .before .before .before .before .args .by .state) (tree (c .before .before .before .before .before .before .before .before .before .args .f .now) (c .before .before .before .before .before .before .before .before .before .args .k)) (c .before .before .before .before .before .before .before .before .before .args .levels) (c .before .before .before .before .before .before .before .before .before .args .q) (c .before .before .before .before .before .before .before .before .before .args .i))) (parts-bytes (c .before .before .before .before .before .before .before .before .before .args .by .symbol) (c .before .before .before .before .before .before .before .before .before .args .by .state) (tree (c .before .before .before .before .before .before .before .before .before .args .f .now) (c .before .before .before .before .before .before .before .before .before .args .k)) (c .before .before .before .before .before .before .before .before .before .args .levels) (c .before .before .before .before .before .before .before .before .before .args .q) (c .before .before .before .before .before .before .before .before .before .args .left - 1) (end-at (c .before .before .before .before .before .before .before .before .before .args .levels) (c .before .before .before .before .before .before .before .before .before .args .q) (c .before .before .before .before .before .before .before .before .before .args .i))))) in omega (arith, h, c .before .before .before .before .before .if1 .left)
+write-rules-sub-write-rules : (t : ℕ) → write-rules-lts.Need-sub-write-rules (write-rules-calls t) (write-rules-at t) write-rules.Post
+write-rules-sub-write-rules t c =
+    let args = c .before .before .before .before .before .before .before .before .before .args in
+    let pre = c .before .before .before .before .before .before .before .before .before .pre in
+    let if1 = c .before .before .before .before .before .if1 in
+    let write-rule = c .before .before .before .write-rule in
+    let the-tree = tree (args .f .now) (args .k) in
+    let the-encode = encode (part (args .by .symbol) (args .by .state) the-tree (args .levels) (args .q) (args .i)) in
+    let the-end-at = end-at (args .levels) (args .q) (args .i) in
+    let h =
+    free-start the-encode (args .out .now) (write-rule .last .1 .1 .1 .1 .1 .1 .1 .1 .0) (write-rule .result) (write-rule .ensures)
+    (omega (
+      arith,
+      pre .1 .1 .room,
+      ap length (next-part (args .by .symbol) (args .by .state) the-tree (args .levels) (args .q) (args .left) (args .i) the-end-at (if1 .left) refl),
+      length-append the-encode (parts-bytes (args .by .symbol) (args .by .state) the-tree (args .levels) (args .q) (args .left - 1) the-end-at),
+    )) in
+    omega (arith, h, if1 .left)
 
-write-rules-sub-write-rules-2 : (t : ℕ) → write-rules-lts.Need-sub-write-rules-2 (
-  write-rule-below t,
-  write-rule.Post,
-  end-of-reads.Asked,
-  end-of-reads.Learnt,
-  write-rules-below t,
-  write-rules.Post,
-) (write-rules-at t) write-rules.Post
-write-rules-sub-write-rules-2 t c = let h = free-start (encode (part (c .before .before .before .before .before .before .before .before .before .args .by .symbol) (c .before .before .before .before .before .before .before .before .before .args .by .state) (tree (c .before .before .before .before .before .before .before .before .before .args .f .now) (c .before .before .before .before .before .before .before .before .before .args .k)) (c .before .before .before .before .before .before .before .before .before .args .levels) (c .before .before .before .before .before .before .before .before .before .args .q) (c .before .before .before .before .before .before .before .before .before .args .i))) (c .before .before .before .before .before .before .before .before .before .args .out .now) (c .before .before .before .write-rule .last .1 .1 .1 .1 .1 .1 .1 .1 .0) (c .before .before .before .write-rule .result) (c .before .before .before .write-rule .ensures) (omega (arith, c .before .before .before .before .before .before .before .before .before .pre .1 .1 .room, ap length (next-part (c .before .before .before .before .before .before .before .before .before .args .by .symbol) (c .before .before .before .before .before .before .before .before .before .args .by .state) (tree (c .before .before .before .before .before .before .before .before .before .args .f .now) (c .before .before .before .before .before .before .before .before .before .args .k)) (c .before .before .before .before .before .before .before .before .before .args .levels) (c .before .before .before .before .before .before .before .before .before .args .q) (c .before .before .before .before .before .before .before .before .before .args .left) (c .before .before .before .before .before .before .before .before .before .args .i) (end-at (c .before .before .before .before .before .before .before .before .before .args .levels) (c .before .before .before .before .before .before .before .before .before .args .q) (c .before .before .before .before .before .before .before .before .before .args .i)) (c .before .before .before .before .before .if1 .left) refl), length-append (encode (part (c .before .before .before .before .before .before .before .before .before .args .by .symbol) (c .before .before .before .before .before .before .before .before .before .args .by .state) (tree (c .before .before .before .before .before .before .before .before .before .args .f .now) (c .before .before .before .before .before .before .before .before .before .args .k)) (c .before .before .before .before .before .before .before .before .before .args .levels) (c .before .before .before .before .before .before .before .before .before .args .q) (c .before .before .before .before .before .before .before .before .before .args .i))) (parts-bytes (c .before .before .before .before .before .before .before .before .before .args .by .symbol) (c .before .before .before .before .before .before .before .before .before .args .by .state) (tree (c .before .before .before .before .before .before .before .before .before .args .f .now) (c .before .before .before .before .before .before .before .before .before .args .k)) (c .before .before .before .before .before .before .before .before .before .args .levels) (c .before .before .before .before .before .before .before .before .before .args .q) (c .before .before .before .before .before .before .before .before .before .args .left - 1) (end-at (c .before .before .before .before .before .before .before .before .before .args .levels) (c .before .before .before .before .before .before .before .before .before .args .q) (c .before .before .before .before .before .before .before .before .before .args .i))))) in omega (arith, h, c .before .before .before .before .before .if1 .left)
+write-rules-sub-write-rules-2 : (t : ℕ) → write-rules-lts.Need-sub-write-rules-2 (write-rules-calls t) (write-rules-at t) write-rules.Post
+write-rules-sub-write-rules-2 t c =
+    let args = c .before .before .before .before .before .before .before .before .before .args in
+    let pre = c .before .before .before .before .before .before .before .before .before .pre in
+    let if1 = c .before .before .before .before .before .if1 in
+    let write-rule = c .before .before .before .write-rule in
+    let the-tree = tree (args .f .now) (args .k) in
+    let the-encode = encode (part (args .by .symbol) (args .by .state) the-tree (args .levels) (args .q) (args .i)) in
+    let the-end-at = end-at (args .levels) (args .q) (args .i) in
+    let h =
+    free-start the-encode (args .out .now) (write-rule .last .1 .1 .1 .1 .1 .1 .1 .1 .0) (write-rule .result) (write-rule .ensures)
+    (omega (
+      arith,
+      pre .1 .1 .room,
+      ap length (next-part (args .by .symbol) (args .by .state) the-tree (args .levels) (args .q) (args .left) (args .i) the-end-at (if1 .left) refl),
+      length-append the-encode (parts-bytes (args .by .symbol) (args .by .state) the-tree (args .levels) (args .q) (args .left - 1) the-end-at),
+    )) in
+    omega (arith, h, if1 .left)
 
-write-rules-part-write-rules-start : (t : ℕ) → write-rules-lts.Need-part-write-rules-start (
-  write-rule-below t,
-  write-rule.Post,
-  end-of-reads.Asked,
-  end-of-reads.Learnt,
-  write-rules-below t,
-  write-rules.Post,
-) (write-rules-at t) write-rules.Post
-write-rules-part-write-rules-start t c = let h = free-start (encode (part (c .before .before .before .before .before .before .before .before .before .args .by .symbol) (c .before .before .before .before .before .before .before .before .before .args .by .state) (tree (c .before .before .before .before .before .before .before .before .before .args .f .now) (c .before .before .before .before .before .before .before .before .before .args .k)) (c .before .before .before .before .before .before .before .before .before .args .levels) (c .before .before .before .before .before .before .before .before .before .args .q) (c .before .before .before .before .before .before .before .before .before .args .i))) (c .before .before .before .before .before .before .before .before .before .args .out .now) (c .before .before .before .write-rule .last .1 .1 .1 .1 .1 .1 .1 .1 .0) (c .before .before .before .write-rule .result) (c .before .before .before .write-rule .ensures) (omega (arith, c .before .before .before .before .before .before .before .before .before .pre .1 .1 .room, ap length (next-part (c .before .before .before .before .before .before .before .before .before .args .by .symbol) (c .before .before .before .before .before .before .before .before .before .args .by .state) (tree (c .before .before .before .before .before .before .before .before .before .args .f .now) (c .before .before .before .before .before .before .before .before .before .args .k)) (c .before .before .before .before .before .before .before .before .before .args .levels) (c .before .before .before .before .before .before .before .before .before .args .q) (c .before .before .before .before .before .before .before .before .before .args .left) (c .before .before .before .before .before .before .before .before .before .args .i) (end-at (c .before .before .before .before .before .before .before .before .before .args .levels) (c .before .before .before .before .before .before .before .before .before .args .q) (c .before .before .before .before .before .before .before .before .before .args .i)) (c .before .before .before .before .before .if1 .left) refl), length-append (encode (part (c .before .before .before .before .before .before .before .before .before .args .by .symbol) (c .before .before .before .before .before .before .before .before .before .args .by .state) (tree (c .before .before .before .before .before .before .before .before .before .args .f .now) (c .before .before .before .before .before .before .before .before .before .args .k)) (c .before .before .before .before .before .before .before .before .before .args .levels) (c .before .before .before .before .before .before .before .before .before .args .q) (c .before .before .before .before .before .before .before .before .before .args .i))) (parts-bytes (c .before .before .before .before .before .before .before .before .before .args .by .symbol) (c .before .before .before .before .before .before .before .before .before .args .by .state) (tree (c .before .before .before .before .before .before .before .before .before .args .f .now) (c .before .before .before .before .before .before .before .before .before .args .k)) (c .before .before .before .before .before .before .before .before .before .args .levels) (c .before .before .before .before .before .before .before .before .before .args .q) (c .before .before .before .before .before .before .before .before .before .args .left - 1) (end-at (c .before .before .before .before .before .before .before .before .before .args .levels) (c .before .before .before .before .before .before .before .before .before .args .q) (c .before .before .before .before .before .before .before .before .before .args .i))))) in omega (arith, h, c .before .before .before .before .before .if1 .left)
+write-rules-part-write-rules-start : (t : ℕ) → write-rules-lts.Need-part-write-rules-start (write-rules-calls t) (write-rules-at t) write-rules.Post
+write-rules-part-write-rules-start t c =
+    let args = c .before .before .before .before .before .before .before .before .before .args in
+    let pre = c .before .before .before .before .before .before .before .before .before .pre in
+    let if1 = c .before .before .before .before .before .if1 in
+    let write-rule = c .before .before .before .write-rule in
+    let the-tree = tree (args .f .now) (args .k) in
+    let the-encode = encode (part (args .by .symbol) (args .by .state) the-tree (args .levels) (args .q) (args .i)) in
+    let the-end-at = end-at (args .levels) (args .q) (args .i) in
+    let h =
+    free-start the-encode (args .out .now) (write-rule .last .1 .1 .1 .1 .1 .1 .1 .1 .0) (write-rule .result) (write-rule .ensures)
+    (omega (
+      arith,
+      pre .1 .1 .room,
+      ap length (next-part (args .by .symbol) (args .by .state) the-tree (args .levels) (args .q) (args .left) (args .i) the-end-at (if1 .left) refl),
+      length-append the-encode (parts-bytes (args .by .symbol) (args .by .state) the-tree (args .levels) (args .q) (args .left - 1) the-end-at),
+    )) in
+    omega (arith, h, if1 .left)
 
-write-rules-part-write-rules-end : (t : ℕ) → write-rules-lts.Need-part-write-rules-end (
-  write-rule-below t,
-  write-rule.Post,
-  end-of-reads.Asked,
-  end-of-reads.Learnt,
-  write-rules-below t,
-  write-rules.Post,
-) (write-rules-at t) write-rules.Post
-write-rules-part-write-rules-end t c = let h = free-start (encode (part (c .before .before .before .before .before .before .before .before .before .args .by .symbol) (c .before .before .before .before .before .before .before .before .before .args .by .state) (tree (c .before .before .before .before .before .before .before .before .before .args .f .now) (c .before .before .before .before .before .before .before .before .before .args .k)) (c .before .before .before .before .before .before .before .before .before .args .levels) (c .before .before .before .before .before .before .before .before .before .args .q) (c .before .before .before .before .before .before .before .before .before .args .i))) (c .before .before .before .before .before .before .before .before .before .args .out .now) (c .before .before .before .write-rule .last .1 .1 .1 .1 .1 .1 .1 .1 .0) (c .before .before .before .write-rule .result) (c .before .before .before .write-rule .ensures) (omega (arith, c .before .before .before .before .before .before .before .before .before .pre .1 .1 .room, ap length (next-part (c .before .before .before .before .before .before .before .before .before .args .by .symbol) (c .before .before .before .before .before .before .before .before .before .args .by .state) (tree (c .before .before .before .before .before .before .before .before .before .args .f .now) (c .before .before .before .before .before .before .before .before .before .args .k)) (c .before .before .before .before .before .before .before .before .before .args .levels) (c .before .before .before .before .before .before .before .before .before .args .q) (c .before .before .before .before .before .before .before .before .before .args .left) (c .before .before .before .before .before .before .before .before .before .args .i) (end-at (c .before .before .before .before .before .before .before .before .before .args .levels) (c .before .before .before .before .before .before .before .before .before .args .q) (c .before .before .before .before .before .before .before .before .before .args .i)) (c .before .before .before .before .before .if1 .left) refl), length-append (encode (part (c .before .before .before .before .before .before .before .before .before .args .by .symbol) (c .before .before .before .before .before .before .before .before .before .args .by .state) (tree (c .before .before .before .before .before .before .before .before .before .args .f .now) (c .before .before .before .before .before .before .before .before .before .args .k)) (c .before .before .before .before .before .before .before .before .before .args .levels) (c .before .before .before .before .before .before .before .before .before .args .q) (c .before .before .before .before .before .before .before .before .before .args .i))) (parts-bytes (c .before .before .before .before .before .before .before .before .before .args .by .symbol) (c .before .before .before .before .before .before .before .before .before .args .by .state) (tree (c .before .before .before .before .before .before .before .before .before .args .f .now) (c .before .before .before .before .before .before .before .before .before .args .k)) (c .before .before .before .before .before .before .before .before .before .args .levels) (c .before .before .before .before .before .before .before .before .before .args .q) (c .before .before .before .before .before .before .before .before .before .args .left - 1) (end-at (c .before .before .before .before .before .before .before .before .before .args .levels) (c .before .before .before .before .before .before .before .before .before .args .q) (c .before .before .before .before .before .before .before .before .before .args .i))))) in omega (arith, h, c .before .before .before .before .before .if1 .left)
+write-rules-part-write-rules-end : (t : ℕ) → write-rules-lts.Need-part-write-rules-end (write-rules-calls t) (write-rules-at t) write-rules.Post
+write-rules-part-write-rules-end t c =
+    let args = c .before .before .before .before .before .before .before .before .before .args in
+    let pre = c .before .before .before .before .before .before .before .before .before .pre in
+    let if1 = c .before .before .before .before .before .if1 in
+    let write-rule = c .before .before .before .write-rule in
+    let the-tree = tree (args .f .now) (args .k) in
+    let the-encode = encode (part (args .by .symbol) (args .by .state) the-tree (args .levels) (args .q) (args .i)) in
+    let the-end-at = end-at (args .levels) (args .q) (args .i) in
+    let h =
+    free-start the-encode (args .out .now) (write-rule .last .1 .1 .1 .1 .1 .1 .1 .1 .0) (write-rule .result) (write-rule .ensures)
+    (omega (
+      arith,
+      pre .1 .1 .room,
+      ap length (next-part (args .by .symbol) (args .by .state) the-tree (args .levels) (args .q) (args .left) (args .i) the-end-at (if1 .left) refl),
+      length-append the-encode (parts-bytes (args .by .symbol) (args .by .state) the-tree (args .levels) (args .q) (args .left - 1) the-end-at),
+    )) in
+    omega (arith, h, if1 .left)
 
-write-rules-write-rules-requires : (t : ℕ) → write-rules-lts.Need-write-rules-requires (
-  write-rule-below t,
-  write-rule.Post,
-  end-of-reads.Asked,
-  end-of-reads.Learnt,
-  write-rules-below t,
-  write-rules.Post,
-) (write-rules-at t) write-rules.Post
-write-rules-write-rules-requires t c κs = (omega (arith, c .before .before .before .before .before .before .before .before .before .before .pre .0, c .before .before .before .before .before .before .if1 .left), (omega (arith, c .before .before .before .before .before .before .before .before .before .before .pre .1 .0), record { known = c .before .before .before .before .before .before .before .before .before .before .pre .1 .1 .known; deep = c .before .before .before .before .before .before .before .before .before .before .pre .1 .1 .deep; room = free-room (encode (part (c .before .before .before .before .before .before .before .before .before .before .args .by .symbol) (c .before .before .before .before .before .before .before .before .before .before .args .by .state) (tree (c .before .before .before .before .before .before .before .before .before .before .args .f .now) (c .before .before .before .before .before .before .before .before .before .before .args .k)) (c .before .before .before .before .before .before .before .before .before .before .args .levels) (c .before .before .before .before .before .before .before .before .before .before .args .q) (c .before .before .before .before .before .before .before .before .before .before .args .i))) (c .before .before .before .before .before .before .before .before .before .before .args .out .now) (c .before .before .before .before .write-rule .last .1 .1 .1 .1 .1 .1 .1 .1 .0) (c .before .before .before .before .write-rule .result) (c .before .before .before .before .write-rule .ensures) (omega (arith, c .before .before .before .before .before .before .before .before .before .before .pre .1 .1 .room, ap length (next-part (c .before .before .before .before .before .before .before .before .before .before .args .by .symbol) (c .before .before .before .before .before .before .before .before .before .before .args .by .state) (tree (c .before .before .before .before .before .before .before .before .before .before .args .f .now) (c .before .before .before .before .before .before .before .before .before .before .args .k)) (c .before .before .before .before .before .before .before .before .before .before .args .levels) (c .before .before .before .before .before .before .before .before .before .before .args .q) (c .before .before .before .before .before .before .before .before .before .before .args .left) (c .before .before .before .before .before .before .before .before .before .before .args .i) (end-at (c .before .before .before .before .before .before .before .before .before .before .args .levels) (c .before .before .before .before .before .before .before .before .before .before .args .q) (c .before .before .before .before .before .before .before .before .before .before .args .i)) (c .before .before .before .before .before .before .if1 .left) refl), length-append (encode (part (c .before .before .before .before .before .before .before .before .before .before .args .by .symbol) (c .before .before .before .before .before .before .before .before .before .before .args .by .state) (tree (c .before .before .before .before .before .before .before .before .before .before .args .f .now) (c .before .before .before .before .before .before .before .before .before .before .args .k)) (c .before .before .before .before .before .before .before .before .before .before .args .levels) (c .before .before .before .before .before .before .before .before .before .before .args .q) (c .before .before .before .before .before .before .before .before .before .before .args .i))) (parts-bytes (c .before .before .before .before .before .before .before .before .before .before .args .by .symbol) (c .before .before .before .before .before .before .before .before .before .before .args .by .state) (tree (c .before .before .before .before .before .before .before .before .before .before .args .f .now) (c .before .before .before .before .before .before .before .before .before .before .args .k)) (c .before .before .before .before .before .before .before .before .before .before .args .levels) (c .before .before .before .before .before .before .before .before .before .before .args .q) (c .before .before .before .before .before .before .before .before .before .before .args .left - 1) (end-at (c .before .before .before .before .before .before .before .before .before .before .args .levels) (c .before .before .before .before .before .before .before .before .before .before .args .q) (c .before .before .before .before .before .before .before .before .before .before .args .i))))) (parts-bytes (c .before .before .before .before .before .before .before .before .before .before .args .by .symbol) (c .before .before .before .before .before .before .before .before .before .before .args .by .state) (tree (c .before .before .before .before .before .before .before .before .before .before .args .f .now) (c .before .before .before .before .before .before .before .before .before .before .args .k)) (c .before .before .before .before .before .before .before .before .before .before .args .levels) (c .before .before .before .before .before .before .before .before .before .before .args .q) (c .before .before .before .before .before .before .before .before .before .before .args .left - 1) (c .before .end-of .result)) (omega (arith, c .before .before .before .before .before .before .before .before .before .before .pre .1 .1 .room, ap length (next-part (c .before .before .before .before .before .before .before .before .before .before .args .by .symbol) (c .before .before .before .before .before .before .before .before .before .before .args .by .state) (tree (c .before .before .before .before .before .before .before .before .before .before .args .f .now) (c .before .before .before .before .before .before .before .before .before .before .args .k)) (c .before .before .before .before .before .before .before .before .before .before .args .levels) (c .before .before .before .before .before .before .before .before .before .before .args .q) (c .before .before .before .before .before .before .before .before .before .before .args .left) (c .before .before .before .before .before .before .before .before .before .before .args .i) (c .before .end-of .result) (c .before .before .before .before .before .before .if1 .left) (c .before .end-of .ensures)), length-append (encode (part (c .before .before .before .before .before .before .before .before .before .before .args .by .symbol) (c .before .before .before .before .before .before .before .before .before .before .args .by .state) (tree (c .before .before .before .before .before .before .before .before .before .before .args .f .now) (c .before .before .before .before .before .before .before .before .before .before .args .k)) (c .before .before .before .before .before .before .before .before .before .before .args .levels) (c .before .before .before .before .before .before .before .before .before .before .args .q) (c .before .before .before .before .before .before .before .before .before .before .args .i))) (parts-bytes (c .before .before .before .before .before .before .before .before .before .before .args .by .symbol) (c .before .before .before .before .before .before .before .before .before .before .args .by .state) (tree (c .before .before .before .before .before .before .before .before .before .before .args .f .now) (c .before .before .before .before .before .before .before .before .before .before .args .k)) (c .before .before .before .before .before .before .before .before .before .before .args .levels) (c .before .before .before .before .before .before .before .before .before .before .args .q) (c .before .before .before .before .before .before .before .before .before .before .args .left - 1) (c .before .end-of .result)))) }))
+write-rules-write-rules-requires : (t : ℕ) → write-rules-lts.Need-write-rules-requires (write-rules-calls t) (write-rules-at t) write-rules.Post
+write-rules-write-rules-requires t c κs =
+    let args = c .before .before .before .before .before .before .before .before .before .before .args in
+    let pre = c .before .before .before .before .before .before .before .before .before .before .pre in
+    let if1 = c .before .before .before .before .before .before .if1 in
+    let write-rule = c .before .before .before .before .write-rule in
+    let end-of = c .before .end-of in
+    let the-tree = tree (args .f .now) (args .k) in
+    let the-encode = encode (part (args .by .symbol) (args .by .state) the-tree (args .levels) (args .q) (args .i)) in
+    let the-parts-bytes = parts-bytes (args .by .symbol) (args .by .state) the-tree (args .levels) (args .q) (args .left - 1) (end-of .result) in
+    let the-end-at = end-at (args .levels) (args .q) (args .i) in (
+      omega (arith, pre .0, if1 .left),
+      (
+        omega (arith, pre .1 .0),
+        record {
+          known = pre .1 .1 .known;
+          deep = pre .1 .1 .deep;
+          room =
+              free-room the-encode (args .out .now) (write-rule .last .1 .1 .1 .1 .1 .1 .1 .1 .0) (write-rule .result) (write-rule .ensures)
+              (omega (
+                arith,
+                pre .1 .1 .room,
+                ap length (next-part (args .by .symbol) (args .by .state) the-tree (args .levels) (args .q) (args .left) (args .i) the-end-at (if1 .left) refl),
+                length-append the-encode (parts-bytes (args .by .symbol) (args .by .state) the-tree (args .levels) (args .q) (args .left - 1) the-end-at),
+              ))
+              the-parts-bytes
+              (omega (
+                arith,
+                pre .1 .1 .room,
+                ap length
+                    (next-part (args .by .symbol) (args .by .state) the-tree (args .levels) (args .q) (args .left) (args .i) (end-of .result) (if1 .left) (end-of .ensures)),
+                length-append the-encode the-parts-bytes,
+              ));
+        },
+      ),
+    )
 
-write-rules-add-result : (t : ℕ) → write-rules-lts.Need-add-result (
-  write-rule-below t,
-  write-rule.Post,
-  end-of-reads.Asked,
-  end-of-reads.Learnt,
-  write-rules-below t,
-  write-rules.Post,
-) (write-rules-at t) write-rules.Post
-write-rules-add-result t c = omega (arith, c .before .before .before .before .before .before .before .write-rule .ensures .count, c .before .before .write-rules .ensures .count, c .before .before .before .before .before .before .before .before .before .before .before .before .before .pre .1 .1 .room, ap length (next-part (c .before .before .before .before .before .before .before .before .before .before .before .before .before .args .by .symbol) (c .before .before .before .before .before .before .before .before .before .before .before .before .before .args .by .state) (tree (c .before .before .before .before .before .before .before .before .before .before .before .before .before .args .f .now) (c .before .before .before .before .before .before .before .before .before .before .before .before .before .args .k)) (c .before .before .before .before .before .before .before .before .before .before .before .before .before .args .levels) (c .before .before .before .before .before .before .before .before .before .before .before .before .before .args .q) (c .before .before .before .before .before .before .before .before .before .before .before .before .before .args .left) (c .before .before .before .before .before .before .before .before .before .before .before .before .before .args .i) (c .before .before .before .before .end-of .result) (c .before .before .before .before .before .before .before .before .before .if1 .left) (c .before .before .before .before .end-of .ensures)), length-append (encode (part (c .before .before .before .before .before .before .before .before .before .before .before .before .before .args .by .symbol) (c .before .before .before .before .before .before .before .before .before .before .before .before .before .args .by .state) (tree (c .before .before .before .before .before .before .before .before .before .before .before .before .before .args .f .now) (c .before .before .before .before .before .before .before .before .before .before .before .before .before .args .k)) (c .before .before .before .before .before .before .before .before .before .before .before .before .before .args .levels) (c .before .before .before .before .before .before .before .before .before .before .before .before .before .args .q) (c .before .before .before .before .before .before .before .before .before .before .before .before .before .args .i))) (parts-bytes (c .before .before .before .before .before .before .before .before .before .before .before .before .before .args .by .symbol) (c .before .before .before .before .before .before .before .before .before .before .before .before .before .args .by .state) (tree (c .before .before .before .before .before .before .before .before .before .before .before .before .before .args .f .now) (c .before .before .before .before .before .before .before .before .before .before .before .before .before .args .k)) (c .before .before .before .before .before .before .before .before .before .before .before .before .before .args .levels) (c .before .before .before .before .before .before .before .before .before .before .before .before .before .args .q) (c .before .before .before .before .before .before .before .before .before .before .before .before .before .args .left - 1) (c .before .before .before .before .end-of .result)))
+write-rules-add-result : (t : ℕ) → write-rules-lts.Need-add-result (write-rules-calls t) (write-rules-at t) write-rules.Post
+write-rules-add-result t c =
+    let args = c .before .before .before .before .before .before .before .before .before .before .before .before .before .args in
+    let good = c .before .before .before .before .before .before .before .before .before .before .before .before .before .good in
+    let pre = c .before .before .before .before .before .before .before .before .before .before .before .before .before .pre in
+    let if1 = c .before .before .before .before .before .before .before .before .before .if1 in
+    let write-rule = c .before .before .before .before .before .before .before .write-rule in
+    let end-of = c .before .before .before .before .end-of in
+    let write-rules = c .before .before .write-rules in
+    let the-tree = tree (args .f .now) (args .k) in
+    omega (
+      arith,
+      write-rule .ensures .count,
+      write-rules .ensures .count,
+      pre .1 .1 .room,
+      ap length
+          (next-part (args .by .symbol) (args .by .state) the-tree (args .levels) (args .q) (args .left) (args .i) (end-of .result) (if1 .left) (end-of .ensures)),
+      length-append (encode (part (args .by .symbol) (args .by .state) the-tree (args .levels) (args .q) (args .i)))
+          (parts-bytes (args .by .symbol) (args .by .state) the-tree (args .levels) (args .q) (args .left - 1) (end-of .result)),
+      good .1 .1 .1 .1 .1 .1 .1 .1 .1 .0 .0,
+    )
 
-write-rules-same-length : (t : ℕ) → write-rules-lts.Need-same-length (
-  write-rule-below t,
-  write-rule.Post,
-  end-of-reads.Asked,
-  end-of-reads.Learnt,
-  write-rules-below t,
-  write-rules.Post,
-) (write-rules-at t) write-rules.Post
-write-rules-same-length t c = same-len-mid (c .before .before .before .before .before .before .before .write-rule .result) (length (c .before .before .before .before .before .before .before .write-rule .last .1 .1 .1 .1 .1 .1 .1 .1 .0) - c .before .before .before .before .before .before .before .write-rule .result) (c .before .before .before .before .before .before .before .write-rule .last .1 .1 .1 .1 .1 .1 .1 .1 .0) (c .before .before .write-rules .last .1 .1 .1 .1 .1 .1 .1 .1 .1 .0) (c .before .before .write-rules .kept .1 .1 .1 .1 .1 .1 .1 .1 .1 .0) ∙ c .before .before .before .before .before .before .before .write-rule .kept .1 .1 .1 .1 .1 .1 .1 .1 .0
+write-rules-same-length : (t : ℕ) → write-rules-lts.Need-same-length (write-rules-calls t) (write-rules-at t) write-rules.Post
+write-rules-same-length t c =
+    let write-rule = c .before .before .before .before .before .before .before .write-rule in
+    let write-rules = c .before .before .write-rules in
+    let the-write-rule = write-rule .last .1 .1 .1 .1 .1 .1 .1 .1 .0 in
+    same-len-mid (write-rule .result) (length the-write-rule - write-rule .result) the-write-rule (write-rules .last .1 .1 .1 .1 .1 .1 .1 .1 .1 .0)
+    (write-rules .kept .1 .1 .1 .1 .1 .1 .1 .1 .1 .0)
+    ∙ write-rule .kept .1 .1 .1 .1 .1 .1 .1 .1 .0
 
-write-rules-returns-2 : (t : ℕ) → write-rules-lts.Need-returns-2 (
-  write-rule-below t,
-  write-rule.Post,
-  end-of-reads.Asked,
-  end-of-reads.Learnt,
-  write-rules-below t,
-  write-rules.Post,
-) (write-rules-at t) write-rules.Post
-write-rules-returns-2 t c = as-text _ _ _ _ _ (next-part (c .before .before .before .before .before .before .before .before .before .before .before .before .before .args .by .symbol) (c .before .before .before .before .before .before .before .before .before .before .before .before .before .args .by .state) (tree (c .before .before .before .before .before .before .before .before .before .before .before .before .before .args .f .now) (c .before .before .before .before .before .before .before .before .before .before .before .before .before .args .k)) (c .before .before .before .before .before .before .before .before .before .before .before .before .before .args .levels) (c .before .before .before .before .before .before .before .before .before .before .before .before .before .args .q) (c .before .before .before .before .before .before .before .before .before .before .before .before .before .args .left) (c .before .before .before .before .before .before .before .before .before .before .before .before .before .args .i) (c .before .before .before .before .end-of .result) (c .before .before .before .before .before .before .before .before .before .if1 .left) (c .before .before .before .before .end-of .ensures)) (then-writes (encode (part (c .before .before .before .before .before .before .before .before .before .before .before .before .before .args .by .symbol) (c .before .before .before .before .before .before .before .before .before .before .before .before .before .args .by .state) (tree (c .before .before .before .before .before .before .before .before .before .before .before .before .before .args .f .now) (c .before .before .before .before .before .before .before .before .before .before .before .before .before .args .k)) (c .before .before .before .before .before .before .before .before .before .before .before .before .before .args .levels) (c .before .before .before .before .before .before .before .before .before .before .before .before .before .args .q) (c .before .before .before .before .before .before .before .before .before .before .before .before .before .args .i))) (c .before .before .before .before .before .before .before .before .before .before .before .before .before .args .out .now) (c .before .before .before .before .before .before .before .write-rule .last .1 .1 .1 .1 .1 .1 .1 .1 .0) (c .before .before .before .before .before .before .before .write-rule .result) (c .before .before .before .before .before .before .before .write-rule .ensures) (omega (arith, c .before .before .before .before .before .before .before .before .before .before .before .before .before .pre .1 .1 .room, ap length (next-part (c .before .before .before .before .before .before .before .before .before .before .before .before .before .args .by .symbol) (c .before .before .before .before .before .before .before .before .before .before .before .before .before .args .by .state) (tree (c .before .before .before .before .before .before .before .before .before .before .before .before .before .args .f .now) (c .before .before .before .before .before .before .before .before .before .before .before .before .before .args .k)) (c .before .before .before .before .before .before .before .before .before .before .before .before .before .args .levels) (c .before .before .before .before .before .before .before .before .before .before .before .before .before .args .q) (c .before .before .before .before .before .before .before .before .before .before .before .before .before .args .left) (c .before .before .before .before .before .before .before .before .before .before .before .before .before .args .i) (end-at (c .before .before .before .before .before .before .before .before .before .before .before .before .before .args .levels) (c .before .before .before .before .before .before .before .before .before .before .before .before .before .args .q) (c .before .before .before .before .before .before .before .before .before .before .before .before .before .args .i)) (c .before .before .before .before .before .before .before .before .before .if1 .left) refl), length-append (encode (part (c .before .before .before .before .before .before .before .before .before .before .before .before .before .args .by .symbol) (c .before .before .before .before .before .before .before .before .before .before .before .before .before .args .by .state) (tree (c .before .before .before .before .before .before .before .before .before .before .before .before .before .args .f .now) (c .before .before .before .before .before .before .before .before .before .before .before .before .before .args .k)) (c .before .before .before .before .before .before .before .before .before .before .before .before .before .args .levels) (c .before .before .before .before .before .before .before .before .before .before .before .before .before .args .q) (c .before .before .before .before .before .before .before .before .before .before .before .before .before .args .i))) (parts-bytes (c .before .before .before .before .before .before .before .before .before .before .before .before .before .args .by .symbol) (c .before .before .before .before .before .before .before .before .before .before .before .before .before .args .by .state) (tree (c .before .before .before .before .before .before .before .before .before .before .before .before .before .args .f .now) (c .before .before .before .before .before .before .before .before .before .before .before .before .before .args .k)) (c .before .before .before .before .before .before .before .before .before .before .before .before .before .args .levels) (c .before .before .before .before .before .before .before .before .before .before .before .before .before .args .q) (c .before .before .before .before .before .before .before .before .before .before .before .before .before .args .left - 1) (end-at (c .before .before .before .before .before .before .before .before .before .before .before .before .before .args .levels) (c .before .before .before .before .before .before .before .before .before .before .before .before .before .args .q) (c .before .before .before .before .before .before .before .before .before .before .before .before .before .args .i))))) (parts-bytes (c .before .before .before .before .before .before .before .before .before .before .before .before .before .args .by .symbol) (c .before .before .before .before .before .before .before .before .before .before .before .before .before .args .by .state) (tree (c .before .before .before .before .before .before .before .before .before .before .before .before .before .args .f .now) (c .before .before .before .before .before .before .before .before .before .before .before .before .before .args .k)) (c .before .before .before .before .before .before .before .before .before .before .before .before .before .args .levels) (c .before .before .before .before .before .before .before .before .before .before .before .before .before .args .q) (c .before .before .before .before .before .before .before .before .before .before .before .before .before .args .left - 1) (c .before .before .before .before .end-of .result)) (c .before .before .write-rules .last .1 .1 .1 .1 .1 .1 .1 .1 .1 .0) (c .before .before .write-rules .result) (c .before .before .write-rules .ensures))
+write-rules-returns-2 : (t : ℕ) → write-rules-lts.Need-returns-2 (write-rules-calls t) (write-rules-at t) write-rules.Post
+write-rules-returns-2 t c =
+    let args = c .before .before .before .before .before .before .before .before .before .before .before .before .before .args in
+    let pre = c .before .before .before .before .before .before .before .before .before .before .before .before .before .pre in
+    let if1 = c .before .before .before .before .before .before .before .before .before .if1 in
+    let write-rule = c .before .before .before .before .before .before .before .write-rule in
+    let end-of = c .before .before .before .before .end-of in
+    let write-rules = c .before .before .write-rules in
+    let the-tree = tree (args .f .now) (args .k) in
+    let the-encode = encode (part (args .by .symbol) (args .by .state) the-tree (args .levels) (args .q) (args .i)) in
+    let the-end-at = end-at (args .levels) (args .q) (args .i) in
+    as-text _ _ _ _ _
+    (next-part (args .by .symbol) (args .by .state) the-tree (args .levels) (args .q) (args .left) (args .i) (end-of .result) (if1 .left) (end-of .ensures))
+    (then-writes the-encode (args .out .now) (write-rule .last .1 .1 .1 .1 .1 .1 .1 .1 .0) (write-rule .result) (write-rule .ensures)
+    (omega (
+      arith,
+      pre .1 .1 .room,
+      ap length (next-part (args .by .symbol) (args .by .state) the-tree (args .levels) (args .q) (args .left) (args .i) the-end-at (if1 .left) refl),
+      length-append the-encode (parts-bytes (args .by .symbol) (args .by .state) the-tree (args .levels) (args .q) (args .left - 1) the-end-at),
+    ))
+    (parts-bytes (args .by .symbol) (args .by .state) the-tree (args .levels) (args .q) (args .left - 1) (end-of .result))
+    (write-rules .last .1 .1 .1 .1 .1 .1 .1 .1 .1 .0) (write-rules .result) (write-rules .ensures))
 
-write-sum-end-of-requires : (t : ℕ) → write-sum-lts.Need-end-of-requires (
-  end-of-reads.Asked,
-  end-of-reads.Learnt,
-  rule-attributes-reads.Asked,
-  rule-attributes-reads.Learnt,
-  is-zero-reads.Asked,
-  is-zero-reads.Learnt,
-  write-rule-below t,
-  write-rule.Post,
-  write-node-below t,
-  write-node.Post,
-) (write-sum-at t) write-sum.Post
+write-sum-end-of-requires : (t : ℕ) → write-sum-lts.Need-end-of-requires (write-sum-calls t) (write-sum-at t) write-sum.Post
 write-sum-end-of-requires t c κs = search needs
 
-write-sum-rule-attributes-requires : (t : ℕ) → write-sum-lts.Need-rule-attributes-requires (
-  end-of-reads.Asked,
-  end-of-reads.Learnt,
-  rule-attributes-reads.Asked,
-  rule-attributes-reads.Learnt,
-  is-zero-reads.Asked,
-  is-zero-reads.Learnt,
-  write-rule-below t,
-  write-rule.Post,
-  write-node-below t,
-  write-node.Post,
-) (write-sum-at t) write-sum.Post
-write-sum-rule-attributes-requires t c κs = ready-of (c .before .before .before .before .args .by .symbol) (c .before .before .before .before .args .by .state) (c .before .before .before .before .args .f .now) (c .before .before .before .before .args .table .now) (c .before .before .before .before .args .k) (c .before .before .before .before .pre .1 .known)
+write-sum-rule-attributes-requires : (t : ℕ) → write-sum-lts.Need-rule-attributes-requires (write-sum-calls t) (write-sum-at t) write-sum.Post
+write-sum-rule-attributes-requires t c κs =
+    let args = c .before .before .before .before .args in
+    let pre = c .before .before .before .before .pre in
+    ready-of (args .by .symbol) (args .by .state) (args .f .now) (args .table .now) (args .k) (pre .1 .known)
 
-write-sum-is-zero-requires : (t : ℕ) → write-sum-lts.Need-is-zero-requires (
-  end-of-reads.Asked,
-  end-of-reads.Learnt,
-  rule-attributes-reads.Asked,
-  rule-attributes-reads.Learnt,
-  is-zero-reads.Asked,
-  is-zero-reads.Learnt,
-  write-rule-below t,
-  write-rule.Post,
-  write-node-below t,
-  write-node.Post,
-) (write-sum-at t) write-sum.Post
+write-sum-is-zero-requires : (t : ℕ) → write-sum-lts.Need-is-zero-requires (write-sum-calls t) (write-sum-at t) write-sum.Post
 write-sum-is-zero-requires t c κs = search needs
 
-write-sum-write-rule-requires : (t : ℕ) → write-sum-lts.Need-write-rule-requires (
-  end-of-reads.Asked,
-  end-of-reads.Learnt,
-  rule-attributes-reads.Asked,
-  rule-attributes-reads.Learnt,
-  is-zero-reads.Asked,
-  is-zero-reads.Learnt,
-  write-rule-below t,
-  write-rule.Post,
-  write-node-below t,
-  write-node.Post,
-) (write-sum-at t) write-sum.Post
-write-sum-write-rule-requires t c κs = (omega (arith, c .before .before .before .before .before .before .before .before .pre .0), task-as (c .before .before .before .before .before .before .before .before .args .by .symbol) (c .before .before .before .before .before .before .before .before .args .by .state) (c .before .before .before .before .before .before .before .before .args .f .now) (c .before .before .before .before .before .before .before .before .args .table .now) (c .before .before .before .before .before .before .before .before .args .k) (c .before .before .before .before .before .before .before .before .args .depth) _ _ (c .before .before .before .before .before .before .before .before .args .out .now) (sum-left (c .before .before .before .before .before .before .before .before .args .by .symbol) (c .before .before .before .before .before .before .before .before .args .by .state) (tree (c .before .before .before .before .before .before .before .before .args .f .now) (c .before .before .before .before .before .before .before .before .args .k)) (c .before .before .before .before .before .before .before .before .args .levels) (c .before .before .before .before .before .before .before .before .args .q) (c .before .before .before .before .before .before .before .before .args .i) (c .before .before .before .before .end-of .result) (c .before .before .before .before .end-of .ensures) (zero-test (c .before .before .before .before .before .before .before .before .args .by .symbol) (c .before .before .before .before .before .before .before .before .args .by .state) (tree (c .before .before .before .before .before .before .before .before .args .f .now) (c .before .before .before .before .before .before .before .before .args .k)) (c .before .before .before .before .before .before .before .before .args .levels) (c .before .before .before .before .before .before .before .before .args .q) (c .before .before .before .before .before .before .before .before .args .i) (c .before .before .is-zero .result) (c .before .before .before .rule-attributes .result) _ (c .before .before .is-zero .ensures) (c .before .before .before .rule-attributes .ensures) (c .before .if1 .taken))) (c .before .before .before .before .before .before .before .before .pre .1))
+write-sum-write-rule-requires : (t : ℕ) → write-sum-lts.Need-write-rule-requires (write-sum-calls t) (write-sum-at t) write-sum.Post
+write-sum-write-rule-requires t c κs =
+    let args = c .before .before .before .before .before .before .before .before .args in
+    let pre = c .before .before .before .before .before .before .before .before .pre in
+    let end-of = c .before .before .before .before .end-of in
+    let rule-attributes = c .before .before .before .rule-attributes in
+    let is-zero = c .before .before .is-zero in
+    let the-tree = tree (args .f .now) (args .k) in (
+      omega (arith, pre .0),
+      task-as (args .by .symbol) (args .by .state) (args .f .now) (args .table .now) (args .k) (args .depth) _ _ (args .out .now)
+          (sum-left (args .by .symbol) (args .by .state) the-tree (args .levels) (args .q) (args .i) (end-of .result) (end-of .ensures)
+          (zero-test (args .by .symbol) (args .by .state) the-tree (args .levels) (args .q) (args .i) (is-zero .result) (rule-attributes .result) _
+          (is-zero .ensures) (rule-attributes .ensures) (c .before .if1 .taken)))
+          (pre .1),
+    )
 
-write-sum-same-length : (t : ℕ) → write-sum-lts.Need-same-length (
-  end-of-reads.Asked,
-  end-of-reads.Learnt,
-  rule-attributes-reads.Asked,
-  rule-attributes-reads.Learnt,
-  is-zero-reads.Asked,
-  is-zero-reads.Learnt,
-  write-rule-below t,
-  write-rule.Post,
-  write-node-below t,
-  write-node.Post,
-) (write-sum-at t) write-sum.Post
+write-sum-same-length : (t : ℕ) → write-sum-lts.Need-same-length (write-sum-calls t) (write-sum-at t) write-sum.Post
 write-sum-same-length t c = c .before .before .write-rule .kept .1 .1 .1 .1 .1 .1 .1 .1 .0
 
-write-sum-returns : (t : ℕ) → write-sum-lts.Need-returns (
-  end-of-reads.Asked,
-  end-of-reads.Learnt,
-  rule-attributes-reads.Asked,
-  rule-attributes-reads.Learnt,
-  is-zero-reads.Asked,
-  is-zero-reads.Learnt,
-  write-rule-below t,
-  write-rule.Post,
-  write-node-below t,
-  write-node.Post,
-) (write-sum-at t) write-sum.Post
-write-sum-returns t c = as-text _ _ _ _ _ (sum-left (c .before .before .before .before .before .before .before .before .before .before .before .args .by .symbol) (c .before .before .before .before .before .before .before .before .before .before .before .args .by .state) (tree (c .before .before .before .before .before .before .before .before .before .before .before .args .f .now) (c .before .before .before .before .before .before .before .before .before .before .before .args .k)) (c .before .before .before .before .before .before .before .before .before .before .before .args .levels) (c .before .before .before .before .before .before .before .before .before .before .before .args .q) (c .before .before .before .before .before .before .before .before .before .before .before .args .i) (c .before .before .before .before .before .before .before .end-of .result) (c .before .before .before .before .before .before .before .end-of .ensures) (zero-test (c .before .before .before .before .before .before .before .before .before .before .before .args .by .symbol) (c .before .before .before .before .before .before .before .before .before .before .before .args .by .state) (tree (c .before .before .before .before .before .before .before .before .before .before .before .args .f .now) (c .before .before .before .before .before .before .before .before .before .before .before .args .k)) (c .before .before .before .before .before .before .before .before .before .before .before .args .levels) (c .before .before .before .before .before .before .before .before .before .before .before .args .q) (c .before .before .before .before .before .before .before .before .before .before .before .args .i) (c .before .before .before .before .before .is-zero .result) (c .before .before .before .before .before .before .rule-attributes .result) _ (c .before .before .before .before .before .is-zero .ensures) (c .before .before .before .before .before .before .rule-attributes .ensures) (c .before .before .before .before .if1 .taken))) (c .before .before .write-rule .ensures)
+write-sum-returns : (t : ℕ) → write-sum-lts.Need-returns (write-sum-calls t) (write-sum-at t) write-sum.Post
+write-sum-returns t c =
+    let args = c .before .before .before .before .before .before .before .before .before .before .before .args in
+    let end-of = c .before .before .before .before .before .before .before .end-of in
+    let rule-attributes = c .before .before .before .before .before .before .rule-attributes in
+    let is-zero = c .before .before .before .before .before .is-zero in
+    let if1 = c .before .before .before .before .if1 in
+    let write-rule = c .before .before .write-rule in
+    let the-tree = tree (args .f .now) (args .k) in
+    as-text _ _ _ _ _
+    (sum-left (args .by .symbol) (args .by .state) the-tree (args .levels) (args .q) (args .i) (end-of .result) (end-of .ensures)
+    (zero-test (args .by .symbol) (args .by .state) the-tree (args .levels) (args .q) (args .i) (is-zero .result) (rule-attributes .result) _
+    (is-zero .ensures) (rule-attributes .ensures) (if1 .taken)))
+    (write-rule .ensures)
 
-write-sum-rule-attributes-requires-2 : (t : ℕ) → write-sum-lts.Need-rule-attributes-requires-2 (
-  end-of-reads.Asked,
-  end-of-reads.Learnt,
-  rule-attributes-reads.Asked,
-  rule-attributes-reads.Learnt,
-  is-zero-reads.Asked,
-  is-zero-reads.Learnt,
-  write-rule-below t,
-  write-rule.Post,
-  write-node-below t,
-  write-node.Post,
-) (write-sum-at t) write-sum.Post
-write-sum-rule-attributes-requires-2 t c κs = ready-of (c .before .before .before .before .before .before .before .args .by .symbol) (c .before .before .before .before .before .before .before .args .by .state) (c .before .before .before .before .before .before .before .args .f .now) (c .before .before .before .before .before .before .before .args .table .now) (c .before .before .before .before .before .before .before .args .k) (c .before .before .before .before .before .before .before .pre .1 .known)
+write-sum-rule-attributes-requires-2 : (t : ℕ) → write-sum-lts.Need-rule-attributes-requires-2 (write-sum-calls t) (write-sum-at t) write-sum.Post
+write-sum-rule-attributes-requires-2 t c κs =
+    let args = c .before .before .before .before .before .before .before .args in
+    let pre = c .before .before .before .before .before .before .before .pre in
+    ready-of (args .by .symbol) (args .by .state) (args .f .now) (args .table .now) (args .k) (pre .1 .known)
 
-write-sum-is-zero-requires-2 : (t : ℕ) → write-sum-lts.Need-is-zero-requires-2 (
-  end-of-reads.Asked,
-  end-of-reads.Learnt,
-  rule-attributes-reads.Asked,
-  rule-attributes-reads.Learnt,
-  is-zero-reads.Asked,
-  is-zero-reads.Learnt,
-  write-rule-below t,
-  write-rule.Post,
-  write-node-below t,
-  write-node.Post,
-) (write-sum-at t) write-sum.Post
+write-sum-is-zero-requires-2 : (t : ℕ) → write-sum-lts.Need-is-zero-requires-2 (write-sum-calls t) (write-sum-at t) write-sum.Post
 write-sum-is-zero-requires-2 t c κs = search needs
 
-write-sum-write-rule-requires-2 : (t : ℕ) → write-sum-lts.Need-write-rule-requires-2 (
-  end-of-reads.Asked,
-  end-of-reads.Learnt,
-  rule-attributes-reads.Asked,
-  rule-attributes-reads.Learnt,
-  is-zero-reads.Asked,
-  is-zero-reads.Learnt,
-  write-rule-below t,
-  write-rule.Post,
-  write-node-below t,
-  write-node.Post,
-) (write-sum-at t) write-sum.Post
-write-sum-write-rule-requires-2 t c κs = (omega (arith, c .before .before .before .before .before .before .before .before .before .before .before .pre .0), task-as (c .before .before .before .before .before .before .before .before .before .before .before .args .by .symbol) (c .before .before .before .before .before .before .before .before .before .before .before .args .by .state) (c .before .before .before .before .before .before .before .before .before .before .before .args .f .now) (c .before .before .before .before .before .before .before .before .before .before .before .args .table .now) (c .before .before .before .before .before .before .before .before .before .before .before .args .k) (c .before .before .before .before .before .before .before .before .before .before .before .args .depth) _ _ (c .before .before .before .before .before .before .before .before .before .before .before .args .out .now) (sum-right (c .before .before .before .before .before .before .before .before .before .before .before .args .by .symbol) (c .before .before .before .before .before .before .before .before .before .before .before .args .by .state) (tree (c .before .before .before .before .before .before .before .before .before .before .before .args .f .now) (c .before .before .before .before .before .before .before .before .before .before .before .args .k)) (c .before .before .before .before .before .before .before .before .before .before .before .args .levels) (c .before .before .before .before .before .before .before .before .before .before .before .args .q) (c .before .before .before .before .before .before .before .before .before .before .before .args .i) (c .before .before .before .before .before .before .before .end-of .result) (c .before .before .before .before .before .before .before .end-of .ensures) (zero-test (c .before .before .before .before .before .before .before .before .before .before .before .args .by .symbol) (c .before .before .before .before .before .before .before .before .before .before .before .args .by .state) (tree (c .before .before .before .before .before .before .before .before .before .before .before .args .f .now) (c .before .before .before .before .before .before .before .before .before .before .before .args .k)) (c .before .before .before .before .before .before .before .before .before .before .before .args .levels) (c .before .before .before .before .before .before .before .before .before .before .before .args .q) (c .before .before .before .before .before .before .before .before .before .before .before .args .i) (c .before .before .before .before .before .is-zero .result) (c .before .before .before .before .before .before .rule-attributes .result) _ (c .before .before .before .before .before .is-zero .ensures) (c .before .before .before .before .before .before .rule-attributes .ensures) (c .before .before .before .before .if1 .left)) (zero-test (c .before .before .before .before .before .before .before .before .before .before .before .args .by .symbol) (c .before .before .before .before .before .before .before .before .before .before .before .args .by .state) (tree (c .before .before .before .before .before .before .before .before .before .before .before .args .f .now) (c .before .before .before .before .before .before .before .before .before .before .before .args .k)) (c .before .before .before .before .before .before .before .before .before .before .before .args .levels) (c .before .before .before .before .before .before .before .before .before .before .before .args .q) (c .before .before .before .before .before .before .before .end-of .result) (c .before .before .is-zero2 .result) (c .before .before .before .rule-attributes2 .result) _ (c .before .before .is-zero2 .ensures) (c .before .before .before .rule-attributes2 .ensures) (c .before .if2 .taken))) (c .before .before .before .before .before .before .before .before .before .before .before .pre .1))
+write-sum-write-rule-requires-2 : (t : ℕ) → write-sum-lts.Need-write-rule-requires-2 (write-sum-calls t) (write-sum-at t) write-sum.Post
+write-sum-write-rule-requires-2 t c κs =
+    let args = c .before .before .before .before .before .before .before .before .before .before .before .args in
+    let pre = c .before .before .before .before .before .before .before .before .before .before .before .pre in
+    let end-of = c .before .before .before .before .before .before .before .end-of in
+    let rule-attributes = c .before .before .before .before .before .before .rule-attributes in
+    let is-zero = c .before .before .before .before .before .is-zero in
+    let if1 = c .before .before .before .before .if1 in
+    let rule-attributes2 = c .before .before .before .rule-attributes2 in
+    let is-zero2 = c .before .before .is-zero2 in
+    let the-tree = tree (args .f .now) (args .k) in (
+      omega (arith, pre .0),
+      task-as (args .by .symbol) (args .by .state) (args .f .now) (args .table .now) (args .k) (args .depth) _ _ (args .out .now)
+          (sum-right (args .by .symbol) (args .by .state) the-tree (args .levels) (args .q) (args .i) (end-of .result) (end-of .ensures)
+          (zero-test (args .by .symbol) (args .by .state) the-tree (args .levels) (args .q) (args .i) (is-zero .result) (rule-attributes .result) _
+          (is-zero .ensures) (rule-attributes .ensures) (if1 .left))
+          (zero-test (args .by .symbol) (args .by .state) the-tree (args .levels) (args .q) (end-of .result) (is-zero2 .result) (rule-attributes2 .result) _
+          (is-zero2 .ensures) (rule-attributes2 .ensures) (c .before .if2 .taken)))
+          (pre .1),
+    )
 
-write-sum-same-length-2 : (t : ℕ) → write-sum-lts.Need-same-length-2 (
-  end-of-reads.Asked,
-  end-of-reads.Learnt,
-  rule-attributes-reads.Asked,
-  rule-attributes-reads.Learnt,
-  is-zero-reads.Asked,
-  is-zero-reads.Learnt,
-  write-rule-below t,
-  write-rule.Post,
-  write-node-below t,
-  write-node.Post,
-) (write-sum-at t) write-sum.Post
+write-sum-same-length-2 : (t : ℕ) → write-sum-lts.Need-same-length-2 (write-sum-calls t) (write-sum-at t) write-sum.Post
 write-sum-same-length-2 t c = c .before .before .write-rule2 .kept .1 .1 .1 .1 .1 .1 .1 .1 .0
 
-write-sum-returns-2 : (t : ℕ) → write-sum-lts.Need-returns-2 (
-  end-of-reads.Asked,
-  end-of-reads.Learnt,
-  rule-attributes-reads.Asked,
-  rule-attributes-reads.Learnt,
-  is-zero-reads.Asked,
-  is-zero-reads.Learnt,
-  write-rule-below t,
-  write-rule.Post,
-  write-node-below t,
-  write-node.Post,
-) (write-sum-at t) write-sum.Post
-write-sum-returns-2 t c = as-text _ _ _ _ _ (sum-right (c .before .before .before .before .before .before .before .before .before .before .before .before .before .before .args .by .symbol) (c .before .before .before .before .before .before .before .before .before .before .before .before .before .before .args .by .state) (tree (c .before .before .before .before .before .before .before .before .before .before .before .before .before .before .args .f .now) (c .before .before .before .before .before .before .before .before .before .before .before .before .before .before .args .k)) (c .before .before .before .before .before .before .before .before .before .before .before .before .before .before .args .levels) (c .before .before .before .before .before .before .before .before .before .before .before .before .before .before .args .q) (c .before .before .before .before .before .before .before .before .before .before .before .before .before .before .args .i) (c .before .before .before .before .before .before .before .before .before .before .end-of .result) (c .before .before .before .before .before .before .before .before .before .before .end-of .ensures) (zero-test (c .before .before .before .before .before .before .before .before .before .before .before .before .before .before .args .by .symbol) (c .before .before .before .before .before .before .before .before .before .before .before .before .before .before .args .by .state) (tree (c .before .before .before .before .before .before .before .before .before .before .before .before .before .before .args .f .now) (c .before .before .before .before .before .before .before .before .before .before .before .before .before .before .args .k)) (c .before .before .before .before .before .before .before .before .before .before .before .before .before .before .args .levels) (c .before .before .before .before .before .before .before .before .before .before .before .before .before .before .args .q) (c .before .before .before .before .before .before .before .before .before .before .before .before .before .before .args .i) (c .before .before .before .before .before .before .before .before .is-zero .result) (c .before .before .before .before .before .before .before .before .before .rule-attributes .result) _ (c .before .before .before .before .before .before .before .before .is-zero .ensures) (c .before .before .before .before .before .before .before .before .before .rule-attributes .ensures) (c .before .before .before .before .before .before .before .if1 .left)) (zero-test (c .before .before .before .before .before .before .before .before .before .before .before .before .before .before .args .by .symbol) (c .before .before .before .before .before .before .before .before .before .before .before .before .before .before .args .by .state) (tree (c .before .before .before .before .before .before .before .before .before .before .before .before .before .before .args .f .now) (c .before .before .before .before .before .before .before .before .before .before .before .before .before .before .args .k)) (c .before .before .before .before .before .before .before .before .before .before .before .before .before .before .args .levels) (c .before .before .before .before .before .before .before .before .before .before .before .before .before .before .args .q) (c .before .before .before .before .before .before .before .before .before .before .end-of .result) (c .before .before .before .before .before .is-zero2 .result) (c .before .before .before .before .before .before .rule-attributes2 .result) _ (c .before .before .before .before .before .is-zero2 .ensures) (c .before .before .before .before .before .before .rule-attributes2 .ensures) (c .before .before .before .before .if2 .taken))) (c .before .before .write-rule2 .ensures)
+write-sum-returns-2 : (t : ℕ) → write-sum-lts.Need-returns-2 (write-sum-calls t) (write-sum-at t) write-sum.Post
+write-sum-returns-2 t c =
+    let args = c .before .before .before .before .before .before .before .before .before .before .before .before .before .before .args in
+    let end-of = c .before .before .before .before .before .before .before .before .before .before .end-of in
+    let rule-attributes = c .before .before .before .before .before .before .before .before .before .rule-attributes in
+    let is-zero = c .before .before .before .before .before .before .before .before .is-zero in
+    let if1 = c .before .before .before .before .before .before .before .if1 in
+    let rule-attributes2 = c .before .before .before .before .before .before .rule-attributes2 in
+    let is-zero2 = c .before .before .before .before .before .is-zero2 in
+    let if2 = c .before .before .before .before .if2 in
+    let write-rule2 = c .before .before .write-rule2 in
+    let the-tree = tree (args .f .now) (args .k) in
+    as-text _ _ _ _ _
+    (sum-right (args .by .symbol) (args .by .state) the-tree (args .levels) (args .q) (args .i) (end-of .result) (end-of .ensures)
+    (zero-test (args .by .symbol) (args .by .state) the-tree (args .levels) (args .q) (args .i) (is-zero .result) (rule-attributes .result) _
+    (is-zero .ensures) (rule-attributes .ensures) (if1 .left))
+    (zero-test (args .by .symbol) (args .by .state) the-tree (args .levels) (args .q) (end-of .result) (is-zero2 .result) (rule-attributes2 .result) _
+    (is-zero2 .ensures) (rule-attributes2 .ensures) (if2 .taken)))
+    (write-rule2 .ensures)
 
-write-sum-write-node-requires : (t : ℕ) → write-sum-lts.Need-write-node-requires (
-  end-of-reads.Asked,
-  end-of-reads.Learnt,
-  rule-attributes-reads.Asked,
-  rule-attributes-reads.Learnt,
-  is-zero-reads.Asked,
-  is-zero-reads.Learnt,
-  write-rule-below t,
-  write-rule.Post,
-  write-node-below t,
-  write-node.Post,
-) (write-sum-at t) write-sum.Post
-write-sum-write-node-requires t c κs = (omega (arith, c .before .before .before .before .before .before .before .before .before .before .before .pre .0), (record { kind-byte = omega arith; operator-byte = omega arith; few = omega arith }, task-as (c .before .before .before .before .before .before .before .before .before .before .before .args .by .symbol) (c .before .before .before .before .before .before .before .before .before .before .before .args .by .state) (c .before .before .before .before .before .before .before .before .before .before .before .args .f .now) (c .before .before .before .before .before .before .before .before .before .before .before .args .table .now) (c .before .before .before .before .before .before .before .before .before .before .before .args .k) (c .before .before .before .before .before .before .before .before .before .before .before .args .depth) _ _ (c .before .before .before .before .before .before .before .before .before .before .before .args .out .now) (sum-kept (c .before .before .before .before .before .before .before .before .before .before .before .args .by .symbol) (c .before .before .before .before .before .before .before .before .before .before .before .args .by .state) (tree (c .before .before .before .before .before .before .before .before .before .before .before .args .f .now) (c .before .before .before .before .before .before .before .before .before .before .before .args .k)) (c .before .before .before .before .before .before .before .before .before .before .before .args .levels) (c .before .before .before .before .before .before .before .before .before .before .before .args .q) (c .before .before .before .before .before .before .before .before .before .before .before .args .i) (c .before .before .before .before .before .before .before .end-of .result) (c .before .before .before .before .before .before .before .end-of .ensures) (zero-test (c .before .before .before .before .before .before .before .before .before .before .before .args .by .symbol) (c .before .before .before .before .before .before .before .before .before .before .before .args .by .state) (tree (c .before .before .before .before .before .before .before .before .before .before .before .args .f .now) (c .before .before .before .before .before .before .before .before .before .before .before .args .k)) (c .before .before .before .before .before .before .before .before .before .before .before .args .levels) (c .before .before .before .before .before .before .before .before .before .before .before .args .q) (c .before .before .before .before .before .before .before .before .before .before .before .args .i) (c .before .before .before .before .before .is-zero .result) (c .before .before .before .before .before .before .rule-attributes .result) _ (c .before .before .before .before .before .is-zero .ensures) (c .before .before .before .before .before .before .rule-attributes .ensures) (c .before .before .before .before .if1 .left)) (zero-test (c .before .before .before .before .before .before .before .before .before .before .before .args .by .symbol) (c .before .before .before .before .before .before .before .before .before .before .before .args .by .state) (tree (c .before .before .before .before .before .before .before .before .before .before .before .args .f .now) (c .before .before .before .before .before .before .before .before .before .before .before .args .k)) (c .before .before .before .before .before .before .before .before .before .before .before .args .levels) (c .before .before .before .before .before .before .before .before .before .before .before .args .q) (c .before .before .before .before .before .before .before .end-of .result) (c .before .before .is-zero2 .result) (c .before .before .before .rule-attributes2 .result) _ (c .before .before .is-zero2 .ensures) (c .before .before .before .rule-attributes2 .ensures) (c .before .if2 .left))) (c .before .before .before .before .before .before .before .before .before .before .before .pre .1)))
+write-sum-write-node-requires : (t : ℕ) → write-sum-lts.Need-write-node-requires (write-sum-calls t) (write-sum-at t) write-sum.Post
+write-sum-write-node-requires t c κs =
+    let args = c .before .before .before .before .before .before .before .before .before .before .before .args in
+    let pre = c .before .before .before .before .before .before .before .before .before .before .before .pre in
+    let end-of = c .before .before .before .before .before .before .before .end-of in
+    let rule-attributes = c .before .before .before .before .before .before .rule-attributes in
+    let is-zero = c .before .before .before .before .before .is-zero in
+    let if1 = c .before .before .before .before .if1 in
+    let rule-attributes2 = c .before .before .before .rule-attributes2 in
+    let is-zero2 = c .before .before .is-zero2 in
+    let the-tree = tree (args .f .now) (args .k) in (
+      omega (arith, pre .0),
+      (
+        record { kind-byte = omega arith; operator-byte = omega arith; few = omega arith },
+        task-as (args .by .symbol) (args .by .state) (args .f .now) (args .table .now) (args .k) (args .depth) _ _ (args .out .now)
+            (sum-kept (args .by .symbol) (args .by .state) the-tree (args .levels) (args .q) (args .i) (end-of .result) (end-of .ensures)
+            (zero-test (args .by .symbol) (args .by .state) the-tree (args .levels) (args .q) (args .i) (is-zero .result) (rule-attributes .result) _
+            (is-zero .ensures) (rule-attributes .ensures) (if1 .left))
+            (zero-test (args .by .symbol) (args .by .state) the-tree (args .levels) (args .q) (end-of .result) (is-zero2 .result) (rule-attributes2 .result) _
+            (is-zero2 .ensures) (rule-attributes2 .ensures) (c .before .if2 .left)))
+            (pre .1),
+      ),
+    )
 
-write-sum-same-length-3 : (t : ℕ) → write-sum-lts.Need-same-length-3 (
-  end-of-reads.Asked,
-  end-of-reads.Learnt,
-  rule-attributes-reads.Asked,
-  rule-attributes-reads.Learnt,
-  is-zero-reads.Asked,
-  is-zero-reads.Learnt,
-  write-rule-below t,
-  write-rule.Post,
-  write-node-below t,
-  write-node.Post,
-) (write-sum-at t) write-sum.Post
+write-sum-same-length-3 : (t : ℕ) → write-sum-lts.Need-same-length-3 (write-sum-calls t) (write-sum-at t) write-sum.Post
 write-sum-same-length-3 t c = c .before .before .write-node .kept .1 .1 .1 .1 .1 .1 .1 .1 .1 .1 .1 .0
 
-write-sum-returns-3 : (t : ℕ) → write-sum-lts.Need-returns-3 (
-  end-of-reads.Asked,
-  end-of-reads.Learnt,
-  rule-attributes-reads.Asked,
-  rule-attributes-reads.Learnt,
-  is-zero-reads.Asked,
-  is-zero-reads.Learnt,
-  write-rule-below t,
-  write-rule.Post,
-  write-node-below t,
-  write-node.Post,
-) (write-sum-at t) write-sum.Post
-write-sum-returns-3 t c = as-text _ _ _ _ _ (sum-kept (c .before .before .before .before .before .before .before .before .before .before .before .before .before .before .args .by .symbol) (c .before .before .before .before .before .before .before .before .before .before .before .before .before .before .args .by .state) (tree (c .before .before .before .before .before .before .before .before .before .before .before .before .before .before .args .f .now) (c .before .before .before .before .before .before .before .before .before .before .before .before .before .before .args .k)) (c .before .before .before .before .before .before .before .before .before .before .before .before .before .before .args .levels) (c .before .before .before .before .before .before .before .before .before .before .before .before .before .before .args .q) (c .before .before .before .before .before .before .before .before .before .before .before .before .before .before .args .i) (c .before .before .before .before .before .before .before .before .before .before .end-of .result) (c .before .before .before .before .before .before .before .before .before .before .end-of .ensures) (zero-test (c .before .before .before .before .before .before .before .before .before .before .before .before .before .before .args .by .symbol) (c .before .before .before .before .before .before .before .before .before .before .before .before .before .before .args .by .state) (tree (c .before .before .before .before .before .before .before .before .before .before .before .before .before .before .args .f .now) (c .before .before .before .before .before .before .before .before .before .before .before .before .before .before .args .k)) (c .before .before .before .before .before .before .before .before .before .before .before .before .before .before .args .levels) (c .before .before .before .before .before .before .before .before .before .before .before .before .before .before .args .q) (c .before .before .before .before .before .before .before .before .before .before .before .before .before .before .args .i) (c .before .before .before .before .before .before .before .before .is-zero .result) (c .before .before .before .before .before .before .before .before .before .rule-attributes .result) _ (c .before .before .before .before .before .before .before .before .is-zero .ensures) (c .before .before .before .before .before .before .before .before .before .rule-attributes .ensures) (c .before .before .before .before .before .before .before .if1 .left)) (zero-test (c .before .before .before .before .before .before .before .before .before .before .before .before .before .before .args .by .symbol) (c .before .before .before .before .before .before .before .before .before .before .before .before .before .before .args .by .state) (tree (c .before .before .before .before .before .before .before .before .before .before .before .before .before .before .args .f .now) (c .before .before .before .before .before .before .before .before .before .before .before .before .before .before .args .k)) (c .before .before .before .before .before .before .before .before .before .before .before .before .before .before .args .levels) (c .before .before .before .before .before .before .before .before .before .before .before .before .before .before .args .q) (c .before .before .before .before .before .before .before .before .before .before .end-of .result) (c .before .before .before .before .before .is-zero2 .result) (c .before .before .before .before .before .before .rule-attributes2 .result) _ (c .before .before .before .before .before .is-zero2 .ensures) (c .before .before .before .before .before .before .rule-attributes2 .ensures) (c .before .before .before .before .if2 .left))) (c .before .before .write-node .ensures)
+write-sum-returns-3 : (t : ℕ) → write-sum-lts.Need-returns-3 (write-sum-calls t) (write-sum-at t) write-sum.Post
+write-sum-returns-3 t c =
+    let args = c .before .before .before .before .before .before .before .before .before .before .before .before .before .before .args in
+    let end-of = c .before .before .before .before .before .before .before .before .before .before .end-of in
+    let rule-attributes = c .before .before .before .before .before .before .before .before .before .rule-attributes in
+    let is-zero = c .before .before .before .before .before .before .before .before .is-zero in
+    let if1 = c .before .before .before .before .before .before .before .if1 in
+    let rule-attributes2 = c .before .before .before .before .before .before .rule-attributes2 in
+    let is-zero2 = c .before .before .before .before .before .is-zero2 in
+    let if2 = c .before .before .before .before .if2 in
+    let write-node = c .before .before .write-node in
+    let the-tree = tree (args .f .now) (args .k) in
+    as-text _ _ _ _ _
+    (sum-kept (args .by .symbol) (args .by .state) the-tree (args .levels) (args .q) (args .i) (end-of .result) (end-of .ensures)
+    (zero-test (args .by .symbol) (args .by .state) the-tree (args .levels) (args .q) (args .i) (is-zero .result) (rule-attributes .result) _
+    (is-zero .ensures) (rule-attributes .ensures) (if1 .left))
+    (zero-test (args .by .symbol) (args .by .state) the-tree (args .levels) (args .q) (end-of .result) (is-zero2 .result) (rule-attributes2 .result) _
+    (is-zero2 .ensures) (rule-attributes2 .ensures) (if2 .left)))
+    (write-node .ensures)
 
-write-ties-write-diff-requires : (t : ℕ) → write-ties-lts.Need-write-diff-requires (
-  write-diff-below t,
-  write-diff.Post,
-  put-tie-reads.Asked,
-  put-tie-reads.Learnt,
-  write-ties-below t,
-  write-ties.Post,
-) (write-ties-at t) write-ties.Post
-write-ties-write-diff-requires t c κs = (omega (arith, c .before .before .before .before .before .pre .0), task-as (c .before .before .before .before .before .args .by .symbol) (c .before .before .before .before .before .args .by .state) (c .before .before .before .before .before .args .f .now) (c .before .before .before .before .before .args .table .now) (c .before .before .before .before .before .args .k) (c .before .before .before .before .before .args .depth) _ _ (c .before .before .before .before .before .args .out .now) (last-tie (c .before .before .before .before .before .args .by .symbol) (c .before .before .before .before .before .args .by .state) (tree (c .before .before .before .before .before .args .f .now) (c .before .before .before .before .before .args .k)) (c .before .before .before .before .before .args .i) (c .before .before .before .before .before .args .left) (c .before .if1 .taken)) (c .before .before .before .before .before .pre .1 .1))
+write-ties-write-diff-requires : (t : ℕ) → write-ties-lts.Need-write-diff-requires (write-ties-calls t) (write-ties-at t) write-ties.Post
+write-ties-write-diff-requires t c κs =
+    let args = c .before .before .before .before .before .args in
+    let pre = c .before .before .before .before .before .pre in (
+      omega (arith, pre .0),
+      task-as (args .by .symbol) (args .by .state) (args .f .now) (args .table .now) (args .k) (args .depth) _ _ (args .out .now)
+          (last-tie (args .by .symbol) (args .by .state) (tree (args .f .now) (args .k)) (args .i) (args .left) (c .before .if1 .taken)) (pre .1 .1),
+    )
 
-write-ties-same-length : (t : ℕ) → write-ties-lts.Need-same-length (
-  write-diff-below t,
-  write-diff.Post,
-  put-tie-reads.Asked,
-  put-tie-reads.Learnt,
-  write-ties-below t,
-  write-ties.Post,
-) (write-ties-at t) write-ties.Post
+write-ties-same-length : (t : ℕ) → write-ties-lts.Need-same-length (write-ties-calls t) (write-ties-at t) write-ties.Post
 write-ties-same-length t c = c .before .before .write-diff .kept .1 .1 .1 .1 .1 .1 .0
 
-write-ties-returns : (t : ℕ) → write-ties-lts.Need-returns (
-  write-diff-below t,
-  write-diff.Post,
-  put-tie-reads.Asked,
-  put-tie-reads.Learnt,
-  write-ties-below t,
-  write-ties.Post,
-) (write-ties-at t) write-ties.Post
-write-ties-returns t c = as-text _ _ _ _ _ (last-tie (c .before .before .before .before .before .before .before .before .args .by .symbol) (c .before .before .before .before .before .before .before .before .args .by .state) (tree (c .before .before .before .before .before .before .before .before .args .f .now) (c .before .before .before .before .before .before .before .before .args .k)) (c .before .before .before .before .before .before .before .before .args .i) (c .before .before .before .before .before .before .before .before .args .left) (c .before .before .before .before .if1 .taken)) (c .before .before .write-diff .ensures)
+write-ties-returns : (t : ℕ) → write-ties-lts.Need-returns (write-ties-calls t) (write-ties-at t) write-ties.Post
+write-ties-returns t c =
+    let args = c .before .before .before .before .before .before .before .before .args in
+    let if1 = c .before .before .before .before .if1 in
+    let write-diff = c .before .before .write-diff in
+    as-text _ _ _ _ _ (last-tie (args .by .symbol) (args .by .state) (tree (args .f .now) (args .k)) (args .i) (args .left) (if1 .taken))
+    (write-diff .ensures)
 
-write-ties-put-tie-requires : (t : ℕ) → write-ties-lts.Need-put-tie-requires (
-  write-diff-below t,
-  write-diff.Post,
-  put-tie-reads.Asked,
-  put-tie-reads.Learnt,
-  write-ties-below t,
-  write-ties.Post,
-) (write-ties-at t) write-ties.Post
-write-ties-put-tie-requires t c κs = (c .before .before .before .before .before .pre .1 .1 .known .owned, omega (arith, ap length (next-tie (c .before .before .before .before .before .args .by .symbol) (c .before .before .before .before .before .args .by .state) (tree (c .before .before .before .before .before .args .f .now) (c .before .before .before .before .before .args .k)) (c .before .before .before .before .before .args .i) (c .before .before .before .before .before .args .left) (c .before .if1 .left)), length-append ((tie-bytes (tree (c .before .before .before .before .before .args .f .now) (c .before .before .before .before .before .args .k)) (c .before .before .before .before .before .args .i)) ++ (encode (derived-of (c .before .before .before .before .before .args .by .symbol) (c .before .before .before .before .before .args .by .state) (tree (c .before .before .before .before .before .args .f .now) (c .before .before .before .before .before .args .k)) (c .before .before .before .before .before .args .i)))) (extremum-bytes (c .before .before .before .before .before .args .by .symbol) (c .before .before .before .before .before .args .by .state) (tree (c .before .before .before .before .before .args .f .now) (c .before .before .before .before .before .args .k)) (c .before .before .before .before .before .args .i + 1) (c .before .before .before .before .before .args .left - 1)), length-append (tie-bytes (tree (c .before .before .before .before .before .args .f .now) (c .before .before .before .before .before .args .k)) (c .before .before .before .before .before .args .i)) (encode (derived-of (c .before .before .before .before .before .args .by .symbol) (c .before .before .before .before .before .args .by .state) (tree (c .before .before .before .before .before .args .f .now) (c .before .before .before .before .before .args .k)) (c .before .before .before .before .before .args .i))), c .before .before .before .before .before .pre .1 .1 .room))
+write-ties-put-tie-requires : (t : ℕ) → write-ties-lts.Need-put-tie-requires (write-ties-calls t) (write-ties-at t) write-ties.Post
+write-ties-put-tie-requires t c κs =
+    let args = c .before .before .before .before .before .args in
+    let pre = c .before .before .before .before .before .pre in
+    let the-tree = tree (args .f .now) (args .k) in
+    let the-encode = encode (derived-of (args .by .symbol) (args .by .state) the-tree (args .i)) in
+    let the-tie-bytes = tie-bytes the-tree (args .i) in (
+      pre .1 .1 .known .owned,
+      omega (
+        arith,
+        ap length (next-tie (args .by .symbol) (args .by .state) the-tree (args .i) (args .left) (c .before .if1 .left)),
+        length-append (the-tie-bytes ++ the-encode) (extremum-bytes (args .by .symbol) (args .by .state) the-tree (args .i + 1) (args .left - 1)),
+        length-append the-tie-bytes the-encode,
+        pre .1 .1 .room,
+      ),
+    )
 
-write-ties-sub-write-diff : (t : ℕ) → write-ties-lts.Need-sub-write-diff (
-  write-diff-below t,
-  write-diff.Post,
-  put-tie-reads.Asked,
-  put-tie-reads.Learnt,
-  write-ties-below t,
-  write-ties.Post,
-) (write-ties-at t) write-ties.Post
-write-ties-sub-write-diff t c = let h = free-start (tie-bytes (tree (c .before .before .before .before .before .before .before .before .args .f .now) (c .before .before .before .before .before .before .before .before .args .k)) (c .before .before .before .before .before .before .before .before .args .i)) (c .before .before .before .before .before .before .before .before .args .out .now) (c .before .before .put-tie .last .1 .1 .1 .1 .0) (c .before .before .put-tie .result) (c .before .before .put-tie .ensures) (omega (arith, ap length (next-tie (c .before .before .before .before .before .before .before .before .args .by .symbol) (c .before .before .before .before .before .before .before .before .args .by .state) (tree (c .before .before .before .before .before .before .before .before .args .f .now) (c .before .before .before .before .before .before .before .before .args .k)) (c .before .before .before .before .before .before .before .before .args .i) (c .before .before .before .before .before .before .before .before .args .left) (c .before .before .before .before .if1 .left)), length-append ((tie-bytes (tree (c .before .before .before .before .before .before .before .before .args .f .now) (c .before .before .before .before .before .before .before .before .args .k)) (c .before .before .before .before .before .before .before .before .args .i)) ++ (encode (derived-of (c .before .before .before .before .before .before .before .before .args .by .symbol) (c .before .before .before .before .before .before .before .before .args .by .state) (tree (c .before .before .before .before .before .before .before .before .args .f .now) (c .before .before .before .before .before .before .before .before .args .k)) (c .before .before .before .before .before .before .before .before .args .i)))) (extremum-bytes (c .before .before .before .before .before .before .before .before .args .by .symbol) (c .before .before .before .before .before .before .before .before .args .by .state) (tree (c .before .before .before .before .before .before .before .before .args .f .now) (c .before .before .before .before .before .before .before .before .args .k)) (c .before .before .before .before .before .before .before .before .args .i + 1) (c .before .before .before .before .before .before .before .before .args .left - 1)), length-append (tie-bytes (tree (c .before .before .before .before .before .before .before .before .args .f .now) (c .before .before .before .before .before .before .before .before .args .k)) (c .before .before .before .before .before .before .before .before .args .i)) (encode (derived-of (c .before .before .before .before .before .before .before .before .args .by .symbol) (c .before .before .before .before .before .before .before .before .args .by .state) (tree (c .before .before .before .before .before .before .before .before .args .f .now) (c .before .before .before .before .before .before .before .before .args .k)) (c .before .before .before .before .before .before .before .before .args .i))), c .before .before .before .before .before .before .before .before .pre .1 .1 .room)) in omega (arith, h)
+write-ties-sub-write-diff : (t : ℕ) → write-ties-lts.Need-sub-write-diff (write-ties-calls t) (write-ties-at t) write-ties.Post
+write-ties-sub-write-diff t c =
+    let args = c .before .before .before .before .before .before .before .before .args in
+    let pre = c .before .before .before .before .before .before .before .before .pre in
+    let if1 = c .before .before .before .before .if1 in
+    let put-tie = c .before .before .put-tie in
+    let the-tree = tree (args .f .now) (args .k) in
+    let the-encode = encode (derived-of (args .by .symbol) (args .by .state) the-tree (args .i)) in
+    let the-tie-bytes = tie-bytes the-tree (args .i) in
+    let h =
+    free-start the-tie-bytes (args .out .now) (put-tie .last .1 .1 .1 .1 .0) (put-tie .result) (put-tie .ensures)
+    (omega (
+      arith,
+      ap length (next-tie (args .by .symbol) (args .by .state) the-tree (args .i) (args .left) (if1 .left)),
+      length-append (the-tie-bytes ++ the-encode) (extremum-bytes (args .by .symbol) (args .by .state) the-tree (args .i + 1) (args .left - 1)),
+      length-append the-tie-bytes the-encode,
+      pre .1 .1 .room,
+    )) in
+    omega (arith, h)
 
-write-ties-part-write-diff-start : (t : ℕ) → write-ties-lts.Need-part-write-diff-start (
-  write-diff-below t,
-  write-diff.Post,
-  put-tie-reads.Asked,
-  put-tie-reads.Learnt,
-  write-ties-below t,
-  write-ties.Post,
-) (write-ties-at t) write-ties.Post
-write-ties-part-write-diff-start t c = let h = free-start (tie-bytes (tree (c .before .before .before .before .before .before .before .before .args .f .now) (c .before .before .before .before .before .before .before .before .args .k)) (c .before .before .before .before .before .before .before .before .args .i)) (c .before .before .before .before .before .before .before .before .args .out .now) (c .before .before .put-tie .last .1 .1 .1 .1 .0) (c .before .before .put-tie .result) (c .before .before .put-tie .ensures) (omega (arith, ap length (next-tie (c .before .before .before .before .before .before .before .before .args .by .symbol) (c .before .before .before .before .before .before .before .before .args .by .state) (tree (c .before .before .before .before .before .before .before .before .args .f .now) (c .before .before .before .before .before .before .before .before .args .k)) (c .before .before .before .before .before .before .before .before .args .i) (c .before .before .before .before .before .before .before .before .args .left) (c .before .before .before .before .if1 .left)), length-append ((tie-bytes (tree (c .before .before .before .before .before .before .before .before .args .f .now) (c .before .before .before .before .before .before .before .before .args .k)) (c .before .before .before .before .before .before .before .before .args .i)) ++ (encode (derived-of (c .before .before .before .before .before .before .before .before .args .by .symbol) (c .before .before .before .before .before .before .before .before .args .by .state) (tree (c .before .before .before .before .before .before .before .before .args .f .now) (c .before .before .before .before .before .before .before .before .args .k)) (c .before .before .before .before .before .before .before .before .args .i)))) (extremum-bytes (c .before .before .before .before .before .before .before .before .args .by .symbol) (c .before .before .before .before .before .before .before .before .args .by .state) (tree (c .before .before .before .before .before .before .before .before .args .f .now) (c .before .before .before .before .before .before .before .before .args .k)) (c .before .before .before .before .before .before .before .before .args .i + 1) (c .before .before .before .before .before .before .before .before .args .left - 1)), length-append (tie-bytes (tree (c .before .before .before .before .before .before .before .before .args .f .now) (c .before .before .before .before .before .before .before .before .args .k)) (c .before .before .before .before .before .before .before .before .args .i)) (encode (derived-of (c .before .before .before .before .before .before .before .before .args .by .symbol) (c .before .before .before .before .before .before .before .before .args .by .state) (tree (c .before .before .before .before .before .before .before .before .args .f .now) (c .before .before .before .before .before .before .before .before .args .k)) (c .before .before .before .before .before .before .before .before .args .i))), c .before .before .before .before .before .before .before .before .pre .1 .1 .room)) in omega (arith, h)
+write-ties-part-write-diff-start : (t : ℕ) → write-ties-lts.Need-part-write-diff-start (write-ties-calls t) (write-ties-at t) write-ties.Post
+write-ties-part-write-diff-start t c =
+    let args = c .before .before .before .before .before .before .before .before .args in
+    let pre = c .before .before .before .before .before .before .before .before .pre in
+    let if1 = c .before .before .before .before .if1 in
+    let put-tie = c .before .before .put-tie in
+    let the-tree = tree (args .f .now) (args .k) in
+    let the-encode = encode (derived-of (args .by .symbol) (args .by .state) the-tree (args .i)) in
+    let the-tie-bytes = tie-bytes the-tree (args .i) in
+    let h =
+    free-start the-tie-bytes (args .out .now) (put-tie .last .1 .1 .1 .1 .0) (put-tie .result) (put-tie .ensures)
+    (omega (
+      arith,
+      ap length (next-tie (args .by .symbol) (args .by .state) the-tree (args .i) (args .left) (if1 .left)),
+      length-append (the-tie-bytes ++ the-encode) (extremum-bytes (args .by .symbol) (args .by .state) the-tree (args .i + 1) (args .left - 1)),
+      length-append the-tie-bytes the-encode,
+      pre .1 .1 .room,
+    )) in
+    omega (arith, h)
 
-write-ties-part-write-diff-end : (t : ℕ) → write-ties-lts.Need-part-write-diff-end (
-  write-diff-below t,
-  write-diff.Post,
-  put-tie-reads.Asked,
-  put-tie-reads.Learnt,
-  write-ties-below t,
-  write-ties.Post,
-) (write-ties-at t) write-ties.Post
-write-ties-part-write-diff-end t c = let h = free-start (tie-bytes (tree (c .before .before .before .before .before .before .before .before .args .f .now) (c .before .before .before .before .before .before .before .before .args .k)) (c .before .before .before .before .before .before .before .before .args .i)) (c .before .before .before .before .before .before .before .before .args .out .now) (c .before .before .put-tie .last .1 .1 .1 .1 .0) (c .before .before .put-tie .result) (c .before .before .put-tie .ensures) (omega (arith, ap length (next-tie (c .before .before .before .before .before .before .before .before .args .by .symbol) (c .before .before .before .before .before .before .before .before .args .by .state) (tree (c .before .before .before .before .before .before .before .before .args .f .now) (c .before .before .before .before .before .before .before .before .args .k)) (c .before .before .before .before .before .before .before .before .args .i) (c .before .before .before .before .before .before .before .before .args .left) (c .before .before .before .before .if1 .left)), length-append ((tie-bytes (tree (c .before .before .before .before .before .before .before .before .args .f .now) (c .before .before .before .before .before .before .before .before .args .k)) (c .before .before .before .before .before .before .before .before .args .i)) ++ (encode (derived-of (c .before .before .before .before .before .before .before .before .args .by .symbol) (c .before .before .before .before .before .before .before .before .args .by .state) (tree (c .before .before .before .before .before .before .before .before .args .f .now) (c .before .before .before .before .before .before .before .before .args .k)) (c .before .before .before .before .before .before .before .before .args .i)))) (extremum-bytes (c .before .before .before .before .before .before .before .before .args .by .symbol) (c .before .before .before .before .before .before .before .before .args .by .state) (tree (c .before .before .before .before .before .before .before .before .args .f .now) (c .before .before .before .before .before .before .before .before .args .k)) (c .before .before .before .before .before .before .before .before .args .i + 1) (c .before .before .before .before .before .before .before .before .args .left - 1)), length-append (tie-bytes (tree (c .before .before .before .before .before .before .before .before .args .f .now) (c .before .before .before .before .before .before .before .before .args .k)) (c .before .before .before .before .before .before .before .before .args .i)) (encode (derived-of (c .before .before .before .before .before .before .before .before .args .by .symbol) (c .before .before .before .before .before .before .before .before .args .by .state) (tree (c .before .before .before .before .before .before .before .before .args .f .now) (c .before .before .before .before .before .before .before .before .args .k)) (c .before .before .before .before .before .before .before .before .args .i))), c .before .before .before .before .before .before .before .before .pre .1 .1 .room)) in omega (arith, h)
+write-ties-part-write-diff-end : (t : ℕ) → write-ties-lts.Need-part-write-diff-end (write-ties-calls t) (write-ties-at t) write-ties.Post
+write-ties-part-write-diff-end t c =
+    let args = c .before .before .before .before .before .before .before .before .args in
+    let pre = c .before .before .before .before .before .before .before .before .pre in
+    let if1 = c .before .before .before .before .if1 in
+    let put-tie = c .before .before .put-tie in
+    let the-tree = tree (args .f .now) (args .k) in
+    let the-encode = encode (derived-of (args .by .symbol) (args .by .state) the-tree (args .i)) in
+    let the-tie-bytes = tie-bytes the-tree (args .i) in
+    let h =
+    free-start the-tie-bytes (args .out .now) (put-tie .last .1 .1 .1 .1 .0) (put-tie .result) (put-tie .ensures)
+    (omega (
+      arith,
+      ap length (next-tie (args .by .symbol) (args .by .state) the-tree (args .i) (args .left) (if1 .left)),
+      length-append (the-tie-bytes ++ the-encode) (extremum-bytes (args .by .symbol) (args .by .state) the-tree (args .i + 1) (args .left - 1)),
+      length-append the-tie-bytes the-encode,
+      pre .1 .1 .room,
+    )) in
+    omega (arith, h)
 
-write-ties-write-diff-requires-2 : (t : ℕ) → write-ties-lts.Need-write-diff-requires-2 (
-  write-diff-below t,
-  write-diff.Post,
-  put-tie-reads.Asked,
-  put-tie-reads.Learnt,
-  write-ties-below t,
-  write-ties.Post,
-) (write-ties-at t) write-ties.Post
-write-ties-write-diff-requires-2 t c κs = (omega (arith, c .before .before .before .before .before .before .before .before .before .pre .0), record { known = c .before .before .before .before .before .before .before .before .before .pre .1 .1 .known; deep = c .before .before .before .before .before .before .before .before .before .pre .1 .1 .deep; room = free-room (tie-bytes (tree (c .before .before .before .before .before .before .before .before .before .args .f .now) (c .before .before .before .before .before .before .before .before .before .args .k)) (c .before .before .before .before .before .before .before .before .before .args .i)) (c .before .before .before .before .before .before .before .before .before .args .out .now) (c .before .before .before .put-tie .last .1 .1 .1 .1 .0) (c .before .before .before .put-tie .result) (c .before .before .before .put-tie .ensures) (omega (arith, ap length (next-tie (c .before .before .before .before .before .before .before .before .before .args .by .symbol) (c .before .before .before .before .before .before .before .before .before .args .by .state) (tree (c .before .before .before .before .before .before .before .before .before .args .f .now) (c .before .before .before .before .before .before .before .before .before .args .k)) (c .before .before .before .before .before .before .before .before .before .args .i) (c .before .before .before .before .before .before .before .before .before .args .left) (c .before .before .before .before .before .if1 .left)), length-append ((tie-bytes (tree (c .before .before .before .before .before .before .before .before .before .args .f .now) (c .before .before .before .before .before .before .before .before .before .args .k)) (c .before .before .before .before .before .before .before .before .before .args .i)) ++ (encode (derived-of (c .before .before .before .before .before .before .before .before .before .args .by .symbol) (c .before .before .before .before .before .before .before .before .before .args .by .state) (tree (c .before .before .before .before .before .before .before .before .before .args .f .now) (c .before .before .before .before .before .before .before .before .before .args .k)) (c .before .before .before .before .before .before .before .before .before .args .i)))) (extremum-bytes (c .before .before .before .before .before .before .before .before .before .args .by .symbol) (c .before .before .before .before .before .before .before .before .before .args .by .state) (tree (c .before .before .before .before .before .before .before .before .before .args .f .now) (c .before .before .before .before .before .before .before .before .before .args .k)) (c .before .before .before .before .before .before .before .before .before .args .i + 1) (c .before .before .before .before .before .before .before .before .before .args .left - 1)), length-append (tie-bytes (tree (c .before .before .before .before .before .before .before .before .before .args .f .now) (c .before .before .before .before .before .before .before .before .before .args .k)) (c .before .before .before .before .before .before .before .before .before .args .i)) (encode (derived-of (c .before .before .before .before .before .before .before .before .before .args .by .symbol) (c .before .before .before .before .before .before .before .before .before .args .by .state) (tree (c .before .before .before .before .before .before .before .before .before .args .f .now) (c .before .before .before .before .before .before .before .before .before .args .k)) (c .before .before .before .before .before .before .before .before .before .args .i))), c .before .before .before .before .before .before .before .before .before .pre .1 .1 .room)) (encode (derived-of (c .before .before .before .before .before .before .before .before .before .args .by .symbol) (c .before .before .before .before .before .before .before .before .before .args .by .state) (tree (c .before .before .before .before .before .before .before .before .before .args .f .now) (c .before .before .before .before .before .before .before .before .before .args .k)) (c .before .before .before .before .before .before .before .before .before .args .i))) (omega (arith, ap length (next-tie (c .before .before .before .before .before .before .before .before .before .args .by .symbol) (c .before .before .before .before .before .before .before .before .before .args .by .state) (tree (c .before .before .before .before .before .before .before .before .before .args .f .now) (c .before .before .before .before .before .before .before .before .before .args .k)) (c .before .before .before .before .before .before .before .before .before .args .i) (c .before .before .before .before .before .before .before .before .before .args .left) (c .before .before .before .before .before .if1 .left)), length-append ((tie-bytes (tree (c .before .before .before .before .before .before .before .before .before .args .f .now) (c .before .before .before .before .before .before .before .before .before .args .k)) (c .before .before .before .before .before .before .before .before .before .args .i)) ++ (encode (derived-of (c .before .before .before .before .before .before .before .before .before .args .by .symbol) (c .before .before .before .before .before .before .before .before .before .args .by .state) (tree (c .before .before .before .before .before .before .before .before .before .args .f .now) (c .before .before .before .before .before .before .before .before .before .args .k)) (c .before .before .before .before .before .before .before .before .before .args .i)))) (extremum-bytes (c .before .before .before .before .before .before .before .before .before .args .by .symbol) (c .before .before .before .before .before .before .before .before .before .args .by .state) (tree (c .before .before .before .before .before .before .before .before .before .args .f .now) (c .before .before .before .before .before .before .before .before .before .args .k)) (c .before .before .before .before .before .before .before .before .before .args .i + 1) (c .before .before .before .before .before .before .before .before .before .args .left - 1)), length-append (tie-bytes (tree (c .before .before .before .before .before .before .before .before .before .args .f .now) (c .before .before .before .before .before .before .before .before .before .args .k)) (c .before .before .before .before .before .before .before .before .before .args .i)) (encode (derived-of (c .before .before .before .before .before .before .before .before .before .args .by .symbol) (c .before .before .before .before .before .before .before .before .before .args .by .state) (tree (c .before .before .before .before .before .before .before .before .before .args .f .now) (c .before .before .before .before .before .before .before .before .before .args .k)) (c .before .before .before .before .before .before .before .before .before .args .i))), c .before .before .before .before .before .before .before .before .before .pre .1 .1 .room)) })
+write-ties-write-diff-requires-2 : (t : ℕ) → write-ties-lts.Need-write-diff-requires-2 (write-ties-calls t) (write-ties-at t) write-ties.Post
+write-ties-write-diff-requires-2 t c κs =
+    let args = c .before .before .before .before .before .before .before .before .before .args in
+    let pre = c .before .before .before .before .before .before .before .before .before .pre in
+    let if1 = c .before .before .before .before .before .if1 in
+    let put-tie = c .before .before .before .put-tie in
+    let the-tree = tree (args .f .now) (args .k) in
+    let the-encode = encode (derived-of (args .by .symbol) (args .by .state) the-tree (args .i)) in
+    let the-tie-bytes = tie-bytes the-tree (args .i) in
+    let the-extremum-bytes = extremum-bytes (args .by .symbol) (args .by .state) the-tree (args .i + 1) (args .left - 1) in
+    let the-next-tie = next-tie (args .by .symbol) (args .by .state) the-tree (args .i) (args .left) (if1 .left) in (
+      omega (arith, pre .0),
+      record {
+        known = pre .1 .1 .known;
+        deep = pre .1 .1 .deep;
+        room =
+            free-room the-tie-bytes (args .out .now) (put-tie .last .1 .1 .1 .1 .0) (put-tie .result) (put-tie .ensures)
+            (omega (
+              arith,
+              ap length the-next-tie,
+              length-append (the-tie-bytes ++ the-encode) the-extremum-bytes,
+              length-append the-tie-bytes the-encode,
+              pre .1 .1 .room,
+            ))
+            the-encode
+            (omega (
+              arith,
+              ap length the-next-tie,
+              length-append (the-tie-bytes ++ the-encode) the-extremum-bytes,
+              length-append the-tie-bytes the-encode,
+              pre .1 .1 .room,
+            ));
+      },
+    )
 
-write-ties-add-m : (t : ℕ) → write-ties-lts.Need-add-m (
-  write-diff-below t,
-  write-diff.Post,
-  put-tie-reads.Asked,
-  put-tie-reads.Learnt,
-  write-ties-below t,
-  write-ties.Post,
-) (write-ties-at t) write-ties.Post
-write-ties-add-m t c = omega (arith, c .before .before .before .before .before .before .put-tie .ensures .count, c .before .before .write-diff2 .ensures .count, ap length (next-tie (c .before .before .before .before .before .before .before .before .before .before .before .before .args .by .symbol) (c .before .before .before .before .before .before .before .before .before .before .before .before .args .by .state) (tree (c .before .before .before .before .before .before .before .before .before .before .before .before .args .f .now) (c .before .before .before .before .before .before .before .before .before .before .before .before .args .k)) (c .before .before .before .before .before .before .before .before .before .before .before .before .args .i) (c .before .before .before .before .before .before .before .before .before .before .before .before .args .left) (c .before .before .before .before .before .before .before .before .if1 .left)), length-append ((tie-bytes (tree (c .before .before .before .before .before .before .before .before .before .before .before .before .args .f .now) (c .before .before .before .before .before .before .before .before .before .before .before .before .args .k)) (c .before .before .before .before .before .before .before .before .before .before .before .before .args .i)) ++ (encode (derived-of (c .before .before .before .before .before .before .before .before .before .before .before .before .args .by .symbol) (c .before .before .before .before .before .before .before .before .before .before .before .before .args .by .state) (tree (c .before .before .before .before .before .before .before .before .before .before .before .before .args .f .now) (c .before .before .before .before .before .before .before .before .before .before .before .before .args .k)) (c .before .before .before .before .before .before .before .before .before .before .before .before .args .i)))) (extremum-bytes (c .before .before .before .before .before .before .before .before .before .before .before .before .args .by .symbol) (c .before .before .before .before .before .before .before .before .before .before .before .before .args .by .state) (tree (c .before .before .before .before .before .before .before .before .before .before .before .before .args .f .now) (c .before .before .before .before .before .before .before .before .before .before .before .before .args .k)) (c .before .before .before .before .before .before .before .before .before .before .before .before .args .i + 1) (c .before .before .before .before .before .before .before .before .before .before .before .before .args .left - 1)), length-append (tie-bytes (tree (c .before .before .before .before .before .before .before .before .before .before .before .before .args .f .now) (c .before .before .before .before .before .before .before .before .before .before .before .before .args .k)) (c .before .before .before .before .before .before .before .before .before .before .before .before .args .i)) (encode (derived-of (c .before .before .before .before .before .before .before .before .before .before .before .before .args .by .symbol) (c .before .before .before .before .before .before .before .before .before .before .before .before .args .by .state) (tree (c .before .before .before .before .before .before .before .before .before .before .before .before .args .f .now) (c .before .before .before .before .before .before .before .before .before .before .before .before .args .k)) (c .before .before .before .before .before .before .before .before .before .before .before .before .args .i))), c .before .before .before .before .before .before .before .before .before .before .before .before .pre .1 .1 .room)
+write-ties-add-m : (t : ℕ) → write-ties-lts.Need-add-m (write-ties-calls t) (write-ties-at t) write-ties.Post
+write-ties-add-m t c =
+    let args = c .before .before .before .before .before .before .before .before .before .before .before .before .args in
+    let good = c .before .before .before .before .before .before .before .before .before .before .before .before .good in
+    let pre = c .before .before .before .before .before .before .before .before .before .before .before .before .pre in
+    let if1 = c .before .before .before .before .before .before .before .before .if1 in
+    let put-tie = c .before .before .before .before .before .before .put-tie in
+    let write-diff2 = c .before .before .write-diff2 in
+    let the-tree = tree (args .f .now) (args .k) in
+    let the-encode = encode (derived-of (args .by .symbol) (args .by .state) the-tree (args .i)) in
+    let the-tie-bytes = tie-bytes the-tree (args .i) in
+    omega (
+      arith,
+      put-tie .ensures .count,
+      write-diff2 .ensures .count,
+      ap length (next-tie (args .by .symbol) (args .by .state) the-tree (args .i) (args .left) (if1 .left)),
+      length-append (the-tie-bytes ++ the-encode) (extremum-bytes (args .by .symbol) (args .by .state) the-tree (args .i + 1) (args .left - 1)),
+      length-append the-tie-bytes the-encode,
+      pre .1 .1 .room,
+      good .1 .1 .1 .1 .1 .1 .1 .0 .0,
+    )
 
-write-ties-add-write-ties : (t : ℕ) → write-ties-lts.Need-add-write-ties (
-  write-diff-below t,
-  write-diff.Post,
-  put-tie-reads.Asked,
-  put-tie-reads.Learnt,
-  write-ties-below t,
-  write-ties.Post,
-) (write-ties-at t) write-ties.Post
+write-ties-add-write-ties : (t : ℕ) → write-ties-lts.Need-add-write-ties (write-ties-calls t) (write-ties-at t) write-ties.Post
 write-ties-add-write-ties t c = omega (arith, c .before .before .before .before .before .before .before .before .before .before .before .before .pre .1 .0)
 
-write-ties-sub-write-ties : (t : ℕ) → write-ties-lts.Need-sub-write-ties (
-  write-diff-below t,
-  write-diff.Post,
-  put-tie-reads.Asked,
-  put-tie-reads.Learnt,
-  write-ties-below t,
-  write-ties.Post,
-) (write-ties-at t) write-ties.Post
-write-ties-sub-write-ties t c = let h = free-start ((tie-bytes (tree (c .before .before .before .before .before .before .before .before .before .before .before .before .args .f .now) (c .before .before .before .before .before .before .before .before .before .before .before .before .args .k)) (c .before .before .before .before .before .before .before .before .before .before .before .before .args .i)) ++ (encode (derived-of (c .before .before .before .before .before .before .before .before .before .before .before .before .args .by .symbol) (c .before .before .before .before .before .before .before .before .before .before .before .before .args .by .state) (tree (c .before .before .before .before .before .before .before .before .before .before .before .before .args .f .now) (c .before .before .before .before .before .before .before .before .before .before .before .before .args .k)) (c .before .before .before .before .before .before .before .before .before .before .before .before .args .i)))) (c .before .before .before .before .before .before .before .before .before .before .before .before .args .out .now) (putMid (c .before .before .before .before .before .before .put-tie .result) (length (c .before .before .before .before .before .before .put-tie .last .1 .1 .1 .1 .0) - c .before .before .before .before .before .before .put-tie .result) (c .before .before .before .before .before .before .put-tie .last .1 .1 .1 .1 .0) (c .before .before .write-diff2 .last .1 .1 .1 .1 .1 .1 .0)) (c .before .before .before .before .before .before .put-tie .result + c .before .before .write-diff2 .result) (then-writes (tie-bytes (tree (c .before .before .before .before .before .before .before .before .before .before .before .before .args .f .now) (c .before .before .before .before .before .before .before .before .before .before .before .before .args .k)) (c .before .before .before .before .before .before .before .before .before .before .before .before .args .i)) (c .before .before .before .before .before .before .before .before .before .before .before .before .args .out .now) (c .before .before .before .before .before .before .put-tie .last .1 .1 .1 .1 .0) (c .before .before .before .before .before .before .put-tie .result) (c .before .before .before .before .before .before .put-tie .ensures) (omega (arith, ap length (next-tie (c .before .before .before .before .before .before .before .before .before .before .before .before .args .by .symbol) (c .before .before .before .before .before .before .before .before .before .before .before .before .args .by .state) (tree (c .before .before .before .before .before .before .before .before .before .before .before .before .args .f .now) (c .before .before .before .before .before .before .before .before .before .before .before .before .args .k)) (c .before .before .before .before .before .before .before .before .before .before .before .before .args .i) (c .before .before .before .before .before .before .before .before .before .before .before .before .args .left) (c .before .before .before .before .before .before .before .before .if1 .left)), length-append ((tie-bytes (tree (c .before .before .before .before .before .before .before .before .before .before .before .before .args .f .now) (c .before .before .before .before .before .before .before .before .before .before .before .before .args .k)) (c .before .before .before .before .before .before .before .before .before .before .before .before .args .i)) ++ (encode (derived-of (c .before .before .before .before .before .before .before .before .before .before .before .before .args .by .symbol) (c .before .before .before .before .before .before .before .before .before .before .before .before .args .by .state) (tree (c .before .before .before .before .before .before .before .before .before .before .before .before .args .f .now) (c .before .before .before .before .before .before .before .before .before .before .before .before .args .k)) (c .before .before .before .before .before .before .before .before .before .before .before .before .args .i)))) (extremum-bytes (c .before .before .before .before .before .before .before .before .before .before .before .before .args .by .symbol) (c .before .before .before .before .before .before .before .before .before .before .before .before .args .by .state) (tree (c .before .before .before .before .before .before .before .before .before .before .before .before .args .f .now) (c .before .before .before .before .before .before .before .before .before .before .before .before .args .k)) (c .before .before .before .before .before .before .before .before .before .before .before .before .args .i + 1) (c .before .before .before .before .before .before .before .before .before .before .before .before .args .left - 1)), length-append (tie-bytes (tree (c .before .before .before .before .before .before .before .before .before .before .before .before .args .f .now) (c .before .before .before .before .before .before .before .before .before .before .before .before .args .k)) (c .before .before .before .before .before .before .before .before .before .before .before .before .args .i)) (encode (derived-of (c .before .before .before .before .before .before .before .before .before .before .before .before .args .by .symbol) (c .before .before .before .before .before .before .before .before .before .before .before .before .args .by .state) (tree (c .before .before .before .before .before .before .before .before .before .before .before .before .args .f .now) (c .before .before .before .before .before .before .before .before .before .before .before .before .args .k)) (c .before .before .before .before .before .before .before .before .before .before .before .before .args .i))), c .before .before .before .before .before .before .before .before .before .before .before .before .pre .1 .1 .room)) (encode (derived-of (c .before .before .before .before .before .before .before .before .before .before .before .before .args .by .symbol) (c .before .before .before .before .before .before .before .before .before .before .before .before .args .by .state) (tree (c .before .before .before .before .before .before .before .before .before .before .before .before .args .f .now) (c .before .before .before .before .before .before .before .before .before .before .before .before .args .k)) (c .before .before .before .before .before .before .before .before .before .before .before .before .args .i))) (c .before .before .write-diff2 .last .1 .1 .1 .1 .1 .1 .0) (c .before .before .write-diff2 .result) (c .before .before .write-diff2 .ensures)) (omega (arith, ap length (next-tie (c .before .before .before .before .before .before .before .before .before .before .before .before .args .by .symbol) (c .before .before .before .before .before .before .before .before .before .before .before .before .args .by .state) (tree (c .before .before .before .before .before .before .before .before .before .before .before .before .args .f .now) (c .before .before .before .before .before .before .before .before .before .before .before .before .args .k)) (c .before .before .before .before .before .before .before .before .before .before .before .before .args .i) (c .before .before .before .before .before .before .before .before .before .before .before .before .args .left) (c .before .before .before .before .before .before .before .before .if1 .left)), length-append ((tie-bytes (tree (c .before .before .before .before .before .before .before .before .before .before .before .before .args .f .now) (c .before .before .before .before .before .before .before .before .before .before .before .before .args .k)) (c .before .before .before .before .before .before .before .before .before .before .before .before .args .i)) ++ (encode (derived-of (c .before .before .before .before .before .before .before .before .before .before .before .before .args .by .symbol) (c .before .before .before .before .before .before .before .before .before .before .before .before .args .by .state) (tree (c .before .before .before .before .before .before .before .before .before .before .before .before .args .f .now) (c .before .before .before .before .before .before .before .before .before .before .before .before .args .k)) (c .before .before .before .before .before .before .before .before .before .before .before .before .args .i)))) (extremum-bytes (c .before .before .before .before .before .before .before .before .before .before .before .before .args .by .symbol) (c .before .before .before .before .before .before .before .before .before .before .before .before .args .by .state) (tree (c .before .before .before .before .before .before .before .before .before .before .before .before .args .f .now) (c .before .before .before .before .before .before .before .before .before .before .before .before .args .k)) (c .before .before .before .before .before .before .before .before .before .before .before .before .args .i + 1) (c .before .before .before .before .before .before .before .before .before .before .before .before .args .left - 1)), length-append (tie-bytes (tree (c .before .before .before .before .before .before .before .before .before .before .before .before .args .f .now) (c .before .before .before .before .before .before .before .before .before .before .before .before .args .k)) (c .before .before .before .before .before .before .before .before .before .before .before .before .args .i)) (encode (derived-of (c .before .before .before .before .before .before .before .before .before .before .before .before .args .by .symbol) (c .before .before .before .before .before .before .before .before .before .before .before .before .args .by .state) (tree (c .before .before .before .before .before .before .before .before .before .before .before .before .args .f .now) (c .before .before .before .before .before .before .before .before .before .before .before .before .args .k)) (c .before .before .before .before .before .before .before .before .before .before .before .before .args .i))), c .before .before .before .before .before .before .before .before .before .before .before .before .pre .1 .1 .room)) in omega (arith, h, c .before .before .before .before .before .before .before .before .if1 .left)
+write-ties-sub-write-ties : (t : ℕ) → write-ties-lts.Need-sub-write-ties (write-ties-calls t) (write-ties-at t) write-ties.Post
+write-ties-sub-write-ties t c =
+    let args = c .before .before .before .before .before .before .before .before .before .before .before .before .args in
+    let pre = c .before .before .before .before .before .before .before .before .before .before .before .before .pre in
+    let if1 = c .before .before .before .before .before .before .before .before .if1 in
+    let put-tie = c .before .before .before .before .before .before .put-tie in
+    let write-diff2 = c .before .before .write-diff2 in
+    let the-tree = tree (args .f .now) (args .k) in
+    let the-encode = encode (derived-of (args .by .symbol) (args .by .state) the-tree (args .i)) in
+    let the-tie-bytes = tie-bytes the-tree (args .i) in
+    let the-extremum-bytes = extremum-bytes (args .by .symbol) (args .by .state) the-tree (args .i + 1) (args .left - 1) in
+    let the-next-tie = next-tie (args .by .symbol) (args .by .state) the-tree (args .i) (args .left) (if1 .left) in
+    let the-put-tie = put-tie .last .1 .1 .1 .1 .0 in
+    let the-write-diff2 = write-diff2 .last .1 .1 .1 .1 .1 .1 .0 in
+    let h =
+    free-start (the-tie-bytes ++ the-encode) (args .out .now)
+    (putMid (put-tie .result) (length the-put-tie - put-tie .result) the-put-tie the-write-diff2) (put-tie .result + write-diff2 .result)
+    (then-writes the-tie-bytes (args .out .now) the-put-tie (put-tie .result) (put-tie .ensures)
+    (omega (
+      arith,
+      ap length the-next-tie,
+      length-append (the-tie-bytes ++ the-encode) the-extremum-bytes,
+      length-append the-tie-bytes the-encode,
+      pre .1 .1 .room,
+    ))
+    the-encode the-write-diff2 (write-diff2 .result) (write-diff2 .ensures))
+    (omega (
+      arith,
+      ap length the-next-tie,
+      length-append (the-tie-bytes ++ the-encode) the-extremum-bytes,
+      length-append the-tie-bytes the-encode,
+      pre .1 .1 .room,
+    )) in
+    omega (arith, h, if1 .left)
 
-write-ties-sub-write-ties-2 : (t : ℕ) → write-ties-lts.Need-sub-write-ties-2 (
-  write-diff-below t,
-  write-diff.Post,
-  put-tie-reads.Asked,
-  put-tie-reads.Learnt,
-  write-ties-below t,
-  write-ties.Post,
-) (write-ties-at t) write-ties.Post
-write-ties-sub-write-ties-2 t c = let h = free-start ((tie-bytes (tree (c .before .before .before .before .before .before .before .before .before .before .before .before .args .f .now) (c .before .before .before .before .before .before .before .before .before .before .before .before .args .k)) (c .before .before .before .before .before .before .before .before .before .before .before .before .args .i)) ++ (encode (derived-of (c .before .before .before .before .before .before .before .before .before .before .before .before .args .by .symbol) (c .before .before .before .before .before .before .before .before .before .before .before .before .args .by .state) (tree (c .before .before .before .before .before .before .before .before .before .before .before .before .args .f .now) (c .before .before .before .before .before .before .before .before .before .before .before .before .args .k)) (c .before .before .before .before .before .before .before .before .before .before .before .before .args .i)))) (c .before .before .before .before .before .before .before .before .before .before .before .before .args .out .now) (putMid (c .before .before .before .before .before .before .put-tie .result) (length (c .before .before .before .before .before .before .put-tie .last .1 .1 .1 .1 .0) - c .before .before .before .before .before .before .put-tie .result) (c .before .before .before .before .before .before .put-tie .last .1 .1 .1 .1 .0) (c .before .before .write-diff2 .last .1 .1 .1 .1 .1 .1 .0)) (c .before .before .before .before .before .before .put-tie .result + c .before .before .write-diff2 .result) (then-writes (tie-bytes (tree (c .before .before .before .before .before .before .before .before .before .before .before .before .args .f .now) (c .before .before .before .before .before .before .before .before .before .before .before .before .args .k)) (c .before .before .before .before .before .before .before .before .before .before .before .before .args .i)) (c .before .before .before .before .before .before .before .before .before .before .before .before .args .out .now) (c .before .before .before .before .before .before .put-tie .last .1 .1 .1 .1 .0) (c .before .before .before .before .before .before .put-tie .result) (c .before .before .before .before .before .before .put-tie .ensures) (omega (arith, ap length (next-tie (c .before .before .before .before .before .before .before .before .before .before .before .before .args .by .symbol) (c .before .before .before .before .before .before .before .before .before .before .before .before .args .by .state) (tree (c .before .before .before .before .before .before .before .before .before .before .before .before .args .f .now) (c .before .before .before .before .before .before .before .before .before .before .before .before .args .k)) (c .before .before .before .before .before .before .before .before .before .before .before .before .args .i) (c .before .before .before .before .before .before .before .before .before .before .before .before .args .left) (c .before .before .before .before .before .before .before .before .if1 .left)), length-append ((tie-bytes (tree (c .before .before .before .before .before .before .before .before .before .before .before .before .args .f .now) (c .before .before .before .before .before .before .before .before .before .before .before .before .args .k)) (c .before .before .before .before .before .before .before .before .before .before .before .before .args .i)) ++ (encode (derived-of (c .before .before .before .before .before .before .before .before .before .before .before .before .args .by .symbol) (c .before .before .before .before .before .before .before .before .before .before .before .before .args .by .state) (tree (c .before .before .before .before .before .before .before .before .before .before .before .before .args .f .now) (c .before .before .before .before .before .before .before .before .before .before .before .before .args .k)) (c .before .before .before .before .before .before .before .before .before .before .before .before .args .i)))) (extremum-bytes (c .before .before .before .before .before .before .before .before .before .before .before .before .args .by .symbol) (c .before .before .before .before .before .before .before .before .before .before .before .before .args .by .state) (tree (c .before .before .before .before .before .before .before .before .before .before .before .before .args .f .now) (c .before .before .before .before .before .before .before .before .before .before .before .before .args .k)) (c .before .before .before .before .before .before .before .before .before .before .before .before .args .i + 1) (c .before .before .before .before .before .before .before .before .before .before .before .before .args .left - 1)), length-append (tie-bytes (tree (c .before .before .before .before .before .before .before .before .before .before .before .before .args .f .now) (c .before .before .before .before .before .before .before .before .before .before .before .before .args .k)) (c .before .before .before .before .before .before .before .before .before .before .before .before .args .i)) (encode (derived-of (c .before .before .before .before .before .before .before .before .before .before .before .before .args .by .symbol) (c .before .before .before .before .before .before .before .before .before .before .before .before .args .by .state) (tree (c .before .before .before .before .before .before .before .before .before .before .before .before .args .f .now) (c .before .before .before .before .before .before .before .before .before .before .before .before .args .k)) (c .before .before .before .before .before .before .before .before .before .before .before .before .args .i))), c .before .before .before .before .before .before .before .before .before .before .before .before .pre .1 .1 .room)) (encode (derived-of (c .before .before .before .before .before .before .before .before .before .before .before .before .args .by .symbol) (c .before .before .before .before .before .before .before .before .before .before .before .before .args .by .state) (tree (c .before .before .before .before .before .before .before .before .before .before .before .before .args .f .now) (c .before .before .before .before .before .before .before .before .before .before .before .before .args .k)) (c .before .before .before .before .before .before .before .before .before .before .before .before .args .i))) (c .before .before .write-diff2 .last .1 .1 .1 .1 .1 .1 .0) (c .before .before .write-diff2 .result) (c .before .before .write-diff2 .ensures)) (omega (arith, ap length (next-tie (c .before .before .before .before .before .before .before .before .before .before .before .before .args .by .symbol) (c .before .before .before .before .before .before .before .before .before .before .before .before .args .by .state) (tree (c .before .before .before .before .before .before .before .before .before .before .before .before .args .f .now) (c .before .before .before .before .before .before .before .before .before .before .before .before .args .k)) (c .before .before .before .before .before .before .before .before .before .before .before .before .args .i) (c .before .before .before .before .before .before .before .before .before .before .before .before .args .left) (c .before .before .before .before .before .before .before .before .if1 .left)), length-append ((tie-bytes (tree (c .before .before .before .before .before .before .before .before .before .before .before .before .args .f .now) (c .before .before .before .before .before .before .before .before .before .before .before .before .args .k)) (c .before .before .before .before .before .before .before .before .before .before .before .before .args .i)) ++ (encode (derived-of (c .before .before .before .before .before .before .before .before .before .before .before .before .args .by .symbol) (c .before .before .before .before .before .before .before .before .before .before .before .before .args .by .state) (tree (c .before .before .before .before .before .before .before .before .before .before .before .before .args .f .now) (c .before .before .before .before .before .before .before .before .before .before .before .before .args .k)) (c .before .before .before .before .before .before .before .before .before .before .before .before .args .i)))) (extremum-bytes (c .before .before .before .before .before .before .before .before .before .before .before .before .args .by .symbol) (c .before .before .before .before .before .before .before .before .before .before .before .before .args .by .state) (tree (c .before .before .before .before .before .before .before .before .before .before .before .before .args .f .now) (c .before .before .before .before .before .before .before .before .before .before .before .before .args .k)) (c .before .before .before .before .before .before .before .before .before .before .before .before .args .i + 1) (c .before .before .before .before .before .before .before .before .before .before .before .before .args .left - 1)), length-append (tie-bytes (tree (c .before .before .before .before .before .before .before .before .before .before .before .before .args .f .now) (c .before .before .before .before .before .before .before .before .before .before .before .before .args .k)) (c .before .before .before .before .before .before .before .before .before .before .before .before .args .i)) (encode (derived-of (c .before .before .before .before .before .before .before .before .before .before .before .before .args .by .symbol) (c .before .before .before .before .before .before .before .before .before .before .before .before .args .by .state) (tree (c .before .before .before .before .before .before .before .before .before .before .before .before .args .f .now) (c .before .before .before .before .before .before .before .before .before .before .before .before .args .k)) (c .before .before .before .before .before .before .before .before .before .before .before .before .args .i))), c .before .before .before .before .before .before .before .before .before .before .before .before .pre .1 .1 .room)) in omega (arith, h, c .before .before .before .before .before .before .before .before .if1 .left)
+write-ties-sub-write-ties-2 : (t : ℕ) → write-ties-lts.Need-sub-write-ties-2 (write-ties-calls t) (write-ties-at t) write-ties.Post
+write-ties-sub-write-ties-2 t c =
+    let args = c .before .before .before .before .before .before .before .before .before .before .before .before .args in
+    let pre = c .before .before .before .before .before .before .before .before .before .before .before .before .pre in
+    let if1 = c .before .before .before .before .before .before .before .before .if1 in
+    let put-tie = c .before .before .before .before .before .before .put-tie in
+    let write-diff2 = c .before .before .write-diff2 in
+    let the-tree = tree (args .f .now) (args .k) in
+    let the-encode = encode (derived-of (args .by .symbol) (args .by .state) the-tree (args .i)) in
+    let the-tie-bytes = tie-bytes the-tree (args .i) in
+    let the-extremum-bytes = extremum-bytes (args .by .symbol) (args .by .state) the-tree (args .i + 1) (args .left - 1) in
+    let the-next-tie = next-tie (args .by .symbol) (args .by .state) the-tree (args .i) (args .left) (if1 .left) in
+    let the-put-tie = put-tie .last .1 .1 .1 .1 .0 in
+    let the-write-diff2 = write-diff2 .last .1 .1 .1 .1 .1 .1 .0 in
+    let h =
+    free-start (the-tie-bytes ++ the-encode) (args .out .now)
+    (putMid (put-tie .result) (length the-put-tie - put-tie .result) the-put-tie the-write-diff2) (put-tie .result + write-diff2 .result)
+    (then-writes the-tie-bytes (args .out .now) the-put-tie (put-tie .result) (put-tie .ensures)
+    (omega (
+      arith,
+      ap length the-next-tie,
+      length-append (the-tie-bytes ++ the-encode) the-extremum-bytes,
+      length-append the-tie-bytes the-encode,
+      pre .1 .1 .room,
+    ))
+    the-encode the-write-diff2 (write-diff2 .result) (write-diff2 .ensures))
+    (omega (
+      arith,
+      ap length the-next-tie,
+      length-append (the-tie-bytes ++ the-encode) the-extremum-bytes,
+      length-append the-tie-bytes the-encode,
+      pre .1 .1 .room,
+    )) in
+    omega (arith, h, if1 .left)
 
-write-ties-part-write-ties-start : (t : ℕ) → write-ties-lts.Need-part-write-ties-start (
-  write-diff-below t,
-  write-diff.Post,
-  put-tie-reads.Asked,
-  put-tie-reads.Learnt,
-  write-ties-below t,
-  write-ties.Post,
-) (write-ties-at t) write-ties.Post
-write-ties-part-write-ties-start t c = let h = free-start ((tie-bytes (tree (c .before .before .before .before .before .before .before .before .before .before .before .before .args .f .now) (c .before .before .before .before .before .before .before .before .before .before .before .before .args .k)) (c .before .before .before .before .before .before .before .before .before .before .before .before .args .i)) ++ (encode (derived-of (c .before .before .before .before .before .before .before .before .before .before .before .before .args .by .symbol) (c .before .before .before .before .before .before .before .before .before .before .before .before .args .by .state) (tree (c .before .before .before .before .before .before .before .before .before .before .before .before .args .f .now) (c .before .before .before .before .before .before .before .before .before .before .before .before .args .k)) (c .before .before .before .before .before .before .before .before .before .before .before .before .args .i)))) (c .before .before .before .before .before .before .before .before .before .before .before .before .args .out .now) (putMid (c .before .before .before .before .before .before .put-tie .result) (length (c .before .before .before .before .before .before .put-tie .last .1 .1 .1 .1 .0) - c .before .before .before .before .before .before .put-tie .result) (c .before .before .before .before .before .before .put-tie .last .1 .1 .1 .1 .0) (c .before .before .write-diff2 .last .1 .1 .1 .1 .1 .1 .0)) (c .before .before .before .before .before .before .put-tie .result + c .before .before .write-diff2 .result) (then-writes (tie-bytes (tree (c .before .before .before .before .before .before .before .before .before .before .before .before .args .f .now) (c .before .before .before .before .before .before .before .before .before .before .before .before .args .k)) (c .before .before .before .before .before .before .before .before .before .before .before .before .args .i)) (c .before .before .before .before .before .before .before .before .before .before .before .before .args .out .now) (c .before .before .before .before .before .before .put-tie .last .1 .1 .1 .1 .0) (c .before .before .before .before .before .before .put-tie .result) (c .before .before .before .before .before .before .put-tie .ensures) (omega (arith, ap length (next-tie (c .before .before .before .before .before .before .before .before .before .before .before .before .args .by .symbol) (c .before .before .before .before .before .before .before .before .before .before .before .before .args .by .state) (tree (c .before .before .before .before .before .before .before .before .before .before .before .before .args .f .now) (c .before .before .before .before .before .before .before .before .before .before .before .before .args .k)) (c .before .before .before .before .before .before .before .before .before .before .before .before .args .i) (c .before .before .before .before .before .before .before .before .before .before .before .before .args .left) (c .before .before .before .before .before .before .before .before .if1 .left)), length-append ((tie-bytes (tree (c .before .before .before .before .before .before .before .before .before .before .before .before .args .f .now) (c .before .before .before .before .before .before .before .before .before .before .before .before .args .k)) (c .before .before .before .before .before .before .before .before .before .before .before .before .args .i)) ++ (encode (derived-of (c .before .before .before .before .before .before .before .before .before .before .before .before .args .by .symbol) (c .before .before .before .before .before .before .before .before .before .before .before .before .args .by .state) (tree (c .before .before .before .before .before .before .before .before .before .before .before .before .args .f .now) (c .before .before .before .before .before .before .before .before .before .before .before .before .args .k)) (c .before .before .before .before .before .before .before .before .before .before .before .before .args .i)))) (extremum-bytes (c .before .before .before .before .before .before .before .before .before .before .before .before .args .by .symbol) (c .before .before .before .before .before .before .before .before .before .before .before .before .args .by .state) (tree (c .before .before .before .before .before .before .before .before .before .before .before .before .args .f .now) (c .before .before .before .before .before .before .before .before .before .before .before .before .args .k)) (c .before .before .before .before .before .before .before .before .before .before .before .before .args .i + 1) (c .before .before .before .before .before .before .before .before .before .before .before .before .args .left - 1)), length-append (tie-bytes (tree (c .before .before .before .before .before .before .before .before .before .before .before .before .args .f .now) (c .before .before .before .before .before .before .before .before .before .before .before .before .args .k)) (c .before .before .before .before .before .before .before .before .before .before .before .before .args .i)) (encode (derived-of (c .before .before .before .before .before .before .before .before .before .before .before .before .args .by .symbol) (c .before .before .before .before .before .before .before .before .before .before .before .before .args .by .state) (tree (c .before .before .before .before .before .before .before .before .before .before .before .before .args .f .now) (c .before .before .before .before .before .before .before .before .before .before .before .before .args .k)) (c .before .before .before .before .before .before .before .before .before .before .before .before .args .i))), c .before .before .before .before .before .before .before .before .before .before .before .before .pre .1 .1 .room)) (encode (derived-of (c .before .before .before .before .before .before .before .before .before .before .before .before .args .by .symbol) (c .before .before .before .before .before .before .before .before .before .before .before .before .args .by .state) (tree (c .before .before .before .before .before .before .before .before .before .before .before .before .args .f .now) (c .before .before .before .before .before .before .before .before .before .before .before .before .args .k)) (c .before .before .before .before .before .before .before .before .before .before .before .before .args .i))) (c .before .before .write-diff2 .last .1 .1 .1 .1 .1 .1 .0) (c .before .before .write-diff2 .result) (c .before .before .write-diff2 .ensures)) (omega (arith, ap length (next-tie (c .before .before .before .before .before .before .before .before .before .before .before .before .args .by .symbol) (c .before .before .before .before .before .before .before .before .before .before .before .before .args .by .state) (tree (c .before .before .before .before .before .before .before .before .before .before .before .before .args .f .now) (c .before .before .before .before .before .before .before .before .before .before .before .before .args .k)) (c .before .before .before .before .before .before .before .before .before .before .before .before .args .i) (c .before .before .before .before .before .before .before .before .before .before .before .before .args .left) (c .before .before .before .before .before .before .before .before .if1 .left)), length-append ((tie-bytes (tree (c .before .before .before .before .before .before .before .before .before .before .before .before .args .f .now) (c .before .before .before .before .before .before .before .before .before .before .before .before .args .k)) (c .before .before .before .before .before .before .before .before .before .before .before .before .args .i)) ++ (encode (derived-of (c .before .before .before .before .before .before .before .before .before .before .before .before .args .by .symbol) (c .before .before .before .before .before .before .before .before .before .before .before .before .args .by .state) (tree (c .before .before .before .before .before .before .before .before .before .before .before .before .args .f .now) (c .before .before .before .before .before .before .before .before .before .before .before .before .args .k)) (c .before .before .before .before .before .before .before .before .before .before .before .before .args .i)))) (extremum-bytes (c .before .before .before .before .before .before .before .before .before .before .before .before .args .by .symbol) (c .before .before .before .before .before .before .before .before .before .before .before .before .args .by .state) (tree (c .before .before .before .before .before .before .before .before .before .before .before .before .args .f .now) (c .before .before .before .before .before .before .before .before .before .before .before .before .args .k)) (c .before .before .before .before .before .before .before .before .before .before .before .before .args .i + 1) (c .before .before .before .before .before .before .before .before .before .before .before .before .args .left - 1)), length-append (tie-bytes (tree (c .before .before .before .before .before .before .before .before .before .before .before .before .args .f .now) (c .before .before .before .before .before .before .before .before .before .before .before .before .args .k)) (c .before .before .before .before .before .before .before .before .before .before .before .before .args .i)) (encode (derived-of (c .before .before .before .before .before .before .before .before .before .before .before .before .args .by .symbol) (c .before .before .before .before .before .before .before .before .before .before .before .before .args .by .state) (tree (c .before .before .before .before .before .before .before .before .before .before .before .before .args .f .now) (c .before .before .before .before .before .before .before .before .before .before .before .before .args .k)) (c .before .before .before .before .before .before .before .before .before .before .before .before .args .i))), c .before .before .before .before .before .before .before .before .before .before .before .before .pre .1 .1 .room)) in omega (arith, h, c .before .before .before .before .before .before .before .before .if1 .left)
+write-ties-part-write-ties-start : (t : ℕ) → write-ties-lts.Need-part-write-ties-start (write-ties-calls t) (write-ties-at t) write-ties.Post
+write-ties-part-write-ties-start t c =
+    let args = c .before .before .before .before .before .before .before .before .before .before .before .before .args in
+    let pre = c .before .before .before .before .before .before .before .before .before .before .before .before .pre in
+    let if1 = c .before .before .before .before .before .before .before .before .if1 in
+    let put-tie = c .before .before .before .before .before .before .put-tie in
+    let write-diff2 = c .before .before .write-diff2 in
+    let the-tree = tree (args .f .now) (args .k) in
+    let the-encode = encode (derived-of (args .by .symbol) (args .by .state) the-tree (args .i)) in
+    let the-tie-bytes = tie-bytes the-tree (args .i) in
+    let the-extremum-bytes = extremum-bytes (args .by .symbol) (args .by .state) the-tree (args .i + 1) (args .left - 1) in
+    let the-next-tie = next-tie (args .by .symbol) (args .by .state) the-tree (args .i) (args .left) (if1 .left) in
+    let the-put-tie = put-tie .last .1 .1 .1 .1 .0 in
+    let the-write-diff2 = write-diff2 .last .1 .1 .1 .1 .1 .1 .0 in
+    let h =
+    free-start (the-tie-bytes ++ the-encode) (args .out .now)
+    (putMid (put-tie .result) (length the-put-tie - put-tie .result) the-put-tie the-write-diff2) (put-tie .result + write-diff2 .result)
+    (then-writes the-tie-bytes (args .out .now) the-put-tie (put-tie .result) (put-tie .ensures)
+    (omega (
+      arith,
+      ap length the-next-tie,
+      length-append (the-tie-bytes ++ the-encode) the-extremum-bytes,
+      length-append the-tie-bytes the-encode,
+      pre .1 .1 .room,
+    ))
+    the-encode the-write-diff2 (write-diff2 .result) (write-diff2 .ensures))
+    (omega (
+      arith,
+      ap length the-next-tie,
+      length-append (the-tie-bytes ++ the-encode) the-extremum-bytes,
+      length-append the-tie-bytes the-encode,
+      pre .1 .1 .room,
+    )) in
+    omega (arith, h, if1 .left)
 
-write-ties-part-write-ties-end : (t : ℕ) → write-ties-lts.Need-part-write-ties-end (
-  write-diff-below t,
-  write-diff.Post,
-  put-tie-reads.Asked,
-  put-tie-reads.Learnt,
-  write-ties-below t,
-  write-ties.Post,
-) (write-ties-at t) write-ties.Post
-write-ties-part-write-ties-end t c = let h = free-start ((tie-bytes (tree (c .before .before .before .before .before .before .before .before .before .before .before .before .args .f .now) (c .before .before .before .before .before .before .before .before .before .before .before .before .args .k)) (c .before .before .before .before .before .before .before .before .before .before .before .before .args .i)) ++ (encode (derived-of (c .before .before .before .before .before .before .before .before .before .before .before .before .args .by .symbol) (c .before .before .before .before .before .before .before .before .before .before .before .before .args .by .state) (tree (c .before .before .before .before .before .before .before .before .before .before .before .before .args .f .now) (c .before .before .before .before .before .before .before .before .before .before .before .before .args .k)) (c .before .before .before .before .before .before .before .before .before .before .before .before .args .i)))) (c .before .before .before .before .before .before .before .before .before .before .before .before .args .out .now) (putMid (c .before .before .before .before .before .before .put-tie .result) (length (c .before .before .before .before .before .before .put-tie .last .1 .1 .1 .1 .0) - c .before .before .before .before .before .before .put-tie .result) (c .before .before .before .before .before .before .put-tie .last .1 .1 .1 .1 .0) (c .before .before .write-diff2 .last .1 .1 .1 .1 .1 .1 .0)) (c .before .before .before .before .before .before .put-tie .result + c .before .before .write-diff2 .result) (then-writes (tie-bytes (tree (c .before .before .before .before .before .before .before .before .before .before .before .before .args .f .now) (c .before .before .before .before .before .before .before .before .before .before .before .before .args .k)) (c .before .before .before .before .before .before .before .before .before .before .before .before .args .i)) (c .before .before .before .before .before .before .before .before .before .before .before .before .args .out .now) (c .before .before .before .before .before .before .put-tie .last .1 .1 .1 .1 .0) (c .before .before .before .before .before .before .put-tie .result) (c .before .before .before .before .before .before .put-tie .ensures) (omega (arith, ap length (next-tie (c .before .before .before .before .before .before .before .before .before .before .before .before .args .by .symbol) (c .before .before .before .before .before .before .before .before .before .before .before .before .args .by .state) (tree (c .before .before .before .before .before .before .before .before .before .before .before .before .args .f .now) (c .before .before .before .before .before .before .before .before .before .before .before .before .args .k)) (c .before .before .before .before .before .before .before .before .before .before .before .before .args .i) (c .before .before .before .before .before .before .before .before .before .before .before .before .args .left) (c .before .before .before .before .before .before .before .before .if1 .left)), length-append ((tie-bytes (tree (c .before .before .before .before .before .before .before .before .before .before .before .before .args .f .now) (c .before .before .before .before .before .before .before .before .before .before .before .before .args .k)) (c .before .before .before .before .before .before .before .before .before .before .before .before .args .i)) ++ (encode (derived-of (c .before .before .before .before .before .before .before .before .before .before .before .before .args .by .symbol) (c .before .before .before .before .before .before .before .before .before .before .before .before .args .by .state) (tree (c .before .before .before .before .before .before .before .before .before .before .before .before .args .f .now) (c .before .before .before .before .before .before .before .before .before .before .before .before .args .k)) (c .before .before .before .before .before .before .before .before .before .before .before .before .args .i)))) (extremum-bytes (c .before .before .before .before .before .before .before .before .before .before .before .before .args .by .symbol) (c .before .before .before .before .before .before .before .before .before .before .before .before .args .by .state) (tree (c .before .before .before .before .before .before .before .before .before .before .before .before .args .f .now) (c .before .before .before .before .before .before .before .before .before .before .before .before .args .k)) (c .before .before .before .before .before .before .before .before .before .before .before .before .args .i + 1) (c .before .before .before .before .before .before .before .before .before .before .before .before .args .left - 1)), length-append (tie-bytes (tree (c .before .before .before .before .before .before .before .before .before .before .before .before .args .f .now) (c .before .before .before .before .before .before .before .before .before .before .before .before .args .k)) (c .before .before .before .before .before .before .before .before .before .before .before .before .args .i)) (encode (derived-of (c .before .before .before .before .before .before .before .before .before .before .before .before .args .by .symbol) (c .before .before .before .before .before .before .before .before .before .before .before .before .args .by .state) (tree (c .before .before .before .before .before .before .before .before .before .before .before .before .args .f .now) (c .before .before .before .before .before .before .before .before .before .before .before .before .args .k)) (c .before .before .before .before .before .before .before .before .before .before .before .before .args .i))), c .before .before .before .before .before .before .before .before .before .before .before .before .pre .1 .1 .room)) (encode (derived-of (c .before .before .before .before .before .before .before .before .before .before .before .before .args .by .symbol) (c .before .before .before .before .before .before .before .before .before .before .before .before .args .by .state) (tree (c .before .before .before .before .before .before .before .before .before .before .before .before .args .f .now) (c .before .before .before .before .before .before .before .before .before .before .before .before .args .k)) (c .before .before .before .before .before .before .before .before .before .before .before .before .args .i))) (c .before .before .write-diff2 .last .1 .1 .1 .1 .1 .1 .0) (c .before .before .write-diff2 .result) (c .before .before .write-diff2 .ensures)) (omega (arith, ap length (next-tie (c .before .before .before .before .before .before .before .before .before .before .before .before .args .by .symbol) (c .before .before .before .before .before .before .before .before .before .before .before .before .args .by .state) (tree (c .before .before .before .before .before .before .before .before .before .before .before .before .args .f .now) (c .before .before .before .before .before .before .before .before .before .before .before .before .args .k)) (c .before .before .before .before .before .before .before .before .before .before .before .before .args .i) (c .before .before .before .before .before .before .before .before .before .before .before .before .args .left) (c .before .before .before .before .before .before .before .before .if1 .left)), length-append ((tie-bytes (tree (c .before .before .before .before .before .before .before .before .before .before .before .before .args .f .now) (c .before .before .before .before .before .before .before .before .before .before .before .before .args .k)) (c .before .before .before .before .before .before .before .before .before .before .before .before .args .i)) ++ (encode (derived-of (c .before .before .before .before .before .before .before .before .before .before .before .before .args .by .symbol) (c .before .before .before .before .before .before .before .before .before .before .before .before .args .by .state) (tree (c .before .before .before .before .before .before .before .before .before .before .before .before .args .f .now) (c .before .before .before .before .before .before .before .before .before .before .before .before .args .k)) (c .before .before .before .before .before .before .before .before .before .before .before .before .args .i)))) (extremum-bytes (c .before .before .before .before .before .before .before .before .before .before .before .before .args .by .symbol) (c .before .before .before .before .before .before .before .before .before .before .before .before .args .by .state) (tree (c .before .before .before .before .before .before .before .before .before .before .before .before .args .f .now) (c .before .before .before .before .before .before .before .before .before .before .before .before .args .k)) (c .before .before .before .before .before .before .before .before .before .before .before .before .args .i + 1) (c .before .before .before .before .before .before .before .before .before .before .before .before .args .left - 1)), length-append (tie-bytes (tree (c .before .before .before .before .before .before .before .before .before .before .before .before .args .f .now) (c .before .before .before .before .before .before .before .before .before .before .before .before .args .k)) (c .before .before .before .before .before .before .before .before .before .before .before .before .args .i)) (encode (derived-of (c .before .before .before .before .before .before .before .before .before .before .before .before .args .by .symbol) (c .before .before .before .before .before .before .before .before .before .before .before .before .args .by .state) (tree (c .before .before .before .before .before .before .before .before .before .before .before .before .args .f .now) (c .before .before .before .before .before .before .before .before .before .before .before .before .args .k)) (c .before .before .before .before .before .before .before .before .before .before .before .before .args .i))), c .before .before .before .before .before .before .before .before .before .before .before .before .pre .1 .1 .room)) in omega (arith, h, c .before .before .before .before .before .before .before .before .if1 .left)
+write-ties-part-write-ties-end : (t : ℕ) → write-ties-lts.Need-part-write-ties-end (write-ties-calls t) (write-ties-at t) write-ties.Post
+write-ties-part-write-ties-end t c =
+    let args = c .before .before .before .before .before .before .before .before .before .before .before .before .args in
+    let pre = c .before .before .before .before .before .before .before .before .before .before .before .before .pre in
+    let if1 = c .before .before .before .before .before .before .before .before .if1 in
+    let put-tie = c .before .before .before .before .before .before .put-tie in
+    let write-diff2 = c .before .before .write-diff2 in
+    let the-tree = tree (args .f .now) (args .k) in
+    let the-encode = encode (derived-of (args .by .symbol) (args .by .state) the-tree (args .i)) in
+    let the-tie-bytes = tie-bytes the-tree (args .i) in
+    let the-extremum-bytes = extremum-bytes (args .by .symbol) (args .by .state) the-tree (args .i + 1) (args .left - 1) in
+    let the-next-tie = next-tie (args .by .symbol) (args .by .state) the-tree (args .i) (args .left) (if1 .left) in
+    let the-put-tie = put-tie .last .1 .1 .1 .1 .0 in
+    let the-write-diff2 = write-diff2 .last .1 .1 .1 .1 .1 .1 .0 in
+    let h =
+    free-start (the-tie-bytes ++ the-encode) (args .out .now)
+    (putMid (put-tie .result) (length the-put-tie - put-tie .result) the-put-tie the-write-diff2) (put-tie .result + write-diff2 .result)
+    (then-writes the-tie-bytes (args .out .now) the-put-tie (put-tie .result) (put-tie .ensures)
+    (omega (
+      arith,
+      ap length the-next-tie,
+      length-append (the-tie-bytes ++ the-encode) the-extremum-bytes,
+      length-append the-tie-bytes the-encode,
+      pre .1 .1 .room,
+    ))
+    the-encode the-write-diff2 (write-diff2 .result) (write-diff2 .ensures))
+    (omega (
+      arith,
+      ap length the-next-tie,
+      length-append (the-tie-bytes ++ the-encode) the-extremum-bytes,
+      length-append the-tie-bytes the-encode,
+      pre .1 .1 .room,
+    )) in
+    omega (arith, h, if1 .left)
 
-write-ties-write-ties-requires : (t : ℕ) → write-ties-lts.Need-write-ties-requires (
-  write-diff-below t,
-  write-diff.Post,
-  put-tie-reads.Asked,
-  put-tie-reads.Learnt,
-  write-ties-below t,
-  write-ties.Post,
-) (write-ties-at t) write-ties.Post
-write-ties-write-ties-requires t c κs = (omega (arith, c .before .before .before .before .before .before .before .before .before .before .before .before .before .pre .0, c .before .before .before .before .before .before .before .before .before .if1 .left), (omega (arith, c .before .before .before .before .before .before .before .before .before .before .before .before .before .pre .1 .0, c .before .before .before .before .before .before .before .before .before .if1 .left), record { known = c .before .before .before .before .before .before .before .before .before .before .before .before .before .pre .1 .1 .known; deep = c .before .before .before .before .before .before .before .before .before .before .before .before .before .pre .1 .1 .deep; room = free-room ((tie-bytes (tree (c .before .before .before .before .before .before .before .before .before .before .before .before .before .args .f .now) (c .before .before .before .before .before .before .before .before .before .before .before .before .before .args .k)) (c .before .before .before .before .before .before .before .before .before .before .before .before .before .args .i)) ++ (encode (derived-of (c .before .before .before .before .before .before .before .before .before .before .before .before .before .args .by .symbol) (c .before .before .before .before .before .before .before .before .before .before .before .before .before .args .by .state) (tree (c .before .before .before .before .before .before .before .before .before .before .before .before .before .args .f .now) (c .before .before .before .before .before .before .before .before .before .before .before .before .before .args .k)) (c .before .before .before .before .before .before .before .before .before .before .before .before .before .args .i)))) (c .before .before .before .before .before .before .before .before .before .before .before .before .before .args .out .now) (putMid (c .before .before .before .before .before .before .before .put-tie .result) (length (c .before .before .before .before .before .before .before .put-tie .last .1 .1 .1 .1 .0) - c .before .before .before .before .before .before .before .put-tie .result) (c .before .before .before .before .before .before .before .put-tie .last .1 .1 .1 .1 .0) (c .before .before .before .write-diff2 .last .1 .1 .1 .1 .1 .1 .0)) (c .before .before .before .before .before .before .before .put-tie .result + c .before .before .before .write-diff2 .result) (then-writes (tie-bytes (tree (c .before .before .before .before .before .before .before .before .before .before .before .before .before .args .f .now) (c .before .before .before .before .before .before .before .before .before .before .before .before .before .args .k)) (c .before .before .before .before .before .before .before .before .before .before .before .before .before .args .i)) (c .before .before .before .before .before .before .before .before .before .before .before .before .before .args .out .now) (c .before .before .before .before .before .before .before .put-tie .last .1 .1 .1 .1 .0) (c .before .before .before .before .before .before .before .put-tie .result) (c .before .before .before .before .before .before .before .put-tie .ensures) (omega (arith, ap length (next-tie (c .before .before .before .before .before .before .before .before .before .before .before .before .before .args .by .symbol) (c .before .before .before .before .before .before .before .before .before .before .before .before .before .args .by .state) (tree (c .before .before .before .before .before .before .before .before .before .before .before .before .before .args .f .now) (c .before .before .before .before .before .before .before .before .before .before .before .before .before .args .k)) (c .before .before .before .before .before .before .before .before .before .before .before .before .before .args .i) (c .before .before .before .before .before .before .before .before .before .before .before .before .before .args .left) (c .before .before .before .before .before .before .before .before .before .if1 .left)), length-append ((tie-bytes (tree (c .before .before .before .before .before .before .before .before .before .before .before .before .before .args .f .now) (c .before .before .before .before .before .before .before .before .before .before .before .before .before .args .k)) (c .before .before .before .before .before .before .before .before .before .before .before .before .before .args .i)) ++ (encode (derived-of (c .before .before .before .before .before .before .before .before .before .before .before .before .before .args .by .symbol) (c .before .before .before .before .before .before .before .before .before .before .before .before .before .args .by .state) (tree (c .before .before .before .before .before .before .before .before .before .before .before .before .before .args .f .now) (c .before .before .before .before .before .before .before .before .before .before .before .before .before .args .k)) (c .before .before .before .before .before .before .before .before .before .before .before .before .before .args .i)))) (extremum-bytes (c .before .before .before .before .before .before .before .before .before .before .before .before .before .args .by .symbol) (c .before .before .before .before .before .before .before .before .before .before .before .before .before .args .by .state) (tree (c .before .before .before .before .before .before .before .before .before .before .before .before .before .args .f .now) (c .before .before .before .before .before .before .before .before .before .before .before .before .before .args .k)) (c .before .before .before .before .before .before .before .before .before .before .before .before .before .args .i + 1) (c .before .before .before .before .before .before .before .before .before .before .before .before .before .args .left - 1)), length-append (tie-bytes (tree (c .before .before .before .before .before .before .before .before .before .before .before .before .before .args .f .now) (c .before .before .before .before .before .before .before .before .before .before .before .before .before .args .k)) (c .before .before .before .before .before .before .before .before .before .before .before .before .before .args .i)) (encode (derived-of (c .before .before .before .before .before .before .before .before .before .before .before .before .before .args .by .symbol) (c .before .before .before .before .before .before .before .before .before .before .before .before .before .args .by .state) (tree (c .before .before .before .before .before .before .before .before .before .before .before .before .before .args .f .now) (c .before .before .before .before .before .before .before .before .before .before .before .before .before .args .k)) (c .before .before .before .before .before .before .before .before .before .before .before .before .before .args .i))), c .before .before .before .before .before .before .before .before .before .before .before .before .before .pre .1 .1 .room)) (encode (derived-of (c .before .before .before .before .before .before .before .before .before .before .before .before .before .args .by .symbol) (c .before .before .before .before .before .before .before .before .before .before .before .before .before .args .by .state) (tree (c .before .before .before .before .before .before .before .before .before .before .before .before .before .args .f .now) (c .before .before .before .before .before .before .before .before .before .before .before .before .before .args .k)) (c .before .before .before .before .before .before .before .before .before .before .before .before .before .args .i))) (c .before .before .before .write-diff2 .last .1 .1 .1 .1 .1 .1 .0) (c .before .before .before .write-diff2 .result) (c .before .before .before .write-diff2 .ensures)) (omega (arith, ap length (next-tie (c .before .before .before .before .before .before .before .before .before .before .before .before .before .args .by .symbol) (c .before .before .before .before .before .before .before .before .before .before .before .before .before .args .by .state) (tree (c .before .before .before .before .before .before .before .before .before .before .before .before .before .args .f .now) (c .before .before .before .before .before .before .before .before .before .before .before .before .before .args .k)) (c .before .before .before .before .before .before .before .before .before .before .before .before .before .args .i) (c .before .before .before .before .before .before .before .before .before .before .before .before .before .args .left) (c .before .before .before .before .before .before .before .before .before .if1 .left)), length-append ((tie-bytes (tree (c .before .before .before .before .before .before .before .before .before .before .before .before .before .args .f .now) (c .before .before .before .before .before .before .before .before .before .before .before .before .before .args .k)) (c .before .before .before .before .before .before .before .before .before .before .before .before .before .args .i)) ++ (encode (derived-of (c .before .before .before .before .before .before .before .before .before .before .before .before .before .args .by .symbol) (c .before .before .before .before .before .before .before .before .before .before .before .before .before .args .by .state) (tree (c .before .before .before .before .before .before .before .before .before .before .before .before .before .args .f .now) (c .before .before .before .before .before .before .before .before .before .before .before .before .before .args .k)) (c .before .before .before .before .before .before .before .before .before .before .before .before .before .args .i)))) (extremum-bytes (c .before .before .before .before .before .before .before .before .before .before .before .before .before .args .by .symbol) (c .before .before .before .before .before .before .before .before .before .before .before .before .before .args .by .state) (tree (c .before .before .before .before .before .before .before .before .before .before .before .before .before .args .f .now) (c .before .before .before .before .before .before .before .before .before .before .before .before .before .args .k)) (c .before .before .before .before .before .before .before .before .before .before .before .before .before .args .i + 1) (c .before .before .before .before .before .before .before .before .before .before .before .before .before .args .left - 1)), length-append (tie-bytes (tree (c .before .before .before .before .before .before .before .before .before .before .before .before .before .args .f .now) (c .before .before .before .before .before .before .before .before .before .before .before .before .before .args .k)) (c .before .before .before .before .before .before .before .before .before .before .before .before .before .args .i)) (encode (derived-of (c .before .before .before .before .before .before .before .before .before .before .before .before .before .args .by .symbol) (c .before .before .before .before .before .before .before .before .before .before .before .before .before .args .by .state) (tree (c .before .before .before .before .before .before .before .before .before .before .before .before .before .args .f .now) (c .before .before .before .before .before .before .before .before .before .before .before .before .before .args .k)) (c .before .before .before .before .before .before .before .before .before .before .before .before .before .args .i))), c .before .before .before .before .before .before .before .before .before .before .before .before .before .pre .1 .1 .room)) (extremum-bytes (c .before .before .before .before .before .before .before .before .before .before .before .before .before .args .by .symbol) (c .before .before .before .before .before .before .before .before .before .before .before .before .before .args .by .state) (tree (c .before .before .before .before .before .before .before .before .before .before .before .before .before .args .f .now) (c .before .before .before .before .before .before .before .before .before .before .before .before .before .args .k)) (c .before .before .before .before .before .before .before .before .before .before .before .before .before .args .i + 1) (c .before .before .before .before .before .before .before .before .before .before .before .before .before .args .left - 1)) (omega (arith, ap length (next-tie (c .before .before .before .before .before .before .before .before .before .before .before .before .before .args .by .symbol) (c .before .before .before .before .before .before .before .before .before .before .before .before .before .args .by .state) (tree (c .before .before .before .before .before .before .before .before .before .before .before .before .before .args .f .now) (c .before .before .before .before .before .before .before .before .before .before .before .before .before .args .k)) (c .before .before .before .before .before .before .before .before .before .before .before .before .before .args .i) (c .before .before .before .before .before .before .before .before .before .before .before .before .before .args .left) (c .before .before .before .before .before .before .before .before .before .if1 .left)), length-append ((tie-bytes (tree (c .before .before .before .before .before .before .before .before .before .before .before .before .before .args .f .now) (c .before .before .before .before .before .before .before .before .before .before .before .before .before .args .k)) (c .before .before .before .before .before .before .before .before .before .before .before .before .before .args .i)) ++ (encode (derived-of (c .before .before .before .before .before .before .before .before .before .before .before .before .before .args .by .symbol) (c .before .before .before .before .before .before .before .before .before .before .before .before .before .args .by .state) (tree (c .before .before .before .before .before .before .before .before .before .before .before .before .before .args .f .now) (c .before .before .before .before .before .before .before .before .before .before .before .before .before .args .k)) (c .before .before .before .before .before .before .before .before .before .before .before .before .before .args .i)))) (extremum-bytes (c .before .before .before .before .before .before .before .before .before .before .before .before .before .args .by .symbol) (c .before .before .before .before .before .before .before .before .before .before .before .before .before .args .by .state) (tree (c .before .before .before .before .before .before .before .before .before .before .before .before .before .args .f .now) (c .before .before .before .before .before .before .before .before .before .before .before .before .before .args .k)) (c .before .before .before .before .before .before .before .before .before .before .before .before .before .args .i + 1) (c .before .before .before .before .before .before .before .before .before .before .before .before .before .args .left - 1)), length-append (tie-bytes (tree (c .before .before .before .before .before .before .before .before .before .before .before .before .before .args .f .now) (c .before .before .before .before .before .before .before .before .before .before .before .before .before .args .k)) (c .before .before .before .before .before .before .before .before .before .before .before .before .before .args .i)) (encode (derived-of (c .before .before .before .before .before .before .before .before .before .before .before .before .before .args .by .symbol) (c .before .before .before .before .before .before .before .before .before .before .before .before .before .args .by .state) (tree (c .before .before .before .before .before .before .before .before .before .before .before .before .before .args .f .now) (c .before .before .before .before .before .before .before .before .before .before .before .before .before .args .k)) (c .before .before .before .before .before .before .before .before .before .before .before .before .before .args .i))), c .before .before .before .before .before .before .before .before .before .before .before .before .before .pre .1 .1 .room)) }))
+write-ties-write-ties-requires : (t : ℕ) → write-ties-lts.Need-write-ties-requires (write-ties-calls t) (write-ties-at t) write-ties.Post
+write-ties-write-ties-requires t c κs =
+    let args = c .before .before .before .before .before .before .before .before .before .before .before .before .before .args in
+    let pre = c .before .before .before .before .before .before .before .before .before .before .before .before .before .pre in
+    let if1 = c .before .before .before .before .before .before .before .before .before .if1 in
+    let put-tie = c .before .before .before .before .before .before .before .put-tie in
+    let write-diff2 = c .before .before .before .write-diff2 in
+    let the-tree = tree (args .f .now) (args .k) in
+    let the-encode = encode (derived-of (args .by .symbol) (args .by .state) the-tree (args .i)) in
+    let the-extremum-bytes = extremum-bytes (args .by .symbol) (args .by .state) the-tree (args .i + 1) (args .left - 1) in
+    let the-tie-bytes = tie-bytes the-tree (args .i) in
+    let the-next-tie = next-tie (args .by .symbol) (args .by .state) the-tree (args .i) (args .left) (if1 .left) in
+    let the-put-tie = put-tie .last .1 .1 .1 .1 .0 in
+    let the-write-diff2 = write-diff2 .last .1 .1 .1 .1 .1 .1 .0 in (
+      omega (arith, pre .0, if1 .left),
+      (
+        omega (arith, pre .1 .0, if1 .left),
+        record {
+          known = pre .1 .1 .known;
+          deep = pre .1 .1 .deep;
+          room =
+              free-room (the-tie-bytes ++ the-encode) (args .out .now) (putMid (put-tie .result) (length the-put-tie - put-tie .result) the-put-tie the-write-diff2)
+              (put-tie .result + write-diff2 .result)
+              (then-writes the-tie-bytes (args .out .now) the-put-tie (put-tie .result) (put-tie .ensures)
+              (omega (
+                arith,
+                ap length the-next-tie,
+                length-append (the-tie-bytes ++ the-encode) the-extremum-bytes,
+                length-append the-tie-bytes the-encode,
+                pre .1 .1 .room,
+              ))
+              the-encode the-write-diff2 (write-diff2 .result) (write-diff2 .ensures))
+              (omega (
+                arith,
+                ap length the-next-tie,
+                length-append (the-tie-bytes ++ the-encode) the-extremum-bytes,
+                length-append the-tie-bytes the-encode,
+                pre .1 .1 .room,
+              ))
+              the-extremum-bytes
+              (omega (
+                arith,
+                ap length the-next-tie,
+                length-append (the-tie-bytes ++ the-encode) the-extremum-bytes,
+                length-append the-tie-bytes the-encode,
+                pre .1 .1 .room,
+              ));
+        },
+      ),
+    )
 
-write-ties-add-result : (t : ℕ) → write-ties-lts.Need-add-result (
-  write-diff-below t,
-  write-diff.Post,
-  put-tie-reads.Asked,
-  put-tie-reads.Learnt,
-  write-ties-below t,
-  write-ties.Post,
-) (write-ties-at t) write-ties.Post
-write-ties-add-result t c = let x : c .before .before .before .before .before .before .before .before .before .before .put-tie .result ≡ length (tie-bytes (tree (c .before .before .before .before .before .before .before .before .before .before .before .before .before .before .before .before .args .f .now) (c .before .before .before .before .before .before .before .before .before .before .before .before .before .before .before .before .args .k)) (c .before .before .before .before .before .before .before .before .before .before .before .before .before .before .before .before .args .i)) = c .before .before .before .before .before .before .before .before .before .before .put-tie .ensures .count in let y : c .before .before .before .before .before .before .write-diff2 .result ≡ length (encode (derived-of (c .before .before .before .before .before .before .before .before .before .before .before .before .before .before .before .before .args .by .symbol) (c .before .before .before .before .before .before .before .before .before .before .before .before .before .before .before .before .args .by .state) (tree (c .before .before .before .before .before .before .before .before .before .before .before .before .before .before .before .before .args .f .now) (c .before .before .before .before .before .before .before .before .before .before .before .before .before .before .before .before .args .k)) (c .before .before .before .before .before .before .before .before .before .before .before .before .before .before .before .before .args .i))) = c .before .before .before .before .before .before .write-diff2 .ensures .count in let z : c .before .before .write-ties .result ≡ length (extremum-bytes (c .before .before .before .before .before .before .before .before .before .before .before .before .before .before .before .before .args .by .symbol) (c .before .before .before .before .before .before .before .before .before .before .before .before .before .before .before .before .args .by .state) (tree (c .before .before .before .before .before .before .before .before .before .before .before .before .before .before .before .before .args .f .now) (c .before .before .before .before .before .before .before .before .before .before .before .before .before .before .before .before .args .k)) (c .before .before .before .before .before .before .before .before .before .before .before .before .before .before .before .before .args .i + 1) (c .before .before .before .before .before .before .before .before .before .before .before .before .before .before .before .before .args .left - 1)) = c .before .before .write-ties .ensures .count in omega (arith, x, y, z, ap length (next-tie (c .before .before .before .before .before .before .before .before .before .before .before .before .before .before .before .before .args .by .symbol) (c .before .before .before .before .before .before .before .before .before .before .before .before .before .before .before .before .args .by .state) (tree (c .before .before .before .before .before .before .before .before .before .before .before .before .before .before .before .before .args .f .now) (c .before .before .before .before .before .before .before .before .before .before .before .before .before .before .before .before .args .k)) (c .before .before .before .before .before .before .before .before .before .before .before .before .before .before .before .before .args .i) (c .before .before .before .before .before .before .before .before .before .before .before .before .before .before .before .before .args .left) (c .before .before .before .before .before .before .before .before .before .before .before .before .if1 .left)), length-append ((tie-bytes (tree (c .before .before .before .before .before .before .before .before .before .before .before .before .before .before .before .before .args .f .now) (c .before .before .before .before .before .before .before .before .before .before .before .before .before .before .before .before .args .k)) (c .before .before .before .before .before .before .before .before .before .before .before .before .before .before .before .before .args .i)) ++ (encode (derived-of (c .before .before .before .before .before .before .before .before .before .before .before .before .before .before .before .before .args .by .symbol) (c .before .before .before .before .before .before .before .before .before .before .before .before .before .before .before .before .args .by .state) (tree (c .before .before .before .before .before .before .before .before .before .before .before .before .before .before .before .before .args .f .now) (c .before .before .before .before .before .before .before .before .before .before .before .before .before .before .before .before .args .k)) (c .before .before .before .before .before .before .before .before .before .before .before .before .before .before .before .before .args .i)))) (extremum-bytes (c .before .before .before .before .before .before .before .before .before .before .before .before .before .before .before .before .args .by .symbol) (c .before .before .before .before .before .before .before .before .before .before .before .before .before .before .before .before .args .by .state) (tree (c .before .before .before .before .before .before .before .before .before .before .before .before .before .before .before .before .args .f .now) (c .before .before .before .before .before .before .before .before .before .before .before .before .before .before .before .before .args .k)) (c .before .before .before .before .before .before .before .before .before .before .before .before .before .before .before .before .args .i + 1) (c .before .before .before .before .before .before .before .before .before .before .before .before .before .before .before .before .args .left - 1)), length-append (tie-bytes (tree (c .before .before .before .before .before .before .before .before .before .before .before .before .before .before .before .before .args .f .now) (c .before .before .before .before .before .before .before .before .before .before .before .before .before .before .before .before .args .k)) (c .before .before .before .before .before .before .before .before .before .before .before .before .before .before .before .before .args .i)) (encode (derived-of (c .before .before .before .before .before .before .before .before .before .before .before .before .before .before .before .before .args .by .symbol) (c .before .before .before .before .before .before .before .before .before .before .before .before .before .before .before .before .args .by .state) (tree (c .before .before .before .before .before .before .before .before .before .before .before .before .before .before .before .before .args .f .now) (c .before .before .before .before .before .before .before .before .before .before .before .before .before .before .before .before .args .k)) (c .before .before .before .before .before .before .before .before .before .before .before .before .before .before .before .before .args .i))), c .before .before .before .before .before .before .before .before .before .before .before .before .before .before .before .before .pre .1 .1 .room, c .before .before .before .before .before .before .before .before .before .before .before .before .before .before .before .before .good .1 .1 .1 .1 .1 .1 .1 .0 .0)
+write-ties-add-result : (t : ℕ) → write-ties-lts.Need-add-result (write-ties-calls t) (write-ties-at t) write-ties.Post
+write-ties-add-result t c =
+    let args = c .before .before .before .before .before .before .before .before .before .before .before .before .before .before .before .before .args in
+    let good = c .before .before .before .before .before .before .before .before .before .before .before .before .before .before .before .before .good in
+    let pre = c .before .before .before .before .before .before .before .before .before .before .before .before .before .before .before .before .pre in
+    let if1 = c .before .before .before .before .before .before .before .before .before .before .before .before .if1 in
+    let put-tie = c .before .before .before .before .before .before .before .before .before .before .put-tie in
+    let write-diff2 = c .before .before .before .before .before .before .write-diff2 in
+    let write-ties = c .before .before .write-ties in
+    let the-tree = tree (args .f .now) (args .k) in
+    let the-encode = encode (derived-of (args .by .symbol) (args .by .state) the-tree (args .i)) in
+    let the-extremum-bytes = extremum-bytes (args .by .symbol) (args .by .state) the-tree (args .i + 1) (args .left - 1) in
+    let the-tie-bytes = tie-bytes the-tree (args .i) in
+    let x : put-tie .result ≡ length the-tie-bytes = put-tie .ensures .count in
+    let y : write-diff2 .result ≡ length the-encode = write-diff2 .ensures .count in
+    let z : write-ties .result ≡ length the-extremum-bytes = write-ties .ensures .count in
+    omega (
+      arith,
+      x,
+      y,
+      z,
+      ap length (next-tie (args .by .symbol) (args .by .state) the-tree (args .i) (args .left) (if1 .left)),
+      length-append (the-tie-bytes ++ the-encode) the-extremum-bytes,
+      length-append the-tie-bytes the-encode,
+      pre .1 .1 .room,
+      good .1 .1 .1 .1 .1 .1 .1 .0 .0,
+    )
 
-write-ties-same-length-2 : (t : ℕ) → write-ties-lts.Need-same-length-2 (
-  write-diff-below t,
-  write-diff.Post,
-  put-tie-reads.Asked,
-  put-tie-reads.Learnt,
-  write-ties-below t,
-  write-ties.Post,
-) (write-ties-at t) write-ties.Post
-write-ties-same-length-2 t c = same-len-mid (c .before .before .before .before .before .before .before .before .before .before .put-tie .result + c .before .before .before .before .before .before .write-diff2 .result) (length (putMid (c .before .before .before .before .before .before .before .before .before .before .put-tie .result) (length (c .before .before .before .before .before .before .before .before .before .before .put-tie .last .1 .1 .1 .1 .0) - c .before .before .before .before .before .before .before .before .before .before .put-tie .result) (c .before .before .before .before .before .before .before .before .before .before .put-tie .last .1 .1 .1 .1 .0) (c .before .before .before .before .before .before .write-diff2 .last .1 .1 .1 .1 .1 .1 .0)) - (c .before .before .before .before .before .before .before .before .before .before .put-tie .result + c .before .before .before .before .before .before .write-diff2 .result)) (putMid (c .before .before .before .before .before .before .before .before .before .before .put-tie .result) (length (c .before .before .before .before .before .before .before .before .before .before .put-tie .last .1 .1 .1 .1 .0) - c .before .before .before .before .before .before .before .before .before .before .put-tie .result) (c .before .before .before .before .before .before .before .before .before .before .put-tie .last .1 .1 .1 .1 .0) (c .before .before .before .before .before .before .write-diff2 .last .1 .1 .1 .1 .1 .1 .0)) (c .before .before .write-ties .last .1 .1 .1 .1 .1 .1 .1 .0) (c .before .before .write-ties .kept .1 .1 .1 .1 .1 .1 .1 .0) ∙ same-len-mid (c .before .before .before .before .before .before .before .before .before .before .put-tie .result) (length (c .before .before .before .before .before .before .before .before .before .before .put-tie .last .1 .1 .1 .1 .0) - c .before .before .before .before .before .before .before .before .before .before .put-tie .result) (c .before .before .before .before .before .before .before .before .before .before .put-tie .last .1 .1 .1 .1 .0) (c .before .before .before .before .before .before .write-diff2 .last .1 .1 .1 .1 .1 .1 .0) (c .before .before .before .before .before .before .write-diff2 .kept .1 .1 .1 .1 .1 .1 .0) ∙ c .before .before .before .before .before .before .before .before .before .before .put-tie .kept .1 .1 .1 .1 .0
+write-ties-same-length-2 : (t : ℕ) → write-ties-lts.Need-same-length-2 (write-ties-calls t) (write-ties-at t) write-ties.Post
+write-ties-same-length-2 t c =
+    let put-tie = c .before .before .before .before .before .before .before .before .before .before .put-tie in
+    let write-diff2 = c .before .before .before .before .before .before .write-diff2 in
+    let write-ties = c .before .before .write-ties in
+    let the-put-tie = put-tie .last .1 .1 .1 .1 .0 in
+    let the-write-diff2 = write-diff2 .last .1 .1 .1 .1 .1 .1 .0 in
+    let the-rest = length the-put-tie - put-tie .result in
+    let the-putMid = putMid (put-tie .result) the-rest the-put-tie the-write-diff2 in
+    let the-sum = put-tie .result + write-diff2 .result in
+    same-len-mid the-sum (length the-putMid - the-sum) the-putMid (write-ties .last .1 .1 .1 .1 .1 .1 .1 .0) (write-ties .kept .1 .1 .1 .1 .1 .1 .1 .0)
+    ∙ same-len-mid (put-tie .result) the-rest the-put-tie the-write-diff2 (write-diff2 .kept .1 .1 .1 .1 .1 .1 .0)
+    ∙ put-tie .kept .1 .1 .1 .1 .0
 
-write-ties-returns-2 : (t : ℕ) → write-ties-lts.Need-returns-2 (
-  write-diff-below t,
-  write-diff.Post,
-  put-tie-reads.Asked,
-  put-tie-reads.Learnt,
-  write-ties-below t,
-  write-ties.Post,
-) (write-ties-at t) write-ties.Post
-write-ties-returns-2 t c = as-text _ _ _ _ _ (next-tie (c .before .before .before .before .before .before .before .before .before .before .before .before .before .before .before .before .args .by .symbol) (c .before .before .before .before .before .before .before .before .before .before .before .before .before .before .before .before .args .by .state) (tree (c .before .before .before .before .before .before .before .before .before .before .before .before .before .before .before .before .args .f .now) (c .before .before .before .before .before .before .before .before .before .before .before .before .before .before .before .before .args .k)) (c .before .before .before .before .before .before .before .before .before .before .before .before .before .before .before .before .args .i) (c .before .before .before .before .before .before .before .before .before .before .before .before .before .before .before .before .args .left) (c .before .before .before .before .before .before .before .before .before .before .before .before .if1 .left)) (then-writes ((tie-bytes (tree (c .before .before .before .before .before .before .before .before .before .before .before .before .before .before .before .before .args .f .now) (c .before .before .before .before .before .before .before .before .before .before .before .before .before .before .before .before .args .k)) (c .before .before .before .before .before .before .before .before .before .before .before .before .before .before .before .before .args .i)) ++ (encode (derived-of (c .before .before .before .before .before .before .before .before .before .before .before .before .before .before .before .before .args .by .symbol) (c .before .before .before .before .before .before .before .before .before .before .before .before .before .before .before .before .args .by .state) (tree (c .before .before .before .before .before .before .before .before .before .before .before .before .before .before .before .before .args .f .now) (c .before .before .before .before .before .before .before .before .before .before .before .before .before .before .before .before .args .k)) (c .before .before .before .before .before .before .before .before .before .before .before .before .before .before .before .before .args .i)))) (c .before .before .before .before .before .before .before .before .before .before .before .before .before .before .before .before .args .out .now) (putMid (c .before .before .before .before .before .before .before .before .before .before .put-tie .result) (length (c .before .before .before .before .before .before .before .before .before .before .put-tie .last .1 .1 .1 .1 .0) - c .before .before .before .before .before .before .before .before .before .before .put-tie .result) (c .before .before .before .before .before .before .before .before .before .before .put-tie .last .1 .1 .1 .1 .0) (c .before .before .before .before .before .before .write-diff2 .last .1 .1 .1 .1 .1 .1 .0)) (c .before .before .before .before .before .before .before .before .before .before .put-tie .result + c .before .before .before .before .before .before .write-diff2 .result) (then-writes (tie-bytes (tree (c .before .before .before .before .before .before .before .before .before .before .before .before .before .before .before .before .args .f .now) (c .before .before .before .before .before .before .before .before .before .before .before .before .before .before .before .before .args .k)) (c .before .before .before .before .before .before .before .before .before .before .before .before .before .before .before .before .args .i)) (c .before .before .before .before .before .before .before .before .before .before .before .before .before .before .before .before .args .out .now) (c .before .before .before .before .before .before .before .before .before .before .put-tie .last .1 .1 .1 .1 .0) (c .before .before .before .before .before .before .before .before .before .before .put-tie .result) (c .before .before .before .before .before .before .before .before .before .before .put-tie .ensures) (omega (arith, ap length (next-tie (c .before .before .before .before .before .before .before .before .before .before .before .before .before .before .before .before .args .by .symbol) (c .before .before .before .before .before .before .before .before .before .before .before .before .before .before .before .before .args .by .state) (tree (c .before .before .before .before .before .before .before .before .before .before .before .before .before .before .before .before .args .f .now) (c .before .before .before .before .before .before .before .before .before .before .before .before .before .before .before .before .args .k)) (c .before .before .before .before .before .before .before .before .before .before .before .before .before .before .before .before .args .i) (c .before .before .before .before .before .before .before .before .before .before .before .before .before .before .before .before .args .left) (c .before .before .before .before .before .before .before .before .before .before .before .before .if1 .left)), length-append ((tie-bytes (tree (c .before .before .before .before .before .before .before .before .before .before .before .before .before .before .before .before .args .f .now) (c .before .before .before .before .before .before .before .before .before .before .before .before .before .before .before .before .args .k)) (c .before .before .before .before .before .before .before .before .before .before .before .before .before .before .before .before .args .i)) ++ (encode (derived-of (c .before .before .before .before .before .before .before .before .before .before .before .before .before .before .before .before .args .by .symbol) (c .before .before .before .before .before .before .before .before .before .before .before .before .before .before .before .before .args .by .state) (tree (c .before .before .before .before .before .before .before .before .before .before .before .before .before .before .before .before .args .f .now) (c .before .before .before .before .before .before .before .before .before .before .before .before .before .before .before .before .args .k)) (c .before .before .before .before .before .before .before .before .before .before .before .before .before .before .before .before .args .i)))) (extremum-bytes (c .before .before .before .before .before .before .before .before .before .before .before .before .before .before .before .before .args .by .symbol) (c .before .before .before .before .before .before .before .before .before .before .before .before .before .before .before .before .args .by .state) (tree (c .before .before .before .before .before .before .before .before .before .before .before .before .before .before .before .before .args .f .now) (c .before .before .before .before .before .before .before .before .before .before .before .before .before .before .before .before .args .k)) (c .before .before .before .before .before .before .before .before .before .before .before .before .before .before .before .before .args .i + 1) (c .before .before .before .before .before .before .before .before .before .before .before .before .before .before .before .before .args .left - 1)), length-append (tie-bytes (tree (c .before .before .before .before .before .before .before .before .before .before .before .before .before .before .before .before .args .f .now) (c .before .before .before .before .before .before .before .before .before .before .before .before .before .before .before .before .args .k)) (c .before .before .before .before .before .before .before .before .before .before .before .before .before .before .before .before .args .i)) (encode (derived-of (c .before .before .before .before .before .before .before .before .before .before .before .before .before .before .before .before .args .by .symbol) (c .before .before .before .before .before .before .before .before .before .before .before .before .before .before .before .before .args .by .state) (tree (c .before .before .before .before .before .before .before .before .before .before .before .before .before .before .before .before .args .f .now) (c .before .before .before .before .before .before .before .before .before .before .before .before .before .before .before .before .args .k)) (c .before .before .before .before .before .before .before .before .before .before .before .before .before .before .before .before .args .i))), c .before .before .before .before .before .before .before .before .before .before .before .before .before .before .before .before .pre .1 .1 .room)) (encode (derived-of (c .before .before .before .before .before .before .before .before .before .before .before .before .before .before .before .before .args .by .symbol) (c .before .before .before .before .before .before .before .before .before .before .before .before .before .before .before .before .args .by .state) (tree (c .before .before .before .before .before .before .before .before .before .before .before .before .before .before .before .before .args .f .now) (c .before .before .before .before .before .before .before .before .before .before .before .before .before .before .before .before .args .k)) (c .before .before .before .before .before .before .before .before .before .before .before .before .before .before .before .before .args .i))) (c .before .before .before .before .before .before .write-diff2 .last .1 .1 .1 .1 .1 .1 .0) (c .before .before .before .before .before .before .write-diff2 .result) (c .before .before .before .before .before .before .write-diff2 .ensures)) (omega (arith, ap length (next-tie (c .before .before .before .before .before .before .before .before .before .before .before .before .before .before .before .before .args .by .symbol) (c .before .before .before .before .before .before .before .before .before .before .before .before .before .before .before .before .args .by .state) (tree (c .before .before .before .before .before .before .before .before .before .before .before .before .before .before .before .before .args .f .now) (c .before .before .before .before .before .before .before .before .before .before .before .before .before .before .before .before .args .k)) (c .before .before .before .before .before .before .before .before .before .before .before .before .before .before .before .before .args .i) (c .before .before .before .before .before .before .before .before .before .before .before .before .before .before .before .before .args .left) (c .before .before .before .before .before .before .before .before .before .before .before .before .if1 .left)), length-append ((tie-bytes (tree (c .before .before .before .before .before .before .before .before .before .before .before .before .before .before .before .before .args .f .now) (c .before .before .before .before .before .before .before .before .before .before .before .before .before .before .before .before .args .k)) (c .before .before .before .before .before .before .before .before .before .before .before .before .before .before .before .before .args .i)) ++ (encode (derived-of (c .before .before .before .before .before .before .before .before .before .before .before .before .before .before .before .before .args .by .symbol) (c .before .before .before .before .before .before .before .before .before .before .before .before .before .before .before .before .args .by .state) (tree (c .before .before .before .before .before .before .before .before .before .before .before .before .before .before .before .before .args .f .now) (c .before .before .before .before .before .before .before .before .before .before .before .before .before .before .before .before .args .k)) (c .before .before .before .before .before .before .before .before .before .before .before .before .before .before .before .before .args .i)))) (extremum-bytes (c .before .before .before .before .before .before .before .before .before .before .before .before .before .before .before .before .args .by .symbol) (c .before .before .before .before .before .before .before .before .before .before .before .before .before .before .before .before .args .by .state) (tree (c .before .before .before .before .before .before .before .before .before .before .before .before .before .before .before .before .args .f .now) (c .before .before .before .before .before .before .before .before .before .before .before .before .before .before .before .before .args .k)) (c .before .before .before .before .before .before .before .before .before .before .before .before .before .before .before .before .args .i + 1) (c .before .before .before .before .before .before .before .before .before .before .before .before .before .before .before .before .args .left - 1)), length-append (tie-bytes (tree (c .before .before .before .before .before .before .before .before .before .before .before .before .before .before .before .before .args .f .now) (c .before .before .before .before .before .before .before .before .before .before .before .before .before .before .before .before .args .k)) (c .before .before .before .before .before .before .before .before .before .before .before .before .before .before .before .before .args .i)) (encode (derived-of (c .before .before .before .before .before .before .before .before .before .before .before .before .before .before .before .before .args .by .symbol) (c .before .before .before .before .before .before .before .before .before .before .before .before .before .before .before .before .args .by .state) (tree (c .before .before .before .before .before .before .before .before .before .before .before .before .before .before .before .before .args .f .now) (c .before .before .before .before .before .before .before .before .before .before .before .before .before .before .before .before .args .k)) (c .before .before .before .before .before .before .before .before .before .before .before .before .before .before .before .before .args .i))), c .before .before .before .before .before .before .before .before .before .before .before .before .before .before .before .before .pre .1 .1 .room)) (extremum-bytes (c .before .before .before .before .before .before .before .before .before .before .before .before .before .before .before .before .args .by .symbol) (c .before .before .before .before .before .before .before .before .before .before .before .before .before .before .before .before .args .by .state) (tree (c .before .before .before .before .before .before .before .before .before .before .before .before .before .before .before .before .args .f .now) (c .before .before .before .before .before .before .before .before .before .before .before .before .before .before .before .before .args .k)) (c .before .before .before .before .before .before .before .before .before .before .before .before .before .before .before .before .args .i + 1) (c .before .before .before .before .before .before .before .before .before .before .before .before .before .before .before .before .args .left - 1)) (c .before .before .write-ties .last .1 .1 .1 .1 .1 .1 .1 .0) (c .before .before .write-ties .result) (c .before .before .write-ties .ensures))
+write-ties-returns-2 : (t : ℕ) → write-ties-lts.Need-returns-2 (write-ties-calls t) (write-ties-at t) write-ties.Post
+write-ties-returns-2 t c =
+    let args = c .before .before .before .before .before .before .before .before .before .before .before .before .before .before .before .before .args in
+    let pre = c .before .before .before .before .before .before .before .before .before .before .before .before .before .before .before .before .pre in
+    let if1 = c .before .before .before .before .before .before .before .before .before .before .before .before .if1 in
+    let put-tie = c .before .before .before .before .before .before .before .before .before .before .put-tie in
+    let write-diff2 = c .before .before .before .before .before .before .write-diff2 in
+    let write-ties = c .before .before .write-ties in
+    let the-tree = tree (args .f .now) (args .k) in
+    let the-encode = encode (derived-of (args .by .symbol) (args .by .state) the-tree (args .i)) in
+    let the-extremum-bytes = extremum-bytes (args .by .symbol) (args .by .state) the-tree (args .i + 1) (args .left - 1) in
+    let the-next-tie = next-tie (args .by .symbol) (args .by .state) the-tree (args .i) (args .left) (if1 .left) in
+    let the-tie-bytes = tie-bytes the-tree (args .i) in
+    let the-put-tie = put-tie .last .1 .1 .1 .1 .0 in
+    let the-write-diff2 = write-diff2 .last .1 .1 .1 .1 .1 .1 .0 in
+    as-text _ _ _ _ _ the-next-tie
+    (then-writes (the-tie-bytes ++ the-encode) (args .out .now)
+    (putMid (put-tie .result) (length the-put-tie - put-tie .result) the-put-tie the-write-diff2) (put-tie .result + write-diff2 .result)
+    (then-writes the-tie-bytes (args .out .now) the-put-tie (put-tie .result) (put-tie .ensures)
+    (omega (
+      arith,
+      ap length the-next-tie,
+      length-append (the-tie-bytes ++ the-encode) the-extremum-bytes,
+      length-append the-tie-bytes the-encode,
+      pre .1 .1 .room,
+    ))
+    the-encode the-write-diff2 (write-diff2 .result) (write-diff2 .ensures))
+    (omega (
+      arith,
+      ap length the-next-tie,
+      length-append (the-tie-bytes ++ the-encode) the-extremum-bytes,
+      length-append the-tie-bytes the-encode,
+      pre .1 .1 .room,
+    ))
+    the-extremum-bytes (write-ties .last .1 .1 .1 .1 .1 .1 .1 .0) (write-ties .result) (write-ties .ensures))
 
 pub +differentiate+write-diff+write-extremum+write-node+write-product+write-rule+write-rules+write-sum+write-ties-spec :
     {M : Type 1} → statement M

@@ -26,22 +26,42 @@ child-requires : tie.Need-child-requires
 child-requires c κs = search needs
 
 put-tree-requires : tie.Need-put-tree-requires
-put-tree-requires c κs = (owned-child (c .before .before .before .before .before .before .before .args .f .now) (c .before .before .before .before .before .before .before .args .table .now) (c .before .before .before .before .before .before .before .args .k) (c .before .before .before .before .before .before .before .args .i) (c .before .child .result) (c .before .before .before .before .before .before .before .pre .0) (c .before .child .ensures), room-as _ _ _ (child-text (c .before .before .before .before .before .before .before .args .f .now) (c .before .before .before .before .before .before .before .args .k) (c .before .before .before .before .before .before .before .args .i) (c .before .child .result) (c .before .child .ensures)) (c .before .before .before .before .before .before .before .pre .1))
+put-tree-requires c κs =
+    let args = c .before .before .before .before .before .before .before .args in
+    let pre = c .before .before .before .before .before .before .before .pre in
+    let child = c .before .child in (
+      owned-child (args .f .now) (args .table .now) (args .k) (args .i) (child .result) (pre .0) (child .ensures),
+      room-as _ _ _ (child-text (args .f .now) (args .k) (args .i) (child .result) (child .ensures)) (pre .1),
+    )
 
 same-length : tie.Need-same-length
 same-length c = search needs
 
 returns : tie.Need-returns
-returns c = as-text _ _ _ _ _ (child-text (c .before .before .before .before .before .before .before .before .before .before .args .f .now) (c .before .before .before .before .before .before .before .before .before .before .args .k) (c .before .before .before .before .before .before .before .before .before .before .args .i) (c .before .before .before .before .child .result) (c .before .before .before .before .child .ensures)) (c .before .before .put-tree .ensures)
+returns c =
+    let args = c .before .before .before .before .before .before .before .before .before .before .args in
+    let child = c .before .before .before .before .child in
+    let put-tree = c .before .before .put-tree in
+    as-text _ _ _ _ _ (child-text (args .f .now) (args .k) (args .i) (child .result) (child .ensures)) (put-tree .ensures)
 
 put-literal-requires : tie.Need-put-literal-requires
-put-literal-requires c κs = literal-room _ _ 0 (none-text (c .before .before .before .before .before .before .args .f .now) (c .before .before .before .before .before .before .args .k) (c .before .before .before .before .before .before .args .i) (c .before .before .before .before .before .before .pre .0 .formed) (omega (arith, c .before .before .half .ensures .0, c .before .if1 .left))) (c .before .before .before .before .before .before .pre .1)
+put-literal-requires c κs =
+    let args = c .before .before .before .before .before .before .args in
+    let pre = c .before .before .before .before .before .before .pre in
+    let half = c .before .before .half in
+    literal-room _ _ 0 (none-text (args .f .now) (args .k) (args .i) (pre .0 .formed) (omega (arith, half .ensures .0, c .before .if1 .left))) (pre .1)
 
 same-length-2 : tie.Need-same-length-2
 same-length-2 c = search needs
 
 returns-2 : tie.Need-returns-2
-returns-2 c = as-text _ _ _ _ _ (none-text (c .before .before .before .before .before .before .before .before .before .args .f .now) (c .before .before .before .before .before .before .before .before .before .args .k) (c .before .before .before .before .before .before .before .before .before .args .i) (c .before .before .before .before .before .before .before .before .before .pre .0 .formed) (omega (arith, c .before .before .before .before .before .half .ensures .0, c .before .before .before .before .if1 .left))) (c .before .before .put-literal .ensures)
+returns-2 c =
+    let args = c .before .before .before .before .before .before .before .before .before .args in
+    let pre = c .before .before .before .before .before .before .before .before .before .pre in
+    let half = c .before .before .before .before .before .half in
+    let if1 = c .before .before .before .before .if1 in
+    let put-literal = c .before .before .put-literal in
+    as-text _ _ _ _ _ (none-text (args .f .now) (args .k) (args .i) (pre .0 .formed) (omega (arith, half .ensures .0, if1 .left))) (put-literal .ensures)
 
 pub put-child-spec : {M : Type 1} → statement M
 put-child-spec =

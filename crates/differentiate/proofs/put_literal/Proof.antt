@@ -42,7 +42,21 @@ same-length : tie.Need-same-length
 same-length c = search needs
 
 returns : tie.Need-returns
-returns c = as-text _ _ _ _ _ (literal-is (c .before .before .before .before .before .before .before .before .before .before .before .before .before .before .args .bits) (c .before .before .before .before .before .before .before .before .before .before .before .before .low .result) (c .before .before .before .before .before .before .before .before .before .before .before .low2 .result) (c .before .before .before .before .before .before .before .before .before .before .low3 .result) (c .before .before .before .before .before .before .before .before .before .low4 .result) (c .before .before .before .before .before .before .before .before .low5 .result) (c .before .before .before .before .before .before .before .low6 .result) (c .before .before .before .before .before .before .low7 .result) (c .before .before .before .before .before .low8 .result) (c .before .before .before .before .before .before .before .before .before .before .before .before .low .ensures) (c .before .before .before .before .before .before .before .before .before .before .before .low2 .ensures) (c .before .before .before .before .before .before .before .before .before .before .low3 .ensures) (c .before .before .before .before .before .before .before .before .before .low4 .ensures) (c .before .before .before .before .before .before .before .before .low5 .ensures) (c .before .before .before .before .before .before .before .low6 .ensures) (c .before .before .before .before .before .before .low7 .ensures) (c .before .before .before .before .before .low8 .ensures)) (c .before .before .copy .ensures)
+returns c =
+    let args = c .before .before .before .before .before .before .before .before .before .before .before .before .before .before .args in
+    let low = c .before .before .before .before .before .before .before .before .before .before .before .before .low in
+    let low2 = c .before .before .before .before .before .before .before .before .before .before .before .low2 in
+    let low3 = c .before .before .before .before .before .before .before .before .before .before .low3 in
+    let low4 = c .before .before .before .before .before .before .before .before .before .low4 in
+    let low5 = c .before .before .before .before .before .before .before .before .low5 in
+    let low6 = c .before .before .before .before .before .before .before .low6 in
+    let low7 = c .before .before .before .before .before .before .low7 in
+    let low8 = c .before .before .before .before .before .low8 in
+    let copy = c .before .before .copy in
+    as-text _ _ _ _ _
+    (literal-is (args .bits) (low .result) (low2 .result) (low3 .result) (low4 .result) (low5 .result) (low6 .result) (low7 .result) (low8 .result)
+    (low .ensures) (low2 .ensures) (low3 .ensures) (low4 .ensures) (low5 .ensures) (low6 .ensures) (low7 .ensures) (low8 .ensures))
+    (copy .ensures)
 
 pub put-literal-spec : {M : Type 1} → statement M
 put-literal-spec =

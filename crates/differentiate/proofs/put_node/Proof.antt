@@ -26,7 +26,11 @@ same-length : tie.Need-same-length
 same-length c = search needs
 
 returns : tie.Need-returns
-returns c = as-text _ _ _ _ _ (node-is (c .before .before .before .before .before .before .args .kind) (c .before .before .before .before .before .before .args .operator) (c .before .before .before .before .before .before .args .children) (c .before .before .before .before .before .before .pre .2)) (c .before .before .copy .ensures)
+returns c =
+    let args = c .before .before .before .before .before .before .args in
+    let pre = c .before .before .before .before .before .before .pre in
+    let copy = c .before .before .copy in
+    as-text _ _ _ _ _ (node-is (args .kind) (args .operator) (args .children) (pre .2)) (copy .ensures)
 
 pub put-node-spec : {M : Type 1} → statement M
 put-node-spec =

@@ -21,13 +21,22 @@ mul-end-2 : tie.Need-mul-end-2
 mul-end-2 c = search needs
 
 shared-slice-read-end : tie.Need-shared-slice-read-end
-shared-slice-read-end c = omega (arith, row-inside (c .before .before .before .before .args .f .now) (c .before .before .before .before .args .table .now) (c .before .before .before .before .args .k) (c .before .before .before .before .pre .0))
+shared-slice-read-end c =
+    let args = c .before .before .before .before .args in
+    let pre = c .before .before .before .before .pre in
+    omega (arith, row-inside (args .f .now) (args .table .now) (args .k) (pre .0))
 
 mul-end-3 : tie.Need-mul-end-3
-mul-end-3 c = omega (arith, tree-room (c .before .before .before .before .args .f .now) (c .before .before .before .before .args .table .now) (c .before .before .before .before .args .k) (c .before .before .before .before .pre .0))
+mul-end-3 c =
+    let args = c .before .before .before .before .args in
+    let pre = c .before .before .before .before .pre in
+    omega (arith, tree-room (args .f .now) (args .table .now) (args .k) (pre .0))
 
 add-end : tie.Need-add-end
-add-end c = omega (arith, tree-room (c .before .before .before .before .args .f .now) (c .before .before .before .before .args .table .now) (c .before .before .before .before .args .k) (c .before .before .before .before .pre .0))
+add-end c =
+    let args = c .before .before .before .before .args in
+    let pre = c .before .before .before .before .pre in
+    omega (arith, tree-room (args .f .now) (args .table .now) (args .k) (pre .0))
 
 sub-copy : tie.Need-sub-copy
 sub-copy c = search needs
@@ -36,16 +45,35 @@ part-copy-start : tie.Need-part-copy-start
 part-copy-start c = search needs
 
 part-copy-end : tie.Need-part-copy-end
-part-copy-end c = omega (arith, tree-room (c .before .before .before .before .args .f .now) (c .before .before .before .before .args .table .now) (c .before .before .before .before .args .k) (c .before .before .before .before .pre .0))
+part-copy-end c =
+    let args = c .before .before .before .before .args in
+    let pre = c .before .before .before .before .pre in
+    omega (arith, tree-room (args .f .now) (args .table .now) (args .k) (pre .0))
 
 copy-requires : tie.Need-copy-requires
-copy-requires c κs = simp (length-take, length-drop) (omega (arith, tree-room (c .before .before .before .before .before .before .args .f .now) (c .before .before .before .before .before .before .args .table .now) (c .before .before .before .before .before .before .args .k) (c .before .before .before .before .before .before .pre .0), tree-fits (c .before .before .before .before .before .before .args .f .now) (c .before .before .before .before .before .before .args .table .now) (c .before .before .before .before .before .before .args .k) (c .before .before .before .before .before .before .pre .0) (c .before .before .before .before .before .before .args .out .now) (c .before .before .before .before .before .before .pre .1)))
+copy-requires c κs =
+    let args = c .before .before .before .before .before .before .args in
+    let pre = c .before .before .before .before .before .before .pre in
+    simp (length-take, length-drop)
+    (omega (
+      arith,
+      tree-room (args .f .now) (args .table .now) (args .k) (pre .0),
+      tree-fits (args .f .now) (args .table .now) (args .k) (pre .0) (args .out .now) (pre .1),
+    ))
 
 same-length : tie.Need-same-length
 same-length c = search needs
 
 returns : tie.Need-returns
-returns c = as-text _ _ _ _ _ (tree-bytes (c .before .before .before .before .before .before .before .before .before .args .f .now) (c .before .before .before .before .before .before .before .before .before .args .table .now) (c .before .before .before .before .before .before .before .before .before .args .k) (c .before .before .before .before .before .before .before .before .before .pre .0) (λ i. omega (arith, c .before .before .before .before .before .before .before .before .shared-slice-known .given i)) (16 * c .before .before .before .before .before .before .before .before .before .args .k + 16 * getD (c .before .before .before .before .before .before .before .before .before .args .table .now) (8 * c .before .before .before .before .before .before .before .before .before .args .k) 0 - 16 * c .before .before .before .before .before .before .before .before .before .args .k) (omega arith)) (c .before .before .copy .ensures)
+returns c =
+    let args = c .before .before .before .before .before .before .before .before .before .args in
+    let pre = c .before .before .before .before .before .before .before .before .before .pre in
+    let shared-slice-known = c .before .before .before .before .before .before .before .before .shared-slice-known in
+    let copy = c .before .before .copy in
+    as-text _ _ _ _ _
+    (tree-bytes (args .f .now) (args .table .now) (args .k) (pre .0) (λ i. omega (arith, shared-slice-known .given i))
+    (16 * args .k + 16 * getD (args .table .now) (8 * args .k) 0 - 16 * args .k) (omega arith))
+    (copy .ensures)
 
 pub put-tree-spec : {M : Type 1} → statement M
 put-tree-spec =

@@ -18,28 +18,77 @@ use Rattle.differentiate.proofs.differentiate.Reads as differentiate-re
 use Rattle.differentiate.proofs.put_primal.Reads as put-primal-reads
 
 put-primal-requires : tie.Need-put-primal-requires
-put-primal-requires c κs = let h = job-room (c .before .before .before .before .args .by .symbol) (c .before .before .before .before .args .by .state) (c .before .before .before .before .args .f .now) (c .before .before .before .before .args .table .now) (c .before .before .before .before .args .depth) (c .before .before .before .before .args .out .now) (c .before .before .before .before .pre) in (c .before .before .before .before .pre .known .owned, omega (arith, h))
+put-primal-requires c κs =
+    let args = c .before .before .before .before .args in
+    let pre = c .before .before .before .before .pre in
+    let h = job-room (args .by .symbol) (args .by .state) (args .f .now) (args .table .now) (args .depth) (args .out .now) (pre) in
+    (pre .known .owned, omega (arith, h))
 
 sub-differentiate : tie.Need-sub-differentiate
-sub-differentiate c = let h = free-start (primal-bytes (tree (c .before .before .before .before .before .before .before .args .f .now) 0)) (c .before .before .before .before .before .before .before .args .out .now) (c .before .before .put-primal .last .1 .1 .0) (c .before .before .put-primal .result) (c .before .before .put-primal .ensures) (let h = job-room (c .before .before .before .before .before .before .before .args .by .symbol) (c .before .before .before .before .before .before .before .args .by .state) (c .before .before .before .before .before .before .before .args .f .now) (c .before .before .before .before .before .before .before .args .table .now) (c .before .before .before .before .before .before .before .args .depth) (c .before .before .before .before .before .before .before .args .out .now) (c .before .before .before .before .before .before .before .pre) in omega (arith, h)) in omega (arith, h)
+sub-differentiate c =
+    let args = c .before .before .before .before .before .before .before .args in
+    let pre = c .before .before .before .before .before .before .before .pre in
+    let put-primal = c .before .before .put-primal in
+    let h =
+    free-start (primal-bytes (tree (args .f .now) 0)) (args .out .now) (put-primal .last .1 .1 .0) (put-primal .result) (put-primal .ensures)
+    (let h = job-room (args .by .symbol) (args .by .state) (args .f .now) (args .table .now) (args .depth) (args .out .now) (pre) in omega (arith, h)) in
+    omega (arith, h)
 
 part-differentiate-start : tie.Need-part-differentiate-start
-part-differentiate-start c = let h = free-start (primal-bytes (tree (c .before .before .before .before .before .before .before .args .f .now) 0)) (c .before .before .before .before .before .before .before .args .out .now) (c .before .before .put-primal .last .1 .1 .0) (c .before .before .put-primal .result) (c .before .before .put-primal .ensures) (let h = job-room (c .before .before .before .before .before .before .before .args .by .symbol) (c .before .before .before .before .before .before .before .args .by .state) (c .before .before .before .before .before .before .before .args .f .now) (c .before .before .before .before .before .before .before .args .table .now) (c .before .before .before .before .before .before .before .args .depth) (c .before .before .before .before .before .before .before .args .out .now) (c .before .before .before .before .before .before .before .pre) in omega (arith, h)) in omega (arith, h)
+part-differentiate-start c =
+    let args = c .before .before .before .before .before .before .before .args in
+    let pre = c .before .before .before .before .before .before .before .pre in
+    let put-primal = c .before .before .put-primal in
+    let h =
+    free-start (primal-bytes (tree (args .f .now) 0)) (args .out .now) (put-primal .last .1 .1 .0) (put-primal .result) (put-primal .ensures)
+    (let h = job-room (args .by .symbol) (args .by .state) (args .f .now) (args .table .now) (args .depth) (args .out .now) (pre) in omega (arith, h)) in
+    omega (arith, h)
 
 part-differentiate-end : tie.Need-part-differentiate-end
 part-differentiate-end c = search needs
 
 differentiate-requires : tie.Need-differentiate-requires
-differentiate-requires c κs = record { known = c .before .before .before .before .before .before .before .before .pre .known; deep = c .before .before .before .before .before .before .before .before .pre .deep; room = free-room (primal-bytes (tree (c .before .before .before .before .before .before .before .before .args .f .now) 0)) (c .before .before .before .before .before .before .before .before .args .out .now) (c .before .before .before .put-primal .last .1 .1 .0) (c .before .before .before .put-primal .result) (c .before .before .before .put-primal .ensures) (let h = job-room (c .before .before .before .before .before .before .before .before .args .by .symbol) (c .before .before .before .before .before .before .before .before .args .by .state) (c .before .before .before .before .before .before .before .before .args .f .now) (c .before .before .before .before .before .before .before .before .args .table .now) (c .before .before .before .before .before .before .before .before .args .depth) (c .before .before .before .before .before .before .before .before .args .out .now) (c .before .before .before .before .before .before .before .before .pre) in omega (arith, h)) (encode (derived (c .before .before .before .before .before .before .before .before .args .by .symbol) (c .before .before .before .before .before .before .before .before .args .by .state) (tree (c .before .before .before .before .before .before .before .before .args .f .now) 0))) (job-room (c .before .before .before .before .before .before .before .before .args .by .symbol) (c .before .before .before .before .before .before .before .before .args .by .state) (c .before .before .before .before .before .before .before .before .args .f .now) (c .before .before .before .before .before .before .before .before .args .table .now) (c .before .before .before .before .before .before .before .before .args .depth) (c .before .before .before .before .before .before .before .before .args .out .now) (c .before .before .before .before .before .before .before .before .pre)) }
+differentiate-requires c κs =
+    let args = c .before .before .before .before .before .before .before .before .args in
+    let pre = c .before .before .before .before .before .before .before .before .pre in
+    let put-primal = c .before .before .before .put-primal in
+    record {
+      known = pre .known;
+      deep = pre .deep;
+      room =
+          free-room (primal-bytes (tree (args .f .now) 0)) (args .out .now) (put-primal .last .1 .1 .0) (put-primal .result) (put-primal .ensures)
+          (let h = job-room (args .by .symbol) (args .by .state) (args .f .now) (args .table .now) (args .depth) (args .out .now) (pre) in omega (arith, h))
+          (encode (derived (args .by .symbol) (args .by .state) (tree (args .f .now) 0)))
+          (job-room (args .by .symbol) (args .by .state) (args .f .now) (args .table .now) (args .depth) (args .out .now) (pre));
+    }
 
 add-result : tie.Need-add-result
-add-result c = let h = job-room (c .before .before .before .before .before .before .before .before .before .before .before .args .by .symbol) (c .before .before .before .before .before .before .before .before .before .before .before .args .by .state) (c .before .before .before .before .before .before .before .before .before .before .before .args .f .now) (c .before .before .before .before .before .before .before .before .before .before .before .args .table .now) (c .before .before .before .before .before .before .before .before .before .before .before .args .depth) (c .before .before .before .before .before .before .before .before .before .before .before .args .out .now) (c .before .before .before .before .before .before .before .before .before .before .before .pre) in let x : c .before .before .before .before .before .before .put-primal .result ≡ length (primal-bytes (tree (c .before .before .before .before .before .before .before .before .before .before .before .args .f .now) 0)) = c .before .before .before .before .before .before .put-primal .ensures .count in let y : c .before .before .differentiate .result ≡ length (encode (derived (c .before .before .before .before .before .before .before .before .before .before .before .args .by .symbol) (c .before .before .before .before .before .before .before .before .before .before .before .args .by .state) (tree (c .before .before .before .before .before .before .before .before .before .before .before .args .f .now) 0))) = c .before .before .differentiate .ensures .count in omega (arith, h, x, y)
+add-result c =
+    let args = c .before .before .before .before .before .before .before .before .before .before .before .args in
+    let pre = c .before .before .before .before .before .before .before .before .before .before .before .pre in
+    let put-primal = c .before .before .before .before .before .before .put-primal in
+    let differentiate = c .before .before .differentiate in
+    let h = job-room (args .by .symbol) (args .by .state) (args .f .now) (args .table .now) (args .depth) (args .out .now) (pre) in
+    let x : put-primal .result ≡ length (primal-bytes (tree (args .f .now) 0)) = put-primal .ensures .count in
+    let y : differentiate .result ≡ length (encode (derived (args .by .symbol) (args .by .state) (tree (args .f .now) 0))) = differentiate .ensures .count in
+    omega (arith, h, x, y)
 
 same-length : tie.Need-same-length
 same-length c = search needs
 
 returns : tie.Need-returns
-returns c = job-done (c .before .before .before .before .before .before .before .before .before .before .before .args .by .symbol) (c .before .before .before .before .before .before .before .before .before .before .before .args .by .state) (c .before .before .before .before .before .before .before .before .before .before .before .args .f .now) (c .before .before .before .before .before .before .before .before .before .before .before .args .table .now) (c .before .before .before .before .before .before .before .before .before .before .before .args .depth) (c .before .before .before .before .before .before .before .before .before .before .before .args .out .now) (c .before .before .before .before .before .before .before .before .before .before .before .pre) (putMid (c .before .before .before .before .before .before .put-primal .result) (length (c .before .before .before .before .before .before .put-primal .last .1 .1 .0) - c .before .before .before .before .before .before .put-primal .result) (c .before .before .before .before .before .before .put-primal .last .1 .1 .0) (c .before .before .differentiate .last .1 .1 .1 .1 .1 .0)) (c .before .before .before .before .before .before .put-primal .result + c .before .before .differentiate .result) (then-writes (primal-bytes (tree (c .before .before .before .before .before .before .before .before .before .before .before .args .f .now) 0)) (c .before .before .before .before .before .before .before .before .before .before .before .args .out .now) (c .before .before .before .before .before .before .put-primal .last .1 .1 .0) (c .before .before .before .before .before .before .put-primal .result) (c .before .before .before .before .before .before .put-primal .ensures) (let h = job-room (c .before .before .before .before .before .before .before .before .before .before .before .args .by .symbol) (c .before .before .before .before .before .before .before .before .before .before .before .args .by .state) (c .before .before .before .before .before .before .before .before .before .before .before .args .f .now) (c .before .before .before .before .before .before .before .before .before .before .before .args .table .now) (c .before .before .before .before .before .before .before .before .before .before .before .args .depth) (c .before .before .before .before .before .before .before .before .before .before .before .args .out .now) (c .before .before .before .before .before .before .before .before .before .before .before .pre) in omega (arith, h)) (encode (derived (c .before .before .before .before .before .before .before .before .before .before .before .args .by .symbol) (c .before .before .before .before .before .before .before .before .before .before .before .args .by .state) (tree (c .before .before .before .before .before .before .before .before .before .before .before .args .f .now) 0))) (c .before .before .differentiate .last .1 .1 .1 .1 .1 .0) (c .before .before .differentiate .result) (c .before .before .differentiate .ensures))
+returns c =
+    let args = c .before .before .before .before .before .before .before .before .before .before .before .args in
+    let pre = c .before .before .before .before .before .before .before .before .before .before .before .pre in
+    let put-primal = c .before .before .before .before .before .before .put-primal in
+    let differentiate = c .before .before .differentiate in
+    let the-differentiate = differentiate .last .1 .1 .1 .1 .1 .0 in
+    job-done (args .by .symbol) (args .by .state) (args .f .now) (args .table .now) (args .depth) (args .out .now) (pre)
+    (putMid (put-primal .result) (length (put-primal .last .1 .1 .0) - put-primal .result) (put-primal .last .1 .1 .0) the-differentiate)
+    (put-primal .result + differentiate .result)
+    (then-writes (primal-bytes (tree (args .f .now) 0)) (args .out .now) (put-primal .last .1 .1 .0) (put-primal .result) (put-primal .ensures)
+    (let h = job-room (args .by .symbol) (args .by .state) (args .f .now) (args .table .now) (args .depth) (args .out .now) (pre) in omega (arith, h))
+    (encode (derived (args .by .symbol) (args .by .state) (tree (args .f .now) 0))) the-differentiate (differentiate .result) (differentiate .ensures))
 
 pub write-derivative-spec : {M : Type 1} → statement M
 write-derivative-spec =

@@ -36,19 +36,42 @@ kind-place-requires : tie.Need-kind-place-requires
 kind-place-requires c κs = search needs
 
 returns-2 : tie.Need-returns-2
-returns-2 c = no-kind-there (c .before .before .before .before .before .before .before .args .line .now) (c .before .before .before .before .before .before .before .args .at) (c .before .before .before .before .before .before .before .args .end) (c .before .before .before .before .before .before .before .pre .0) (c .before .before .before .before .before .before .before .pre .1) (c .before .before .before .before .before .before .before .args .end - c .before .before .before .before .before .before .before .args .at - 2) (c .before .before .before .before .before .if1 .left) refl (c .before .kind-place .result) (c .before .kind-place .ensures .0) (c .if3 .taken)
+returns-2 c =
+    let args = c .before .before .before .before .before .before .before .args in
+    let pre = c .before .before .before .before .before .before .before .pre in
+    let if1 = c .before .before .before .before .before .if1 in
+    let kind-place = c .before .kind-place in
+    no-kind-there (args .line .now) (args .at) (args .end) (pre .0) (pre .1) (args .end - args .at - 2) (if1 .left) refl (kind-place .result)
+    (kind-place .ensures .0) (c .if3 .taken)
 
 is-name-requires : tie.Need-is-name-requires
 is-name-requires c κs = search needs
 
 returns-3 : tie.Need-returns-3
-returns-3 c = entry-there (c .before .before .before .before .before .before .before .before .before .args .line .now) (c .before .before .before .before .before .before .before .before .before .args .at) (c .before .before .before .before .before .before .before .before .before .args .end) (c .before .before .before .before .before .before .before .before .before .pre .0) (c .before .before .before .before .before .before .before .before .before .pre .1) (c .before .before .before .before .before .before .before .before .before .args .end - c .before .before .before .before .before .before .before .before .before .args .at - 2) (c .before .before .before .before .before .before .before .if1 .left) refl (c .before .before .before .kind-place .result) (c .before .before .before .before .before .if2 .taken) (c .before .before .before .kind-place .ensures .0) (c .before .before .if3 .left) (sym (c .before .is-name .ensures) ∙ c .if4 .taken)
+returns-3 c =
+    let args = c .before .before .before .before .before .before .before .before .before .args in
+    let pre = c .before .before .before .before .before .before .before .before .before .pre in
+    let if1 = c .before .before .before .before .before .before .before .if1 in
+    let if2 = c .before .before .before .before .before .if2 in
+    let kind-place = c .before .before .before .kind-place in
+    let if3 = c .before .before .if3 in
+    entry-there (args .line .now) (args .at) (args .end) (pre .0) (pre .1) (args .end - args .at - 2) (if1 .left) refl (kind-place .result) (if2 .taken)
+    (kind-place .ensures .0) (if3 .left) (sym (c .before .is-name .ensures) ∙ c .if4 .taken)
 
 returns-4 : tie.Need-returns-4
-returns-4 c = no-name-there (c .before .before .before .before .before .before .before .before .before .args .line .now) (c .before .before .before .before .before .before .before .before .before .args .at) (c .before .before .before .before .before .before .before .before .before .args .end) (c .before .before .before .before .before .before .before .before .before .pre .0) (c .before .before .before .before .before .before .before .before .before .pre .1) (c .before .before .before .before .before .before .before .before .before .args .end - c .before .before .before .before .before .before .before .before .before .args .at - 2) (c .before .before .before .before .before .before .before .if1 .left) refl (sym (c .before .is-name .ensures) ∙ c .if4 .left)
+returns-4 c =
+    let args = c .before .before .before .before .before .before .before .before .before .args in
+    let pre = c .before .before .before .before .before .before .before .before .before .pre in
+    let if1 = c .before .before .before .before .before .before .before .if1 in
+    no-name-there (args .line .now) (args .at) (args .end) (pre .0) (pre .1) (args .end - args .at - 2) (if1 .left) refl
+    (sym (c .before .is-name .ensures) ∙ c .if4 .left)
 
 returns-5 : tie.Need-returns-5
-returns-5 c = no-colon-there (c .before .before .before .before .args .line .now) (c .before .before .before .before .args .at) (c .before .before .before .before .args .end) (c .before .before .before .before .pre .0) (c .before .before .before .before .pre .1) (c .before .before .before .before .args .end - c .before .before .before .before .args .at - 2) (c .before .before .if1 .left) refl (c .if2 .left)
+returns-5 c =
+    let args = c .before .before .before .before .args in
+    let pre = c .before .before .before .before .pre in
+    let if1 = c .before .before .if1 in
+    no-colon-there (args .line .now) (args .at) (args .end) (pre .0) (pre .1) (args .end - args .at - 2) (if1 .left) refl (c .if2 .left)
 
 pub entry-at-spec : {M : Type 1} → statement M
 entry-at-spec =

@@ -18,7 +18,10 @@ shared-slice-read-if1 : tie.Need-shared-slice-read-if1 Inv-loop μ-loop
 shared-slice-read-if1 c = c .before .loop-test .taken
 
 returns : tie.Need-returns Inv-loop μ-loop
-returns c = looking-comma (c .before .before .before .before .args .line .now) (c .before .before .before .before .args .at) (c .before .before .before .loop .end) (c .before .before .before .loop .inv) (c .if1 .taken)
+returns c =
+    let args = c .before .before .before .before .args in
+    let loop = c .before .before .before .loop in
+    looking-comma (args .line .now) (args .at) (loop .end) (loop .inv) (c .if1 .taken)
 
 add-end : tie.Need-add-end Inv-loop μ-loop
 add-end c = omega arith
@@ -27,7 +30,11 @@ loop-less : tie.Need-loop-less Inv-loop μ-loop
 loop-less c = omega arith
 
 loop-again : tie.Need-loop-again Inv-loop μ-loop
-loop-again c = looking-more (c .before .before .before .before .args .line .now) (c .before .before .before .before .args .at) (c .before .before .before .loop .end) (c .before .before .before .loop .inv) (c .before .before .loop-test .taken) (c .if1 .left)
+loop-again c =
+    let args = c .before .before .before .before .args in
+    let loop = c .before .before .before .loop in
+    let loop-test = c .before .before .loop-test in
+    looking-more (args .line .now) (args .at) (loop .end) (loop .inv) (loop-test .taken) (c .if1 .left)
 
 returns-2 : tie.Need-returns-2 Inv-loop μ-loop
 returns-2 c = looking-end (c .before .before .args .line .now) (c .before .before .args .at) (c .before .loop .end) (c .before .loop .inv) (c .loop-test .left)

@@ -25,7 +25,12 @@ is-letter-requires : tie.Need-is-letter-requires Inv-loop μ-loop
 is-letter-requires c κs = tt
 
 loop-holds : tie.Need-loop-holds Inv-loop μ-loop
-loop-holds c = (c .before .before .before .before .before .before .pre, naming-start (c .before .before .before .before .before .before .args .line .now) (c .before .before .before .before .before .before .args .at) (c .before .before .before .before .before .before .args .n) (c .before .before .before .before .before .before .pre) (c .before .before .before .before .if1 .left) (c .before .before .before .if2 .left) (sym (c .before .is-letter .ensures) ∙ c .if3 .taken))
+loop-holds c =
+    let args = c .before .before .before .before .before .before .args in
+    let pre = c .before .before .before .before .before .before .pre in
+    let if1 = c .before .before .before .before .if1 in
+    let if2 = c .before .before .before .if2 in
+    (pre, naming-start (args .line .now) (args .at) (args .n) (pre) (if1 .left) (if2 .left) (sym (c .before .is-letter .ensures) ∙ c .if3 .taken))
 
 add-is-letter-or-digit : tie.Need-add-is-letter-or-digit Inv-loop μ-loop
 add-is-letter-or-digit c = omega (arith, c .before .loop .inv .0, c .loop-test .taken)
@@ -44,16 +49,35 @@ loop-less : tie.Need-loop-less Inv-loop μ-loop
 loop-less c = omega arith
 
 loop-again : tie.Need-loop-again Inv-loop μ-loop
-loop-again c = (c .before .before .before .before .loop .inv .0, naming-more (c .before .before .before .before .before .before .before .before .before .before .before .args .line .now) (c .before .before .before .before .before .before .before .before .before .before .before .args .at) (c .before .before .before .before .before .before .before .before .before .before .before .args .n) (c .before .before .before .before .loop .inv .0) (c .before .before .before .before .loop .i) (c .before .before .before .before .loop .inv .1) (c .before .before .before .loop-test .taken) (sym (c .before .is-letter-or-digit .ensures) ∙ c .if4 .taken))
+loop-again c =
+    let args = c .before .before .before .before .before .before .before .before .before .before .before .args in
+    let loop = c .before .before .before .before .loop in
+    let loop-test = c .before .before .before .loop-test in (
+      loop .inv .0,
+      naming-more (args .line .now) (args .at) (args .n) (loop .inv .0) (loop .i) (loop .inv .1) (loop-test .taken)
+          (sym (c .before .is-letter-or-digit .ensures) ∙ c .if4 .taken),
+    )
 
 returns-3 : tie.Need-returns-3 Inv-loop μ-loop
-returns-3 c = naming-stop (c .before .before .before .before .before .before .before .before .before .before .before .args .line .now) (c .before .before .before .before .before .before .before .before .before .before .before .args .at) (c .before .before .before .before .before .before .before .before .before .before .before .args .n) (c .before .before .before .before .loop .inv .0) (c .before .before .before .before .loop .i) (c .before .before .before .before .loop .inv .1) (c .before .before .before .loop-test .taken) (sym (c .before .is-letter-or-digit .ensures) ∙ c .if4 .left)
+returns-3 c =
+    let args = c .before .before .before .before .before .before .before .before .before .before .before .args in
+    let loop = c .before .before .before .before .loop in
+    let loop-test = c .before .before .before .loop-test in
+    naming-stop (args .line .now) (args .at) (args .n) (loop .inv .0) (loop .i) (loop .inv .1) (loop-test .taken)
+    (sym (c .before .is-letter-or-digit .ensures) ∙ c .if4 .left)
 
 returns-4 : tie.Need-returns-4 Inv-loop μ-loop
-returns-4 c = naming-end (c .before .before .before .before .before .before .before .before .args .line .now) (c .before .before .before .before .before .before .before .before .args .at) (c .before .before .before .before .before .before .before .before .args .n) (c .before .loop .inv .0) (c .before .loop .i) (c .before .loop .inv .1) (c .loop-test .left)
+returns-4 c =
+    let args = c .before .before .before .before .before .before .before .before .args in
+    let loop = c .before .loop in
+    naming-end (args .line .now) (args .at) (args .n) (loop .inv .0) (loop .i) (loop .inv .1) (c .loop-test .left)
 
 returns-5 : tie.Need-returns-5 Inv-loop μ-loop
-returns-5 c = no-letter (c .before .before .before .before .before .before .args .line .now) (c .before .before .before .before .before .before .args .at) (c .before .before .before .before .before .before .args .n) (c .before .before .before .before .before .before .pre) (c .before .before .before .before .if1 .left) (sym (c .before .is-letter .ensures) ∙ c .if3 .left)
+returns-5 c =
+    let args = c .before .before .before .before .before .before .args in
+    let pre = c .before .before .before .before .before .before .pre in
+    let if1 = c .before .before .before .before .if1 in
+    no-letter (args .line .now) (args .at) (args .n) (pre) (if1 .left) (sym (c .before .is-letter .ensures) ∙ c .if3 .left)
 
 pub is-name-spec : {M : Type 1} → statement M
 is-name-spec =

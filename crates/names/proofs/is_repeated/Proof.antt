@@ -38,19 +38,40 @@ element-copy-out-same-marked-3 : tie.Need-element-copy-out-same-marked-3 Inv-loo
 element-copy-out-same-marked-3 c = omega (arith, c .before .before .before .before .before .pre .0)
 
 same-marked-requires : tie.Need-same-marked-requires Inv-loop μ-loop
-same-marked-requires c κs = (c .before .before .before .before .before .before .pre .2 (c .before .before .before .before .loop .k - 1) (omega arith), c .before .before .before .before .before .before .pre .1, c .before .before .before .before .before .before .pre .3 (c .before .before .before .before .loop .k - 1) (omega arith), c .before .before .before .before .before .before .pre .4)
+same-marked-requires c κs =
+    let pre = c .before .before .before .before .before .before .pre in
+    let loop = c .before .before .before .before .loop in
+    (pre .2 (loop .k - 1) (omega arith), pre .1, pre .3 (loop .k - 1) (omega arith), pre .4)
 
 returns : tie.Need-returns Inv-loop μ-loop
-returns c = sym (c .before .before .before .before .before .before .loop .inv .1 ∙ repeats-hit (c .before .before .before .before .before .before .before .before .args .line .now) (c .before .before .before .before .before .before .before .before .args .starts .now) (c .before .before .before .before .before .before .before .before .args .lengths .now) (take (c .before .before .before .before .before .before .before .before .args .n) (drop (c .before .before .before .before .before .before .before .before .args .at) (c .before .before .before .before .before .before .before .before .args .line .now))) (c .before .before .before .before .before .before .loop .k) (c .before .same-marked .result) (λ e. omega arith) (c .before .same-marked .ensures) (c .if1 .taken))
+returns c =
+    let args = c .before .before .before .before .before .before .before .before .args in
+    let loop = c .before .before .before .before .before .before .loop in
+    let same-marked = c .before .same-marked in
+    sym (loop .inv .1
+    ∙ repeats-hit (args .line .now) (args .starts .now) (args .lengths .now) (take (args .n) (drop (args .at) (args .line .now))) (loop .k)
+    (same-marked .result) (λ e. omega arith) (same-marked .ensures) (c .if1 .taken))
 
 loop-less : tie.Need-loop-less Inv-loop μ-loop
 loop-less c = omega arith
 
 loop-again : tie.Need-loop-again Inv-loop μ-loop
-loop-again c = (omega arith, c .before .before .before .before .before .before .loop .inv .1 ∙ repeats-miss (c .before .before .before .before .before .before .before .before .args .line .now) (c .before .before .before .before .before .before .before .before .args .starts .now) (c .before .before .before .before .before .before .before .before .args .lengths .now) (take (c .before .before .before .before .before .before .before .before .args .n) (drop (c .before .before .before .before .before .before .before .before .args .at) (c .before .before .before .before .before .before .before .before .args .line .now))) (c .before .before .before .before .before .before .loop .k) (c .before .same-marked .result) (λ e. omega arith) (c .before .same-marked .ensures) (c .if1 .left))
+loop-again c =
+    let args = c .before .before .before .before .before .before .before .before .args in
+    let loop = c .before .before .before .before .before .before .loop in
+    let same-marked = c .before .same-marked in (
+      omega arith,
+      loop .inv .1
+          ∙ repeats-miss (args .line .now) (args .starts .now) (args .lengths .now) (take (args .n) (drop (args .at) (args .line .now))) (loop .k)
+          (same-marked .result) (λ e. omega arith) (same-marked .ensures) (c .if1 .left),
+    )
 
 returns-2 : tie.Need-returns-2 Inv-loop μ-loop
-returns-2 c = sym (c .before .loop .inv .1 ∙ repeats-none (c .before .before .before .args .line .now) (c .before .before .before .args .starts .now) (c .before .before .before .args .lengths .now) (take (c .before .before .before .args .n) (drop (c .before .before .before .args .at) (c .before .before .before .args .line .now))) (c .before .loop .k) (omega arith))
+returns-2 c =
+    let args = c .before .before .before .args in
+    let loop = c .before .loop in
+    sym (loop .inv .1
+    ∙ repeats-none (args .line .now) (args .starts .now) (args .lengths .now) (take (args .n) (drop (args .at) (args .line .now))) (loop .k) (omega arith))
 
 pub is-repeated-spec : {M : Type 1} → statement M
 is-repeated-spec =

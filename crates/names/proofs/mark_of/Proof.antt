@@ -42,10 +42,21 @@ loop-less : tie.Need-loop-less Inv-loop μ-loop
 loop-less c = omega (arith, c .before .loop-test .taken)
 
 loop-again : tie.Need-loop-again Inv-loop μ-loop
-loop-again c = (c .before .before .loop .inv .0, omega (arith, c .before .loop-test .taken), omega arith, mark-more (c .before .before .before .args .line .now) (c .before .before .before .args .at) (c .before .before .before .args .n) (c .before .before .loop .inv .0) (c .before .before .loop .i) (c .before .before .loop .h) (c .before .loop-test .taken) (c .before .before .loop .inv .3))
+loop-again c =
+    let args = c .before .before .before .args in
+    let loop = c .before .before .loop in
+    let loop-test = c .before .loop-test in (
+      loop .inv .0,
+      omega (arith, loop-test .taken),
+      omega arith,
+      mark-more (args .line .now) (args .at) (args .n) (loop .inv .0) (loop .i) (loop .h) (loop-test .taken) (loop .inv .3),
+    )
 
 returns : tie.Need-returns Inv-loop μ-loop
-returns c = mark-done (c .before .before .args .line .now) (c .before .before .args .at) (c .before .before .args .n) (c .before .loop .inv .0) (c .before .loop .i) (c .before .loop .h) (c .before .loop .inv .1) (c .loop-test .left) (c .before .loop .inv .3)
+returns c =
+    let args = c .before .before .args in
+    let loop = c .before .loop in
+    mark-done (args .line .now) (args .at) (args .n) (loop .inv .0) (loop .i) (loop .h) (loop .inv .1) (c .loop-test .left) (loop .inv .3)
 
 pub mark-of-spec : {M : Type 1} → statement M
 mark-of-spec =

@@ -37,61 +37,158 @@ no-names-requires : tie.Need-no-names-requires Inv-loop μ-loop
 no-names-requires c κs = tt
 
 returns-2 : tie.Need-returns-2 Inv-loop μ-loop
-returns-2 c = c .no-names .ensures ∙ no-entry (c .before .before .before .before .before .before .before .before .args .line .now) (c .before .before .before .before .before .loop .starts) (c .before .before .before .before .before .loop .lengths) (c .before .before .before .before .before .loop .kinds) (c .before .before .before .before .before .loop .count) (c .before .before .before .before .before .loop .at) (c .before .before .before .before .entry-end .result) (c .before .before .before .before .before .loop .inv .0) (c .before .before .before .before .entry-end .ensures) (c .before .before .before .entry-at .result) (c .before .before .before .entry-at .ensures) (c .before .enum-told .given .1)
+returns-2 c =
+    let args = c .before .before .before .before .before .before .before .before .args in
+    let loop = c .before .before .before .before .before .loop in
+    let entry-end = c .before .before .before .before .entry-end in
+    let entry-at = c .before .before .before .entry-at in
+    c .no-names .ensures
+    ∙ no-entry (args .line .now) (loop .starts) (loop .lengths) (loop .kinds) (loop .count) (loop .at) (entry-end .result) (loop .inv .0)
+    (entry-end .ensures) (entry-at .result) (entry-at .ensures) (c .before .enum-told .given .1)
 
 no-names-requires-2 : tie.Need-no-names-requires-2 Inv-loop μ-loop
 no-names-requires-2 c κs = tt
 
 returns-3 : tie.Need-returns-3 Inv-loop μ-loop
-returns-3 c = c .no-names2 .ensures ∙ too-many (c .before .before .before .before .before .before .before .before .before .before .args .line .now) (c .before .before .before .before .before .before .before .loop .starts) (c .before .before .before .before .before .before .before .loop .lengths) (c .before .before .before .before .before .before .before .loop .kinds) (c .before .before .before .before .before .before .before .loop .count) (c .before .before .before .before .before .before .before .loop .at) (c .before .before .before .before .before .before .entry-end .result) (c .before .before .before .before .before .before .before .loop .inv .0) (c .before .before .before .before .before .before .entry-end .ensures) (c .before .before .before .found .given .0 .0) (c .before .before .before .found .given .0 .1 .0) (found (c .before .before .before .before .before .before .before .before .before .before .args .line .now) (c .before .before .before .before .before .before .before .loop .at) (c .before .before .before .before .before .before .entry-end .result) (c .before .before .before .found .given .0 .0) (c .before .before .before .found .given .0 .1 .0) (c .before .before .before .before .before .entry-at .result) (c .before .before .before .before .before .before .entry-end .ensures) (c .before .before .before .before .before .entry-at .ensures) (c .before .before .before .found .given .1)) (c .before .if2 .taken)
+returns-3 c =
+    let args = c .before .before .before .before .before .before .before .before .before .before .args in
+    let loop = c .before .before .before .before .before .before .before .loop in
+    let entry-end = c .before .before .before .before .before .before .entry-end in
+    let entry-at = c .before .before .before .before .before .entry-at in
+    let found2 = c .before .before .before .found in
+    c .no-names2 .ensures
+    ∙ too-many (args .line .now) (loop .starts) (loop .lengths) (loop .kinds) (loop .count) (loop .at) (entry-end .result) (loop .inv .0)
+    (entry-end .ensures) (found2 .given .0 .0) (found2 .given .0 .1 .0)
+    (found (args .line .now) (loop .at) (entry-end .result) (found2 .given .0 .0) (found2 .given .0 .1 .0) (entry-at .result) (entry-end .ensures)
+    (entry-at .ensures) (found2 .given .1))
+    (c .before .if2 .taken)
 
 mark-of-requires : tie.Need-mark-of-requires Inv-loop μ-loop
-mark-of-requires c κs = found (c .before .before .before .before .before .before .before .before .before .args .line .now) (c .before .before .before .before .before .before .loop .at) (c .before .before .before .before .before .entry-end .result) (c .before .before .found .given .0 .0) (c .before .before .found .given .0 .1 .0) (c .before .before .before .before .entry-at .result) (c .before .before .before .before .before .entry-end .ensures) (c .before .before .before .before .entry-at .ensures) (c .before .before .found .given .1) .inside
+mark-of-requires c κs =
+    let args = c .before .before .before .before .before .before .before .before .before .args in
+    let loop = c .before .before .before .before .before .before .loop in
+    let entry-end = c .before .before .before .before .before .entry-end in
+    let entry-at = c .before .before .before .before .entry-at in
+    let found2 = c .before .before .found in
+    found (args .line .now) (loop .at) (entry-end .result) (found2 .given .0 .0) (found2 .given .0 .1 .0) (entry-at .result) (entry-end .ensures)
+    (entry-at .ensures) (found2 .given .1) .inside
 
 is-repeated-requires : tie.Need-is-repeated-requires Inv-loop μ-loop
-is-repeated-requires c κs = (c .before .before .before .before .before .before .before .before .before .before .loop .inv .0 .few, found (c .before .before .before .before .before .before .before .before .before .before .before .before .before .args .line .now) (c .before .before .before .before .before .before .before .before .before .before .loop .at) (c .before .before .before .before .before .before .before .before .before .entry-end .result) (c .before .before .before .before .before .before .found .given .0 .0) (c .before .before .before .before .before .before .found .given .0 .1 .0) (c .before .before .before .before .before .before .before .before .entry-at .result) (c .before .before .before .before .before .before .before .before .before .entry-end .ensures) (c .before .before .before .before .before .before .before .before .entry-at .ensures) (c .before .before .before .before .before .before .found .given .1) .inside, c .before .before .before .before .before .before .before .before .before .before .loop .inv .0 .listed, c .before .before .before .before .before .before .before .before .before .before .loop .inv .2, c .before .before .before .mark-of .ensures)
+is-repeated-requires c κs =
+    let args = c .before .before .before .before .before .before .before .before .before .before .before .before .before .args in
+    let loop = c .before .before .before .before .before .before .before .before .before .before .loop in
+    let entry-end = c .before .before .before .before .before .before .before .before .before .entry-end in
+    let entry-at = c .before .before .before .before .before .before .before .before .entry-at in
+    let found2 = c .before .before .before .before .before .before .found in
+    let mark-of = c .before .before .before .mark-of in (
+      loop .inv .0 .few,
+      found (args .line .now) (loop .at) (entry-end .result) (found2 .given .0 .0) (found2 .given .0 .1 .0) (entry-at .result) (entry-end .ensures)
+          (entry-at .ensures) (found2 .given .1) .inside,
+      loop .inv .0 .listed,
+      loop .inv .2,
+      mark-of .ensures,
+    )
 
 no-names-requires-3 : tie.Need-no-names-requires-3 Inv-loop μ-loop
 no-names-requires-3 c κs = tt
 
 returns-4 : tie.Need-returns-4 Inv-loop μ-loop
-returns-4 c = c .no-names3 .ensures ∙ repeated (c .before .before .before .before .before .before .before .before .before .before .before .before .before .before .before .before .args .line .now) (c .before .before .before .before .before .before .before .before .before .before .before .before .before .loop .starts) (c .before .before .before .before .before .before .before .before .before .before .before .before .before .loop .lengths) (c .before .before .before .before .before .before .before .before .before .before .before .before .before .loop .kinds) (c .before .before .before .before .before .before .before .before .before .before .before .before .before .loop .count) (c .before .before .before .before .before .before .before .before .before .before .before .before .before .loop .at) (c .before .before .before .before .before .before .before .before .before .before .before .before .entry-end .result) (c .before .before .before .before .before .before .before .before .before .before .before .before .before .loop .inv .0) (c .before .before .before .before .before .before .before .before .before .before .before .before .entry-end .ensures) (c .before .before .before .before .before .before .before .before .before .found .given .0 .0) (c .before .before .before .before .before .before .before .before .before .found .given .0 .1 .0) (found (c .before .before .before .before .before .before .before .before .before .before .before .before .before .before .before .before .args .line .now) (c .before .before .before .before .before .before .before .before .before .before .before .before .before .loop .at) (c .before .before .before .before .before .before .before .before .before .before .before .before .entry-end .result) (c .before .before .before .before .before .before .before .before .before .found .given .0 .0) (c .before .before .before .before .before .before .before .before .before .found .given .0 .1 .0) (c .before .before .before .before .before .before .before .before .before .before .before .entry-at .result) (c .before .before .before .before .before .before .before .before .before .before .before .before .entry-end .ensures) (c .before .before .before .before .before .before .before .before .before .before .before .entry-at .ensures) (c .before .before .before .before .before .before .before .before .before .found .given .1)) (c .before .before .is-repeated .result) (c .before .before .is-repeated .ensures) (c .before .if3 .taken)
+returns-4 c =
+    let args = c .before .before .before .before .before .before .before .before .before .before .before .before .before .before .before .before .args in
+    let loop = c .before .before .before .before .before .before .before .before .before .before .before .before .before .loop in
+    let entry-end = c .before .before .before .before .before .before .before .before .before .before .before .before .entry-end in
+    let entry-at = c .before .before .before .before .before .before .before .before .before .before .before .entry-at in
+    let found2 = c .before .before .before .before .before .before .before .before .before .found in
+    let is-repeated = c .before .before .is-repeated in
+    c .no-names3 .ensures
+    ∙ repeated (args .line .now) (loop .starts) (loop .lengths) (loop .kinds) (loop .count) (loop .at) (entry-end .result) (loop .inv .0)
+    (entry-end .ensures) (found2 .given .0 .0) (found2 .given .0 .1 .0)
+    (found (args .line .now) (loop .at) (entry-end .result) (found2 .given .0 .0) (found2 .given .0 .1 .0) (entry-at .result) (entry-end .ensures)
+    (entry-at .ensures) (found2 .given .1))
+    (is-repeated .result) (is-repeated .ensures) (c .before .if3 .taken)
 
 mul-starts : tie.Need-mul-starts Inv-loop μ-loop
 mul-starts c = omega (arith, c .before .before .before .before .before .before .before .before .before .before .before .before .loop .inv .0 .few)
 
 array-write-starts : tie.Need-array-write-starts Inv-loop μ-loop
-array-write-starts c = omega (arith, c .before .before .before .before .before .before .before .before .before .before .before .before .loop .inv .0 .few, c .before .before .before .before .before .before .if2 .left)
+array-write-starts c =
+    let loop = c .before .before .before .before .before .before .before .before .before .before .before .before .loop in
+    let if2 = c .before .before .before .before .before .before .if2 in
+    omega (arith, loop .inv .0 .few, if2 .left)
 
 mul-lengths : tie.Need-mul-lengths Inv-loop μ-loop
 mul-lengths c = omega (arith, c .before .before .before .before .before .before .before .before .before .before .before .before .loop .inv .0 .few)
 
 array-write-lengths : tie.Need-array-write-lengths Inv-loop μ-loop
-array-write-lengths c = omega (arith, c .before .before .before .before .before .before .before .before .before .before .before .before .loop .inv .0 .few, c .before .before .before .before .before .before .if2 .left)
+array-write-lengths c =
+    let loop = c .before .before .before .before .before .before .before .before .before .before .before .before .loop in
+    let if2 = c .before .before .before .before .before .before .if2 in
+    omega (arith, loop .inv .0 .few, if2 .left)
 
 mul-marks : tie.Need-mul-marks Inv-loop μ-loop
 mul-marks c = omega (arith, c .before .before .before .before .before .before .before .before .before .before .before .before .loop .inv .0 .few)
 
 array-write-marks : tie.Need-array-write-marks Inv-loop μ-loop
-array-write-marks c = omega (arith, c .before .before .before .before .before .before .before .before .before .before .before .before .loop .inv .0 .few, c .before .before .before .before .before .before .if2 .left)
+array-write-marks c =
+    let loop = c .before .before .before .before .before .before .before .before .before .before .before .before .loop in
+    let if2 = c .before .before .before .before .before .before .if2 in
+    omega (arith, loop .inv .0 .few, if2 .left)
 
 array-write-kinds : tie.Need-array-write-kinds Inv-loop μ-loop
-array-write-kinds c = omega (arith, c .before .before .before .before .before .before .before .before .before .before .before .before .loop .inv .0 .few, c .before .before .before .before .before .before .if2 .left)
+array-write-kinds c =
+    let loop = c .before .before .before .before .before .before .before .before .before .before .before .before .loop in
+    let if2 = c .before .before .before .before .before .before .if2 in
+    omega (arith, loop .inv .0 .few, if2 .left)
 
 add-count : tie.Need-add-count Inv-loop μ-loop
 add-count c = omega (arith, c .before .before .before .before .before .before .before .before .before .before .before .before .loop .inv .0 .few)
 
 returns-5 : tie.Need-returns-5 Inv-loop μ-loop
-returns-5 c = listing-done (c .before .before .before .before .before .before .before .before .before .before .before .before .before .before .before .before .args .line .now) (c .before .before .before .before .before .before .before .before .before .before .before .before .before .loop .starts) (c .before .before .before .before .before .before .before .before .before .before .before .before .before .loop .lengths) (c .before .before .before .before .before .before .before .before .before .before .before .before .before .loop .kinds) (c .before .before .before .before .before .before .before .before .before .before .before .before .before .loop .count) (c .before .before .before .before .before .before .before .before .before .before .before .before .before .loop .at) (c .before .before .before .before .before .before .before .before .before .before .before .before .entry-end .result) (c .before .before .before .before .before .before .before .before .before .before .before .before .before .loop .inv .0) (c .before .before .before .before .before .before .before .before .before .before .before .before .entry-end .ensures) (c .before .before .before .before .before .before .before .before .before .found .given .0 .0) (c .before .before .before .before .before .before .before .before .before .found .given .0 .1 .0) (found (c .before .before .before .before .before .before .before .before .before .before .before .before .before .before .before .before .args .line .now) (c .before .before .before .before .before .before .before .before .before .before .before .before .before .loop .at) (c .before .before .before .before .before .before .before .before .before .before .before .before .entry-end .result) (c .before .before .before .before .before .before .before .before .before .found .given .0 .0) (c .before .before .before .before .before .before .before .before .before .found .given .0 .1 .0) (c .before .before .before .before .before .before .before .before .before .before .before .entry-at .result) (c .before .before .before .before .before .before .before .before .before .before .before .before .entry-end .ensures) (c .before .before .before .before .before .before .before .before .before .before .before .entry-at .ensures) (c .before .before .before .before .before .before .before .before .before .found .given .1)) (c .before .before .is-repeated .result) (c .before .before .is-repeated .ensures) (c .before .if3 .left) (c .before .before .before .before .before .before .before .if2 .left) (c .if4 .taken)
+returns-5 c =
+    let args = c .before .before .before .before .before .before .before .before .before .before .before .before .before .before .before .before .args in
+    let loop = c .before .before .before .before .before .before .before .before .before .before .before .before .before .loop in
+    let entry-end = c .before .before .before .before .before .before .before .before .before .before .before .before .entry-end in
+    let entry-at = c .before .before .before .before .before .before .before .before .before .before .before .entry-at in
+    let found2 = c .before .before .before .before .before .before .before .before .before .found in
+    let if2 = c .before .before .before .before .before .before .before .if2 in
+    let is-repeated = c .before .before .is-repeated in
+    listing-done (args .line .now) (loop .starts) (loop .lengths) (loop .kinds) (loop .count) (loop .at) (entry-end .result) (loop .inv .0)
+    (entry-end .ensures) (found2 .given .0 .0) (found2 .given .0 .1 .0)
+    (found (args .line .now) (loop .at) (entry-end .result) (found2 .given .0 .0) (found2 .given .0 .1 .0) (entry-at .result) (entry-end .ensures)
+    (entry-at .ensures) (found2 .given .1))
+    (is-repeated .result) (is-repeated .ensures) (c .before .if3 .left) (if2 .left) (c .if4 .taken)
 
 add-at : tie.Need-add-at Inv-loop μ-loop
-add-at c = omega (arith, c .before .before .before .before .before .before .before .before .before .before .before .before .entry-end .ensures .inside, c .before .before .before .before .before .before .before .before .before .before .before .before .before .before .before .before .good .0 .0)
+add-at c =
+    let good = c .before .before .before .before .before .before .before .before .before .before .before .before .before .before .before .before .good in
+    let entry-end = c .before .before .before .before .before .before .before .before .before .before .before .before .entry-end in
+    omega (arith, entry-end .ensures .inside, good .0 .0)
 
 loop-less : tie.Need-loop-less Inv-loop μ-loop
 loop-less c = let u = c .before .before .before .before .before .before .before .before .before .before .before .before .entry-end .ensures in omega (arith, u .from, u .inside, c .if4 .left)
 
 loop-again : tie.Need-loop-again Inv-loop μ-loop
-loop-again c = (listing-more (c .before .before .before .before .before .before .before .before .before .before .before .before .before .before .before .before .args .line .now) (c .before .before .before .before .before .before .before .before .before .before .before .before .before .loop .starts) (c .before .before .before .before .before .before .before .before .before .before .before .before .before .loop .lengths) (c .before .before .before .before .before .before .before .before .before .before .before .before .before .loop .kinds) (c .before .before .before .before .before .before .before .before .before .before .before .before .before .loop .count) (c .before .before .before .before .before .before .before .before .before .before .before .before .before .loop .at) (c .before .before .before .before .before .before .before .before .before .before .before .before .entry-end .result) (c .before .before .before .before .before .before .before .before .before .before .before .before .before .loop .inv .0) (c .before .before .before .before .before .before .before .before .before .before .before .before .entry-end .ensures) (c .before .before .before .before .before .before .before .before .before .found .given .0 .0) (c .before .before .before .before .before .before .before .before .before .found .given .0 .1 .0) (found (c .before .before .before .before .before .before .before .before .before .before .before .before .before .before .before .before .args .line .now) (c .before .before .before .before .before .before .before .before .before .before .before .before .before .loop .at) (c .before .before .before .before .before .before .before .before .before .before .before .before .entry-end .result) (c .before .before .before .before .before .before .before .before .before .found .given .0 .0) (c .before .before .before .before .before .before .before .before .before .found .given .0 .1 .0) (c .before .before .before .before .before .before .before .before .before .before .before .entry-at .result) (c .before .before .before .before .before .before .before .before .before .before .before .before .entry-end .ensures) (c .before .before .before .before .before .before .before .before .before .before .before .entry-at .ensures) (c .before .before .before .before .before .before .before .before .before .found .given .1)) (c .before .before .is-repeated .result) (c .before .before .is-repeated .ensures) (c .before .if3 .left) (c .before .before .before .before .before .before .before .if2 .left) (c .if4 .left), length-set (c .before .before .before .before .before .before .before .before .before .before .before .before .before .loop .marks) (c .before .before .before .before .before .before .before .before .before .before .before .before .before .loop .count) (c .before .before .before .before .before .before .mark-of .result) ∙ c .before .before .before .before .before .before .before .before .before .before .before .before .before .loop .inv .1, marked-more (c .before .before .before .before .before .before .before .before .before .before .before .before .before .before .before .before .args .line .now) (c .before .before .before .before .before .before .before .before .before .before .before .before .before .loop .starts) (c .before .before .before .before .before .before .before .before .before .before .before .before .before .loop .lengths) (c .before .before .before .before .before .before .before .before .before .before .before .before .before .loop .kinds) (c .before .before .before .before .before .before .before .before .before .before .before .before .before .loop .count) (c .before .before .before .before .before .before .before .before .before .before .before .before .before .loop .at) (c .before .before .before .before .before .before .before .before .before .before .before .before .entry-end .result) (c .before .before .before .before .before .before .before .before .before .before .before .before .before .loop .inv .0) (c .before .before .before .before .before .before .before .before .before .before .before .before .entry-end .ensures) (c .before .before .before .before .before .before .before .before .before .found .given .0 .0) (c .before .before .before .before .before .before .before .before .before .found .given .0 .1 .0) (found (c .before .before .before .before .before .before .before .before .before .before .before .before .before .before .before .before .args .line .now) (c .before .before .before .before .before .before .before .before .before .before .before .before .before .loop .at) (c .before .before .before .before .before .before .before .before .before .before .before .before .entry-end .result) (c .before .before .before .before .before .before .before .before .before .found .given .0 .0) (c .before .before .before .before .before .before .before .before .before .found .given .0 .1 .0) (c .before .before .before .before .before .before .before .before .before .before .before .entry-at .result) (c .before .before .before .before .before .before .before .before .before .before .before .before .entry-end .ensures) (c .before .before .before .before .before .before .before .before .before .before .before .entry-at .ensures) (c .before .before .before .before .before .before .before .before .before .found .given .1)) (c .before .before .is-repeated .result) (c .before .before .is-repeated .ensures) (c .before .if3 .left) (c .before .before .before .before .before .before .before .if2 .left) (c .before .before .before .before .before .before .before .before .before .before .before .before .before .loop .marks) (c .before .before .before .before .before .before .mark-of .result) (c .before .before .before .before .before .before .before .before .before .before .before .before .before .loop .inv .1) (c .before .before .before .before .before .before .before .before .before .before .before .before .before .loop .inv .2) (c .before .before .before .before .before .before .mark-of .ensures))
+loop-again c =
+    let args = c .before .before .before .before .before .before .before .before .before .before .before .before .before .before .before .before .args in
+    let loop = c .before .before .before .before .before .before .before .before .before .before .before .before .before .loop in
+    let entry-end = c .before .before .before .before .before .before .before .before .before .before .before .before .entry-end in
+    let entry-at = c .before .before .before .before .before .before .before .before .before .before .before .entry-at in
+    let found2 = c .before .before .before .before .before .before .before .before .before .found in
+    let if2 = c .before .before .before .before .before .before .before .if2 in
+    let mark-of = c .before .before .before .before .before .before .mark-of in
+    let is-repeated = c .before .before .is-repeated in
+    let if3 = c .before .if3 in
+    let the-found =
+    found (args .line .now) (loop .at) (entry-end .result) (found2 .given .0 .0) (found2 .given .0 .1 .0) (entry-at .result) (entry-end .ensures)
+    (entry-at .ensures) (found2 .given .1) in (
+      listing-more (args .line .now) (loop .starts) (loop .lengths) (loop .kinds) (loop .count) (loop .at) (entry-end .result) (loop .inv .0)
+          (entry-end .ensures) (found2 .given .0 .0) (found2 .given .0 .1 .0) the-found (is-repeated .result) (is-repeated .ensures) (if3 .left) (if2 .left)
+          (c .if4 .left),
+      length-set (loop .marks) (loop .count) (mark-of .result) ∙ loop .inv .1,
+      marked-more (args .line .now) (loop .starts) (loop .lengths) (loop .kinds) (loop .count) (loop .at) (entry-end .result) (loop .inv .0)
+          (entry-end .ensures) (found2 .given .0 .0) (found2 .given .0 .1 .0) the-found (is-repeated .result) (is-repeated .ensures) (if3 .left) (if2 .left)
+          (loop .marks) (mark-of .result) (loop .inv .1) (loop .inv .2) (mark-of .ensures),
+    )
 
 pub read-names-spec : {M : Type 1} → statement M
 read-names-spec =

@@ -14,7 +14,11 @@ returns : tie.Need-returns
 returns c = search needs
 
 returns-2 : tie.Need-returns-2
-returns-2 c = unlike-marks (take (c .before .before .args .m) (drop (c .before .before .args .a) (c .before .before .args .line .now))) (take (c .before .before .args .n) (drop (c .before .before .args .b) (c .before .before .args .line .now))) (c .before .before .args .x) (c .before .before .args .y) (c .before .before .pre .2) (c .before .before .pre .3) (c .if1 .left)
+returns-2 c =
+    let args = c .before .before .args in
+    let pre = c .before .before .pre in
+    unlike-marks (take (args .m) (drop (args .a) (args .line .now))) (take (args .n) (drop (args .b) (args .line .now))) (args .x) (args .y) (pre .2)
+    (pre .3) (c .if1 .left)
 
 pub same-marked-spec : {M : Type 1} → statement M
 same-marked-spec = tie.close (tie.spec same-name-requires returns returns-2)

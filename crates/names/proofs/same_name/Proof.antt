@@ -12,7 +12,10 @@ abbrev μ-loop : tie.MeasureT-loop
 μ-loop line a m b n i₀ i = m - i
 
 loop-holds : tie.Need-loop-holds Inv-loop μ-loop
-loop-holds c = (c .before .pre .0, c .before .pre .1, alike-start (c .before .args .line .now) (c .before .args .a) (c .before .args .m) (c .before .args .b) (c .before .args .n) (c .before .pre .0) (c .before .pre .1) (c .if1 .taken))
+loop-holds c =
+    let args = c .before .args in
+    let pre = c .before .pre in
+    (pre .0, pre .1, alike-start (args .line .now) (args .a) (args .m) (args .b) (args .n) (pre .0) (pre .1) (c .if1 .taken))
 
 add-if2 : tie.Need-add-if2 Inv-loop μ-loop
 add-if2 c = omega (arith, c .before .loop .inv .0)
@@ -33,13 +36,29 @@ loop-less : tie.Need-loop-less Inv-loop μ-loop
 loop-less c = omega arith
 
 loop-again : tie.Need-loop-again Inv-loop μ-loop
-loop-again c = (c .before .before .before .before .loop .inv .0, c .before .before .before .before .loop .inv .1, alike-more (c .before .before .before .before .before .before .args .line .now) (c .before .before .before .before .before .before .args .a) (c .before .before .before .before .before .before .args .m) (c .before .before .before .before .before .before .args .b) (c .before .before .before .before .before .before .args .n) (c .before .before .before .before .loop .inv .0) (c .before .before .before .before .loop .inv .1) (c .before .before .before .before .loop .i) (c .before .before .before .before .loop .inv .2) (c .before .before .before .loop-test .taken) (c .if2 .taken))
+loop-again c =
+    let args = c .before .before .before .before .before .before .args in
+    let loop = c .before .before .before .before .loop in
+    let loop-test = c .before .before .before .loop-test in (
+      loop .inv .0,
+      loop .inv .1,
+      alike-more (args .line .now) (args .a) (args .m) (args .b) (args .n) (loop .inv .0) (loop .inv .1) (loop .i) (loop .inv .2) (loop-test .taken)
+          (c .if2 .taken),
+    )
 
 returns : tie.Need-returns Inv-loop μ-loop
-returns c = alike-stop (c .before .before .before .before .before .before .args .line .now) (c .before .before .before .before .before .before .args .a) (c .before .before .before .before .before .before .args .m) (c .before .before .before .before .before .before .args .b) (c .before .before .before .before .before .before .args .n) (c .before .before .before .before .loop .inv .0) (c .before .before .before .before .loop .inv .1) (c .before .before .before .before .loop .i) (c .before .before .before .before .loop .inv .2) (c .before .before .before .loop-test .taken) (c .if2 .left)
+returns c =
+    let args = c .before .before .before .before .before .before .args in
+    let loop = c .before .before .before .before .loop in
+    let loop-test = c .before .before .before .loop-test in
+    alike-stop (args .line .now) (args .a) (args .m) (args .b) (args .n) (loop .inv .0) (loop .inv .1) (loop .i) (loop .inv .2) (loop-test .taken)
+    (c .if2 .left)
 
 returns-2 : tie.Need-returns-2 Inv-loop μ-loop
-returns-2 c = alike-end (c .before .before .before .args .line .now) (c .before .before .before .args .a) (c .before .before .before .args .m) (c .before .before .before .args .b) (c .before .before .before .args .n) (c .before .loop .inv .0) (c .before .loop .inv .1) (c .before .loop .i) (c .before .loop .inv .2) (c .loop-test .left)
+returns-2 c =
+    let args = c .before .before .before .args in
+    let loop = c .before .loop in
+    alike-end (args .line .now) (args .a) (args .m) (args .b) (args .n) (loop .inv .0) (loop .inv .1) (loop .i) (loop .inv .2) (c .loop-test .left)
 
 returns-3 : tie.Need-returns-3 Inv-loop μ-loop
 returns-3 c = other-length (c .before .args .line .now) (c .before .args .a) (c .before .args .m) (c .before .args .b) (c .before .args .n) (c .before .pre .0) (c .before .pre .1) (c .if1 .left)

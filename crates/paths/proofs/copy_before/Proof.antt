@@ -36,13 +36,26 @@ loop-less : tie.Need-loop-less Inv-loop μ-loop
 loop-less c = omega arith
 
 loop-again : tie.Need-loop-again Inv-loop μ-loop
-loop-again c = let begin : ℕ = c .before .before .before .args .end - length (c .before .before .before .args .text .now) in (omega arith, omega arith, length-set (c .before .before .loop .out) (begin + c .before .before .loop .i) _ ∙ c .before .before .loop .inv .2, ap (λ (x : List ℕ). set x (begin + c .before .before .loop .i) (getD (c .before .before .before .args .text .now) (c .before .before .loop .i) 0)) (c .before .before .loop .inv .3) ∙ paste-more (c .before .before .before .args .out .now) begin (c .before .before .before .args .text .now) (c .before .before .loop .i) (omega arith) (omega arith))
+loop-again c =
+    let args = c .before .before .before .args in
+    let loop = c .before .before .loop in
+    let begin : ℕ = args .end - length (args .text .now) in (
+      omega arith,
+      omega arith,
+      length-set (loop .out) (begin + loop .i) _ ∙ loop .inv .2,
+      ap (λ (x : List ℕ). set x (begin + loop .i) (getD (args .text .now) (loop .i) 0)) (loop .inv .3)
+          ∙ paste-more (args .out .now) begin (args .text .now) (loop .i) (omega arith) (omega arith),
+    )
 
 same-length : tie.Need-same-length Inv-loop μ-loop
 same-length c = c .before .loop .inv .2
 
 returns : tie.Need-returns Inv-loop μ-loop
-returns c = let e : c .before .loop .i ≡ length (c .before .before .args .text .now) = omega arith in (omega arith, c .before .loop .inv .3 ∙ paste-over (c .before .before .args .out .now) (c .before .before .args .end - length (c .before .before .args .text .now)) (c .before .loop .i) (c .before .before .args .text .now) e)
+returns c =
+    let args = c .before .before .args in
+    let loop = c .before .loop in
+    let e : loop .i ≡ length (args .text .now) = omega arith in
+    (omega arith, loop .inv .3 ∙ paste-over (args .out .now) (args .end - length (args .text .now)) (loop .i) (args .text .now) e)
 
 pub copy-before-spec : {M : Type 1} → statement M
 copy-before-spec =

@@ -36,7 +36,16 @@ loop-less : tie.Need-loop-less Inv-loop μ-loop
 loop-less c = omega arith
 
 loop-again : tie.Need-loop-again Inv-loop μ-loop
-loop-again c = let l = length-large (c .before .loop .left) (c .loop-test .taken) in (length-set (c .before .loop .out) (c .before .loop .at - 1) _ ∙ c .before .loop .inv .0, omega arith, omega arith, digit-more (c .before .loop .out) _ (c .before .loop .left) _ (c .before .loop .at - 1) (c .before .before .args .end - length (decimal (c .before .before .args .n))) (c .loop-test .taken) refl (omega arith) (omega arith) (c .before .loop .inv .3))
+loop-again c =
+    let args = c .before .before .args in
+    let loop = c .before .loop in
+    let l = length-large (loop .left) (c .loop-test .taken) in (
+      length-set (loop .out) (loop .at - 1) _ ∙ loop .inv .0,
+      omega arith,
+      omega arith,
+      digit-more (loop .out) _ (loop .left) _ (loop .at - 1) (args .end - length (decimal (args .n))) (c .loop-test .taken) refl (omega arith) (omega arith)
+          (loop .inv .3),
+    )
 
 sub-at-2 : tie.Need-sub-at-2 Inv-loop μ-loop
 sub-at-2 c = omega (arith, length-small (c .before .loop .left) (c .loop-test .left))
@@ -54,7 +63,16 @@ same-length : tie.Need-same-length Inv-loop μ-loop
 same-length c = length-set (c .before .loop .out) (c .before .loop .at - 1) _ ∙ c .before .loop .inv .0
 
 returns : tie.Need-returns Inv-loop μ-loop
-returns c = let l = length-small (c .before .loop .left) (c .loop-test .left) in let e : c .before .loop .at - 1 ≡ c .before .before .args .end - length (decimal (c .before .before .args .n)) = omega arith in (omega arith, over-one (c .before .loop .out) (c .before .loop .at - 1) _ (omega arith) ∙ ap (λ (xs : List ℕ). over (c .before .loop .out) (c .before .loop .at - 1) xs) (sym (decimal-small (c .before .loop .left) (c .loop-test .left))) ∙ last-digit (c .before .before .args .out .now) (c .before .loop .out) (decimal (c .before .loop .left)) (decimal (c .before .before .args .n)) e (c .before .loop .inv .3))
+returns c =
+    let args = c .before .before .args in
+    let loop = c .before .loop in
+    let l = length-small (loop .left) (c .loop-test .left) in
+    let e : loop .at - 1 ≡ args .end - length (decimal (args .n)) = omega arith in (
+      omega arith,
+      over-one (loop .out) (loop .at - 1) _ (omega arith)
+          ∙ ap (λ (xs : List ℕ). over (loop .out) (loop .at - 1) xs) (sym (decimal-small (loop .left) (c .loop-test .left)))
+          ∙ last-digit (args .out .now) (loop .out) (decimal (loop .left)) (decimal (args .n)) e (loop .inv .3),
+    )
 
 pub number-before-spec : {M : Type 1} → statement M
 number-before-spec =

@@ -13,19 +13,31 @@ slice-aggregate-copy-before : tie.Need-slice-aggregate-copy-before
 slice-aggregate-copy-before c = search needs
 
 copy-before-requires : tie.Need-copy-before-requires
-copy-before-requires c κs = let e : length (step-text (step-of (c .before .before .before .before .args .step))) ≡ 10 = rw (c .before .before .match .keys1) in omega (arith, c .before .before .before .before .pre .0)
+copy-before-requires c κs =
+    let args = c .before .before .before .before .args in
+    let pre = c .before .before .before .before .pre in
+    let match = c .before .before .match in
+    let e : length (step-text (step-of (args .step))) ≡ 10 = rw (match .keys1) in omega (arith, pre .0)
 
 slice-aggregate-copy-before-2 : tie.Need-slice-aggregate-copy-before-2
 slice-aggregate-copy-before-2 c = search needs
 
 copy-before-requires-2 : tie.Need-copy-before-requires-2
-copy-before-requires-2 c κs = let e : length (step-text (step-of (c .before .before .before .before .args .step))) ≡ 5 = rw (c .before .before .match .keys2) in omega (arith, c .before .before .before .before .pre .0)
+copy-before-requires-2 c κs =
+    let args = c .before .before .before .before .args in
+    let pre = c .before .before .before .before .pre in
+    let match = c .before .before .match in
+    let e : length (step-text (step-of (args .step))) ≡ 5 = rw (match .keys2) in omega (arith, pre .0)
 
 slice-aggregate-copy-before-3 : tie.Need-slice-aggregate-copy-before-3
 slice-aggregate-copy-before-3 c = search needs
 
 copy-before-requires-3 : tie.Need-copy-before-requires-3
-copy-before-requires-3 c κs = let e : length (step-text (step-of (c .before .before .before .before .args .step))) ≡ 5 = rw (c .before .before .match .keys3) in omega (arith, c .before .before .before .before .pre .0)
+copy-before-requires-3 c κs =
+    let args = c .before .before .before .before .args in
+    let pre = c .before .before .before .before .pre in
+    let match = c .before .before .match in
+    let e : length (step-text (step-of (args .step))) ≡ 5 = rw (match .keys3) in omega (arith, pre .0)
 
 slice-aggregate-copy-before-4 : tie.Need-slice-aggregate-copy-before-4
 slice-aggregate-copy-before-4 c = search needs
@@ -37,13 +49,20 @@ sub-number-before : tie.Need-sub-number-before
 sub-number-before c = search needs
 
 number-before-requires : tie.Need-number-before-requires
-number-before-requires c κs = let h : 3 ≤ c .before .before .before .before .before .before .before .before .args .step = omega arith in omega (arith, argument-length (c .before .before .before .before .before .before .before .before .args .step) h, c .before .before .before .copy-before4 .kept .0)
+number-before-requires c κs =
+    let args = c .before .before .before .before .before .before .before .before .args in
+    let copy-before4 = c .before .before .before .copy-before4 in
+    let h : 3 ≤ args .step = omega arith in omega (arith, argument-length (args .step) h, copy-before4 .kept .0)
 
 slice-aggregate-copy-before-5 : tie.Need-slice-aggregate-copy-before-5
 slice-aggregate-copy-before-5 c = search needs
 
 copy-before-requires-5 : tie.Need-copy-before-requires-5
-copy-before-requires-5 c κs = let h : 3 ≤ c .before .before .before .before .before .before .before .before .before .before .before .before .before .args .step = omega arith in omega (arith, argument-length (c .before .before .before .before .before .before .before .before .before .before .before .before .before .args .step) h, c .before .before .before .before .before .before .before .before .copy-before4 .kept .0, c .before .before .before .before .number-before .kept .0)
+copy-before-requires-5 c κs =
+    let args = c .before .before .before .before .before .before .before .before .before .before .before .before .before .args in
+    let copy-before4 = c .before .before .before .before .before .before .before .before .copy-before4 in
+    let number-before = c .before .before .before .before .number-before in
+    let h : 3 ≤ args .step = omega arith in omega (arith, argument-length (args .step) h, copy-before4 .kept .0, number-before .kept .0)
 
 same-length : tie.Need-same-length
 same-length c = search needs
@@ -67,7 +86,14 @@ same-length-4 : tie.Need-same-length-4
 same-length-4 c = search needs
 
 returns-4 : tie.Need-returns-4
-returns-4 c = let h : 3 ≤ c .before .before .before .before .before .before .before .before .before .before .before .before .before .before .before .before .args .step = omega arith in argument-written (c .before .before .before .before .before .before .before .before .before .before .before .before .before .before .before .before .args .step) (c .before .before .before .before .before .before .before .before .before .before .before .before .before .before .before .before .args .out .now) _ _ _ (c .before .before .before .before .before .before .before .before .before .before .before .before .before .before .before .before .args .end) _ _ _ h (omega arith) (c .before .before .before .before .before .before .before .before .before .before .before .copy-before4 .ensures .0) (c .before .before .before .before .before .before .before .before .before .before .before .copy-before4 .ensures .1) (c .before .before .before .before .before .before .before .number-before .ensures .0) (c .before .before .before .before .before .before .before .number-before .ensures .1) (c .before .before .copy-before5 .ensures .0) (c .before .before .copy-before5 .ensures .1)
+returns-4 c =
+    let args = c .before .before .before .before .before .before .before .before .before .before .before .before .before .before .before .before .args in
+    let copy-before4 = c .before .before .before .before .before .before .before .before .before .before .before .copy-before4 in
+    let number-before = c .before .before .before .before .before .before .before .number-before in
+    let copy-before5 = c .before .before .copy-before5 in
+    let h : 3 ≤ args .step = omega arith in
+    argument-written (args .step) (args .out .now) _ _ _ (args .end) _ _ _ h (omega arith) (copy-before4 .ensures .0) (copy-before4 .ensures .1)
+    (number-before .ensures .0) (number-before .ensures .1) (copy-before5 .ensures .0) (copy-before5 .ensures .1)
 
 pub step-before-spec : {M : Type 1} → statement M
 step-before-spec =

@@ -47,7 +47,14 @@ word-requires-2 c κs = search needs
 
 step-before-requires : tie.Need-step-before-requires Inv-loop μ-loop
 unfolding length-in
-step-before-requires c κs = (omega (arith, step-fits (c .before .before .before .before .before .before .before .args .b .now) (c .before .before .before .before .before .before .before .args .base) (c .before .before .before .before .before .before .before .args .k) (c .before .before .before .loop .at) (c .word2 .result) (omega arith) (c .before .before .before .loop .inv .1) (c .before .before .before .before .before .before .before .pre .1) (c .word2 .ensures .0)), omega (arith, c .before .before .before .loop .inv .0, c .before .before .before .before .word .ensures .0, c .before .before .before .before .before .before .before .pre .2))
+step-before-requires c κs =
+    let args = c .before .before .before .before .before .before .before .args in
+    let pre = c .before .before .before .before .before .before .before .pre in
+    let word = c .before .before .before .before .word in
+    let loop = c .before .before .before .loop in (
+      omega (arith, step-fits (args .b .now) (args .base) (args .k) (loop .at) (c .word2 .result) (omega arith) (loop .inv .1) (pre .1) (c .word2 .ensures .0)),
+      omega (arith, loop .inv .0, word .ensures .0, pre .2),
+    )
 
 mul-word-3 : tie.Need-mul-word-3 Inv-loop μ-loop
 mul-word-3 c = omega arith
@@ -59,16 +66,31 @@ word-requires-3 : tie.Need-word-requires-3 Inv-loop μ-loop
 word-requires-3 c κs = search needs
 
 loop-less : tie.Need-loop-less Inv-loop μ-loop
-loop-less c = omega (arith, parent-is (c .before .before .before .before .before .before .before .before .before .before .before .args .b .now) (c .before .before .before .before .before .before .before .before .before .before .before .args .base) (c .before .before .before .before .before .before .before .before .before .before .before .args .k) (c .before .before .before .before .before .before .before .loop .at) (c .word3 .result) (omega arith) (c .before .before .before .before .before .before .before .loop .inv .1) (c .before .before .before .before .before .before .before .before .before .before .before .pre .1) (c .word3 .ensures .0))
+loop-less c =
+    let args = c .before .before .before .before .before .before .before .before .before .before .before .args in
+    let pre = c .before .before .before .before .before .before .before .before .before .before .before .pre in
+    let loop = c .before .before .before .before .before .before .before .loop in
+    omega (arith, parent-is (args .b .now) (args .base) (args .k) (loop .at) (c .word3 .result) (omega arith) (loop .inv .1) (pre .1) (c .word3 .ensures .0))
 
 loop-again : tie.Need-loop-again Inv-loop μ-loop
-loop-again c = let w = c .before .before .before .before .word2 .ensures .0 in let p = parent-is (c .before .before .before .before .before .before .before .before .before .before .before .args .b .now) (c .before .before .before .before .before .before .before .before .before .before .before .args .base) (c .before .before .before .before .before .before .before .before .before .before .before .args .k) (c .before .before .before .before .before .before .before .loop .at) (c .word3 .result) (omega arith) (c .before .before .before .before .before .before .before .loop .inv .1) (c .before .before .before .before .before .before .before .before .before .before .before .pre .1) (c .word3 .ensures .0) in
-    let e = c .before .before .before .step-before .ensures .0 ∙ c .before .before .before .before .before .before .before .loop .inv .2 in let l = length-is (c .before .before .before .before .before .before .before .before .before .before .before .args .b .now) (c .before .before .before .before .before .before .before .before .before .before .before .args .base) (c .before .before .before .before .before .before .before .before .before .before .before .args .k) (c .before .before .before .before .before .before .before .before .word .ensures .0) in (
-      c .before .before .before .step-before .kept .0 ∙ c .before .before .before .before .before .before .before .loop .inv .0,
+loop-again c =
+    let args = c .before .before .before .before .before .before .before .before .before .before .before .args in
+    let pre = c .before .before .before .before .before .before .before .before .before .before .before .pre in
+    let word = c .before .before .before .before .before .before .before .before .word in
+    let loop = c .before .before .before .before .before .before .before .loop in
+    let word2 = c .before .before .before .before .word2 in
+    let step-before = c .before .before .before .step-before in
+    let w = word2 .ensures .0 in
+    let p = parent-is (args .b .now) (args .base) (args .k) (loop .at) (c .word3 .result) (omega arith) (loop .inv .1) (pre .1) (c .word3 .ensures .0) in
+    let e = step-before .ensures .0 ∙ loop .inv .2 in
+    let l = length-is (args .b .now) (args .base) (args .k) (word .ensures .0) in (
+      step-before .kept .0 ∙ loop .inv .0,
       omega arith,
-      begin-is (c .before .before .before .before .before .before .before .before .before .before .before .args .b .now) (c .before .before .before .before .before .before .before .before .before .before .before .args .base) (c .before .before .before .before .before .before .before .before .before .before .before .args .k) (c .before .before .before .before .before .before .before .loop .at) (c .word3 .result) (c .before .before .before .before .word2 .result) (c .before .before .before .step-before .result) (omega arith) (c .before .before .before .before .before .before .before .loop .inv .1) (c .before .before .before .before .before .before .before .before .before .before .before .pre .1) w (c .word3 .ensures .0) e,
+      begin-is (args .b .now) (args .base) (args .k) (loop .at) (c .word3 .result) (word2 .result) (step-before .result) (omega arith) (loop .inv .1)
+          (pre .1) w (c .word3 .ensures .0) e,
       omega arith,
-      step-written (c .before .before .before .before .before .before .before .before .before .before .before .args .b .now) (c .before .before .before .before .before .before .before .before .before .before .before .args .base) (c .before .before .before .before .before .before .before .loop .out) _ _ (c .before .before .before .before .before .before .before .before .before .before .before .args .k) (c .before .before .before .before .before .before .before .loop .at) (c .word3 .result) (c .before .before .before .before .word2 .result) (c .before .before .before .step-before .result) (omega arith) (c .before .before .before .before .before .before .before .loop .inv .1) (c .before .before .before .before .before .before .before .before .before .before .before .pre .1) (omega (arith, c .before .before .before .before .before .before .before .loop .inv .0, c .before .before .before .before .before .before .before .before .before .before .before .pre .2)) w (c .word3 .ensures .0) e (c .before .before .before .step-before .ensures .1) (c .before .before .before .before .before .before .before .loop .inv .4),
+      step-written (args .b .now) (args .base) (loop .out) _ _ (args .k) (loop .at) (c .word3 .result) (word2 .result) (step-before .result) (omega arith)
+          (loop .inv .1) (pre .1) (omega (arith, loop .inv .0, pre .2)) w (c .word3 .ensures .0) e (step-before .ensures .1) (loop .inv .4),
     )
 
 slice-aggregate-copy-before : tie.Need-slice-aggregate-copy-before Inv-loop μ-loop
@@ -76,19 +98,48 @@ slice-aggregate-copy-before c = search needs
 
 copy-before-requires : tie.Need-copy-before-requires Inv-loop μ-loop
 unfolding length-in
-copy-before-requires c κs = omega (arith, c .before .before .before .loop .inv .0, c .before .before .before .before .word .ensures .0, c .before .before .before .before .before .before .before .pre .2, root-begin (c .before .before .before .before .before .before .before .args .b .now) (c .before .before .before .before .before .before .before .args .base) (c .before .before .before .before .before .before .before .args .k) (c .before .before .before .loop .at) (c .before .before .before .loop .begin) (omega arith) (c .before .before .before .before .before .before .before .pre .1) (c .before .before .before .loop .inv .2))
+copy-before-requires c κs =
+    let args = c .before .before .before .before .before .before .before .args in
+    let pre = c .before .before .before .before .before .before .before .pre in
+    let word = c .before .before .before .before .word in
+    let loop = c .before .before .before .loop in
+    omega (
+      arith,
+      loop .inv .0,
+      word .ensures .0,
+      pre .2,
+      root-begin (args .b .now) (args .base) (args .k) (loop .at) (loop .begin) (omega arith) (pre .1) (loop .inv .2),
+    )
 
 zero-from-requires : tie.Need-zero-from-requires Inv-loop μ-loop
 unfolding length-in
-zero-from-requires c κs = omega (arith, c .before .before .before .before .before .before .before .loop .inv .0, c .before .before .before .copy-before .kept .0, c .before .before .before .before .before .before .before .before .word .ensures .0, c .before .before .before .before .before .before .before .before .before .before .before .pre .2)
+zero-from-requires c κs =
+    let pre = c .before .before .before .before .before .before .before .before .before .before .before .pre in
+    let word = c .before .before .before .before .before .before .before .before .word in
+    let loop = c .before .before .before .before .before .before .before .loop in
+    let copy-before = c .before .before .before .copy-before in
+    omega (arith, loop .inv .0, copy-before .kept .0, word .ensures .0, pre .2)
 
 same-length : tie.Need-same-length Inv-loop μ-loop
-same-length c = c .before .before .zero-from .kept .0 ∙ c .before .before .before .before .before .before .copy-before .kept .0 ∙ c .before .before .before .before .before .before .before .before .before .before .loop .inv .0
+same-length c =
+    let loop = c .before .before .before .before .before .before .before .before .before .before .loop in
+    let copy-before = c .before .before .before .before .before .before .copy-before in
+    let zero-from = c .before .before .zero-from in
+    zero-from .kept .0 ∙ copy-before .kept .0 ∙ loop .inv .0
 
 returns : tie.Need-returns Inv-loop μ-loop
-returns c = let l = length-is (c .before .before .before .before .before .before .before .before .before .before .before .before .before .before .args .b .now) (c .before .before .before .before .before .before .before .before .before .before .before .before .before .before .args .base) (c .before .before .before .before .before .before .before .before .before .before .before .before .before .before .args .k) (c .before .before .before .before .before .before .before .before .before .before .before .word .ensures .0) in
-    path-written (c .before .before .before .before .before .before .before .before .before .before .before .before .before .before .args .b .now) (c .before .before .before .before .before .before .before .before .before .before .before .before .before .before .args .base) (c .before .before .before .before .before .before .before .before .before .before .before .before .before .before .args .out .now) (c .before .before .before .before .before .before .before .before .before .before .loop .out) _ _ (c .before .before .before .before .before .before .before .before .before .before .before .before .before .before .args .k) (c .before .before .before .before .before .before .before .before .before .before .loop .at) (c .before .before .before .before .before .before .before .before .before .before .before .word .result) (c .before .before .before .before .before .before .copy-before .result) (omega arith) (c .before .before .before .before .before .before .before .before .before .before .before .before .before .before .pre .1) (c .before .before .before .before .before .before .before .before .before .before .before .word .ensures .0) (omega (arith, c .before .before .before .before .before .before .before .before .before .before .before .before .before .before .pre .2)) (c .before .before .before .before .before .before .before .before .before .before .loop .inv .4)
-    (c .before .before .before .before .before .before .copy-before .ensures .0 ∙ root-begin (c .before .before .before .before .before .before .before .before .before .before .before .before .before .before .args .b .now) (c .before .before .before .before .before .before .before .before .before .before .before .before .before .before .args .base) (c .before .before .before .before .before .before .before .before .before .before .before .before .before .before .args .k) (c .before .before .before .before .before .before .before .before .before .before .loop .at) (c .before .before .before .before .before .before .before .before .before .before .loop .begin) (omega arith) (c .before .before .before .before .before .before .before .before .before .before .before .before .before .before .pre .1) (c .before .before .before .before .before .before .before .before .before .before .loop .inv .2)) (c .before .before .before .before .before .before .copy-before .ensures .1) (c .before .before .zero-from .ensures)
+returns c =
+    let args = c .before .before .before .before .before .before .before .before .before .before .before .before .before .before .args in
+    let pre = c .before .before .before .before .before .before .before .before .before .before .before .before .before .before .pre in
+    let word = c .before .before .before .before .before .before .before .before .before .before .before .word in
+    let loop = c .before .before .before .before .before .before .before .before .before .before .loop in
+    let copy-before = c .before .before .before .before .before .before .copy-before in
+    let zero-from = c .before .before .zero-from in
+    let l = length-is (args .b .now) (args .base) (args .k) (word .ensures .0) in
+    path-written (args .b .now) (args .base) (args .out .now) (loop .out) _ _ (args .k) (loop .at) (word .result) (copy-before .result) (omega arith)
+    (pre .1) (word .ensures .0) (omega (arith, pre .2)) (loop .inv .4)
+    (copy-before .ensures .0 ∙ root-begin (args .b .now) (args .base) (args .k) (loop .at) (loop .begin) (omega arith) (pre .1) (loop .inv .2))
+    (copy-before .ensures .1) (zero-from .ensures)
 
 pub write-path-spec : {M : Type 1} → statement M
 write-path-spec =

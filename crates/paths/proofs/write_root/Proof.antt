@@ -21,7 +21,14 @@ same-length : tie.Need-same-length
 same-length c = search needs
 
 returns : tie.Need-returns
-returns c = let z : c .before .before .before .before .before .before .copy-before .result ≡ 0 = omega (arith, c .before .before .before .before .before .before .copy-before .ensures .0) in c .before .before .zero-from .ensures ∙ text-zeroed (c .before .before .before .before .before .before .before .before .before .before .args .out .now) _ (ascii "root") 4 refl (omega arith) (c .before .before .before .before .before .before .copy-before .ensures .1 ∙ ap (λ (x : ℕ). over (c .before .before .before .before .before .before .before .before .before .before .args .out .now) x (ascii "root")) z)
+returns c =
+    let args = c .before .before .before .before .before .before .before .before .before .before .args in
+    let copy-before = c .before .before .before .before .before .before .copy-before in
+    let zero-from = c .before .before .zero-from in
+    let z : copy-before .result ≡ 0 = omega (arith, copy-before .ensures .0) in
+    zero-from .ensures
+    ∙ text-zeroed (args .out .now) _ (ascii "root") 4 refl (omega arith)
+    (copy-before .ensures .1 ∙ ap (λ (x : ℕ). over (args .out .now) x (ascii "root")) z)
 
 pub write-root-spec : {M : Type 1} → statement M
 write-root-spec =

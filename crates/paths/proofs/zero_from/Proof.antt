@@ -26,13 +26,23 @@ loop-less : tie.Need-loop-less Inv-loop μ-loop
 loop-less c = omega arith
 
 loop-again : tie.Need-loop-again Inv-loop μ-loop
-loop-again c = (omega arith, omega arith, length-set (c .before .loop .out) (c .before .loop .i) 0 ∙ c .before .loop .inv .2, zero-more (c .before .before .args .out .now) (c .before .loop .out) (c .before .before .args .at) (c .before .loop .i) (c .before .loop .inv .0) (omega arith) (c .before .loop .inv .2) (c .before .loop .inv .3))
+loop-again c =
+    let args = c .before .before .args in
+    let loop = c .before .loop in (
+      omega arith,
+      omega arith,
+      length-set (loop .out) (loop .i) 0 ∙ loop .inv .2,
+      zero-more (args .out .now) (loop .out) (args .at) (loop .i) (loop .inv .0) (omega arith) (loop .inv .2) (loop .inv .3),
+    )
 
 same-length : tie.Need-same-length Inv-loop μ-loop
 same-length c = c .before .loop .inv .2
 
 returns : tie.Need-returns Inv-loop μ-loop
-returns c = zero-last (c .before .before .args .out .now) (c .before .loop .out) (c .before .before .args .at) (c .before .loop .i) (c .before .loop .inv .0) (omega arith) (c .before .loop .inv .1) (c .before .loop .inv .3)
+returns c =
+    let args = c .before .before .args in
+    let loop = c .before .loop in
+    zero-last (args .out .now) (loop .out) (args .at) (loop .i) (loop .inv .0) (omega arith) (loop .inv .1) (loop .inv .3)
 
 pub zero-from-spec : {M : Type 1} → statement M
 zero-from-spec =

@@ -22,7 +22,9 @@ read-row-requires : tie.Need-read-row-requires Inv-loop μ-loop
 read-row-requires c κs = omega (arith, c .before .before .before .pre .1 .code)
 
 instruction-ok-requires : tie.Need-instruction-ok-requires Inv-loop μ-loop
-instruction-ok-requires c κs = (c .before .before .before .before .pre .0, c .before .before .before .before .pre .1, c .read-row .ensures .0, c .read-row .ensures .1, omega (arith, c .before .before .before .before .pre .1 .entries))
+instruction-ok-requires c κs =
+    let pre = c .before .before .before .before .pre in
+    (pre .0, pre .1, c .read-row .ensures .0, c .read-row .ensures .1, omega (arith, pre .1 .entries))
 
 add-next : tie.Need-add-next Inv-loop μ-loop
 add-next c = omega (arith, c .before .before .before .before .before .before .before .pre .1 .entries, c .before .before .before .read-row .ensures .1 .count)
@@ -34,18 +36,41 @@ loop-less : tie.Need-loop-less Inv-loop μ-loop
 loop-less c = omega arith
 
 loop-again : tie.Need-loop-again Inv-loop μ-loop
-loop-again c = let k = count-is (c .before .before .before .before .before .before .before .args .p .now) (c .before .before .before .before .before .loop .n) (c .before .before .before .before .before .before .before .args .h) (c .before .before .before .read-row .result) (c .before .before .before .before .before .before .before .pre .0) (c .before .before .before .read-row .ensures .0) in (
-  omega arith,
-  omega (arith, entries-is (c .before .before .before .before .before .before .before .args .p .now) (c .before .before .before .before .before .before .before .args .h) (c .before .before .before .before .before .before .before .pre .0), entries-in (c .before .before .before .before .before .before .before .args .p .now) (c .before .before .before .before .before .loop .n) (c .before .before .before .before .before .loop .next) (c .before .before .before .read-row .result .count) k (sym (c .before .before .instruction-ok .ensures) ∙ c .before .if1 .taken)),
-  c .before .before .before .before .before .loop .inv .2 ∙ code-step (c .before .before .before .before .before .before .before .args .p .now) (c .before .before .before .before .before .loop .n) (c .before .before .before .before .before .loop .next) (c .before .before .before .read-row .result .count) (omega (arith, code-is (c .before .before .before .before .before .before .before .args .p .now) (c .before .before .before .before .before .before .before .args .h) (c .before .before .before .before .before .before .before .pre .0))) k ∙ rw (sym (c .before .before .instruction-ok .ensures) ∙ c .before .if1 .taken),
-)
+loop-again c =
+    let args = c .before .before .before .before .before .before .before .args in
+    let pre = c .before .before .before .before .before .before .before .pre in
+    let loop = c .before .before .before .before .before .loop in
+    let read-row = c .before .before .before .read-row in
+    let instruction-ok = c .before .before .instruction-ok in
+    let if1 = c .before .if1 in
+    let the-proof = sym (instruction-ok .ensures) ∙ if1 .taken in
+    let k = count-is (args .p .now) (loop .n) (args .h) (read-row .result) (pre .0) (read-row .ensures .0) in (
+      omega arith,
+      omega (arith, entries-is (args .p .now) (args .h) (pre .0), entries-in (args .p .now) (loop .n) (loop .next) (read-row .result .count) k the-proof),
+      loop .inv .2
+          ∙ code-step (args .p .now) (loop .n) (loop .next) (read-row .result .count) (omega (arith, code-is (args .p .now) (args .h) (pre .0))) k
+          ∙ rw the-proof,
+    )
 
 returns : tie.Need-returns Inv-loop μ-loop
-returns c = let k = count-is (c .before .before .before .before .before .before .args .p .now) (c .before .before .before .before .loop .n) (c .before .before .before .before .before .before .args .h) (c .before .before .read-row .result) (c .before .before .before .before .before .before .pre .0) (c .before .before .read-row .ensures .0) in
-    sym (c .before .before .before .before .loop .inv .2 ∙ code-step (c .before .before .before .before .before .before .args .p .now) (c .before .before .before .before .loop .n) (c .before .before .before .before .loop .next) (c .before .before .read-row .result .count) (omega (arith, code-is (c .before .before .before .before .before .before .args .p .now) (c .before .before .before .before .before .before .args .h) (c .before .before .before .before .before .before .pre .0))) k ∙ rw (sym (c .before .instruction-ok .ensures) ∙ c .if1 .left))
+returns c =
+    let args = c .before .before .before .before .before .before .args in
+    let pre = c .before .before .before .before .before .before .pre in
+    let loop = c .before .before .before .before .loop in
+    let read-row = c .before .before .read-row in
+    let k = count-is (args .p .now) (loop .n) (args .h) (read-row .result) (pre .0) (read-row .ensures .0) in
+    sym (loop .inv .2
+    ∙ code-step (args .p .now) (loop .n) (loop .next) (read-row .result .count) (omega (arith, code-is (args .p .now) (args .h) (pre .0))) k
+    ∙ rw (sym (c .before .instruction-ok .ensures) ∙ c .if1 .left))
 
 returns-2 : tie.Need-returns-2 Inv-loop μ-loop
-returns-2 c = sym (c .before .before .loop .inv .2 ∙ code-end (c .before .before .before .before .args .p .now) (c .before .before .loop .n) (c .before .before .loop .next) (omega (arith, code-is (c .before .before .before .before .args .p .now) (c .before .before .before .before .args .h) (c .before .before .before .before .pre .0))) ∙ ap (λ (x : ℕ). eqb (c .before .before .loop .next) x) (sym (entries-is (c .before .before .before .before .args .p .now) (c .before .before .before .before .args .h) (c .before .before .before .before .pre .0))))
+returns-2 c =
+    let args = c .before .before .before .before .args in
+    let pre = c .before .before .before .before .pre in
+    let loop = c .before .before .loop in
+    sym (loop .inv .2
+    ∙ code-end (args .p .now) (loop .n) (loop .next) (omega (arith, code-is (args .p .now) (args .h) (pre .0)))
+    ∙ ap (λ (x : ℕ). eqb (loop .next) x) (sym (entries-is (args .p .now) (args .h) (pre .0))))
 
 pub all-instructions-ok-spec : {M : Type 1} → statement M
 all-instructions-ok-spec =

@@ -26,13 +26,31 @@ loop-less : tie.Need-loop-less Inv-loop μ-loop
 loop-less c = omega arith
 
 loop-again : tie.Need-loop-again Inv-loop μ-loop
-loop-again c = (omega arith, c .before .before .before .loop .inv .1 ∙ records-step (c .before .before .before .before .before .args .p .now) (c .before .before .before .loop .k) (omega (arith, paths-is (c .before .before .before .before .before .args .p .now) (c .before .before .before .before .before .args .h) (c .before .before .before .before .before .pre .0))) ∙ rw (sym (c .before .record-ok .ensures) ∙ c .if1 .taken))
+loop-again c =
+    let args = c .before .before .before .before .before .args in
+    let pre = c .before .before .before .before .before .pre in
+    let loop = c .before .before .before .loop in (
+      omega arith,
+      loop .inv .1
+          ∙ records-step (args .p .now) (loop .k) (omega (arith, paths-is (args .p .now) (args .h) (pre .0)))
+          ∙ rw (sym (c .before .record-ok .ensures) ∙ c .if1 .taken),
+    )
 
 returns : tie.Need-returns Inv-loop μ-loop
-returns c = sym (c .before .before .before .loop .inv .1 ∙ records-step (c .before .before .before .before .before .args .p .now) (c .before .before .before .loop .k) (omega (arith, paths-is (c .before .before .before .before .before .args .p .now) (c .before .before .before .before .before .args .h) (c .before .before .before .before .before .pre .0))) ∙ rw (sym (c .before .record-ok .ensures) ∙ c .if1 .left))
+returns c =
+    let args = c .before .before .before .before .before .args in
+    let pre = c .before .before .before .before .before .pre in
+    let loop = c .before .before .before .loop in
+    sym (loop .inv .1
+    ∙ records-step (args .p .now) (loop .k) (omega (arith, paths-is (args .p .now) (args .h) (pre .0)))
+    ∙ rw (sym (c .before .record-ok .ensures) ∙ c .if1 .left))
 
 returns-2 : tie.Need-returns-2 Inv-loop μ-loop
-returns-2 c = sym (c .before .loop .inv .1 ∙ records-end (c .before .before .before .args .p .now) (c .before .loop .k) (omega (arith, paths-is (c .before .before .before .args .p .now) (c .before .before .before .args .h) (c .before .before .before .pre .0))))
+returns-2 c =
+    let args = c .before .before .before .args in
+    let pre = c .before .before .before .pre in
+    let loop = c .before .loop in
+    sym (loop .inv .1 ∙ records-end (args .p .now) (loop .k) (omega (arith, paths-is (args .p .now) (args .h) (pre .0))))
 
 pub all-records-ok-spec : {M : Type 1} → statement M
 all-records-ok-spec =

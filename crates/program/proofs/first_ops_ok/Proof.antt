@@ -25,7 +25,9 @@ returns-5 : tie.Need-returns-5
 returns-5 c = rw (c .before .match .keys4) (c .forward2 .ensures)
 
 returns-6 : tie.Need-returns-6
-returns-6 c = rw (ne-eqb _ 0 (c .before .before .match .rest .0 .0 .0 .1), ne-eqb _ 1 (c .before .before .match .rest .0 .0 .1), ne-eqb _ 3 (c .before .before .match .rest .0 .1), ne-eqb _ 4 (c .before .before .match .rest .1))
+returns-6 c =
+    let match = c .before .before .match in
+    rw (ne-eqb _ 0 (match .rest .0 .0 .0 .1), ne-eqb _ 1 (match .rest .0 .0 .1), ne-eqb _ 3 (match .rest .0 .1), ne-eqb _ 4 (match .rest .1))
 
 pub first-ops-ok-spec : {M : Type 1} → statement M
 first-ops-ok-spec =

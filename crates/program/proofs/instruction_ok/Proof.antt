@@ -14,19 +14,41 @@ list-ok-requires : tie.Need-list-ok-requires
 list-ok-requires c κs = search needs
 
 named-ok-requires : tie.Need-named-ok-requires
-named-ok-requires c κs = (c .before .before .before .before .before .pre .0, c .before .before .before .before .before .pre .1, c .before .before .before .before .before .pre .2, c .before .before .before .before .before .pre .3, row-op (c .before .before .before .before .before .args .r) (c .before .before .before .before .before .args .h .paths) (sym (c .before .before .before .row-ok .ensures) ∙ c .before .before .if1 .taken), c .before .before .before .before .before .pre .4)
+named-ok-requires c κs =
+    let args = c .before .before .before .before .before .args in
+    let pre = c .before .before .before .before .before .pre in
+    let row-ok = c .before .before .before .row-ok in
+    let if1 = c .before .before .if1 in
+    (pre .0, pre .1, pre .2, pre .3, row-op (args .r) (args .h .paths) (sym (row-ok .ensures) ∙ if1 .taken), pre .4)
 
 returns : tie.Need-returns
 unfolding instruction-ok
-returns c = both (c .before .before .before .before .row-ok .ensures ∙ row-is (c .before .before .before .before .before .before .args .p .now) (c .before .before .before .before .before .before .args .n) (c .before .before .before .before .before .before .args .h .paths) (c .before .before .before .before .before .before .args .r) (c .before .before .before .before .before .before .pre .2) (paths-is (c .before .before .before .before .before .before .args .p .now) (c .before .before .before .before .before .before .args .h) (c .before .before .before .before .before .before .pre .0))) (c .before .before .before .if1 .taken) (both (c .before .before .list-ok .ensures ∙ list-is (c .before .before .before .before .before .before .args .p .now) (c .before .before .before .before .before .before .args .n) (c .before .before .before .before .before .before .args .next) (c .before .before .before .before .before .before .args .r) (c .before .before .before .before .before .before .pre .2)) (c .before .if2 .taken) (c .named-ok .ensures))
+returns c =
+    let args = c .before .before .before .before .before .before .args in
+    let pre = c .before .before .before .before .before .before .pre in
+    let row-ok = c .before .before .before .before .row-ok in
+    let if1 = c .before .before .before .if1 in
+    let list-ok = c .before .before .list-ok in
+    both (row-ok .ensures ∙ row-is (args .p .now) (args .n) (args .h .paths) (args .r) (pre .2) (paths-is (args .p .now) (args .h) (pre .0))) (if1 .taken)
+    (both (list-ok .ensures ∙ list-is (args .p .now) (args .n) (args .next) (args .r) (pre .2)) (c .before .if2 .taken) (c .named-ok .ensures))
 
 returns-2 : tie.Need-returns-2
 unfolding instruction-ok
-returns-2 c = both (c .before .before .before .row-ok .ensures ∙ row-is (c .before .before .before .before .before .args .p .now) (c .before .before .before .before .before .args .n) (c .before .before .before .before .before .args .h .paths) (c .before .before .before .before .before .args .r) (c .before .before .before .before .before .pre .2) (paths-is (c .before .before .before .before .before .args .p .now) (c .before .before .before .before .before .args .h) (c .before .before .before .before .before .pre .0))) (c .before .before .if1 .taken) (stop _ (c .before .list-ok .ensures ∙ list-is (c .before .before .before .before .before .args .p .now) (c .before .before .before .before .before .args .n) (c .before .before .before .before .before .args .next) (c .before .before .before .before .before .args .r) (c .before .before .before .before .before .pre .2)) (c .if2 .left))
+returns-2 c =
+    let args = c .before .before .before .before .before .args in
+    let pre = c .before .before .before .before .before .pre in
+    let row-ok = c .before .before .before .row-ok in
+    let if1 = c .before .before .if1 in
+    both (row-ok .ensures ∙ row-is (args .p .now) (args .n) (args .h .paths) (args .r) (pre .2) (paths-is (args .p .now) (args .h) (pre .0))) (if1 .taken)
+    (stop _ (c .before .list-ok .ensures ∙ list-is (args .p .now) (args .n) (args .next) (args .r) (pre .2)) (c .if2 .left))
 
 returns-3 : tie.Need-returns-3
 unfolding instruction-ok
-returns-3 c = stop _ (c .before .row-ok .ensures ∙ row-is (c .before .before .before .args .p .now) (c .before .before .before .args .n) (c .before .before .before .args .h .paths) (c .before .before .before .args .r) (c .before .before .before .pre .2) (paths-is (c .before .before .before .args .p .now) (c .before .before .before .args .h) (c .before .before .before .pre .0))) (c .if1 .left)
+returns-3 c =
+    let args = c .before .before .before .args in
+    let pre = c .before .before .before .pre in
+    stop _ (c .before .row-ok .ensures ∙ row-is (args .p .now) (args .n) (args .h .paths) (args .r) (pre .2) (paths-is (args .p .now) (args .h) (pre .0)))
+    (c .if1 .left)
 
 pub instruction-ok-spec : {M : Type 1} → statement M
 instruction-ok-spec =

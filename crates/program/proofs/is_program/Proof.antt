@@ -18,10 +18,20 @@ all-instructions-ok-requires : tie.Need-all-instructions-ok-requires
 all-instructions-ok-requires c κs = c .before .before .before .before .read-header .ensures
 
 returns : tie.Need-returns
-returns c = both (c .before .before .before .before .header-ok .ensures) (c .before .before .before .if1 .taken) (both (c .before .before .all-records-ok .ensures) (c .before .if2 .taken) (c .all-instructions-ok .ensures)) ∙ valid-is (c .before .before .before .before .before .before .before .args .p .now)
+returns c =
+    let args = c .before .before .before .before .before .before .before .args in
+    let header-ok = c .before .before .before .before .header-ok in
+    let if1 = c .before .before .before .if1 in
+    let all-records-ok = c .before .before .all-records-ok in
+    both (header-ok .ensures) (if1 .taken) (both (all-records-ok .ensures) (c .before .if2 .taken) (c .all-instructions-ok .ensures))
+    ∙ valid-is (args .p .now)
 
 returns-2 : tie.Need-returns-2
-returns-2 c = both (c .before .before .before .header-ok .ensures) (c .before .before .if1 .taken) (stop _ (c .before .all-records-ok .ensures) (c .if2 .left)) ∙ valid-is (c .before .before .before .before .before .before .args .p .now)
+returns-2 c =
+    let args = c .before .before .before .before .before .before .args in
+    let header-ok = c .before .before .before .header-ok in
+    let if1 = c .before .before .if1 in
+    both (header-ok .ensures) (if1 .taken) (stop _ (c .before .all-records-ok .ensures) (c .if2 .left)) ∙ valid-is (args .p .now)
 
 returns-3 : tie.Need-returns-3
 returns-3 c = stop _ (c .before .header-ok .ensures) (c .if1 .left) ∙ valid-is (c .before .before .before .before .args .p .now)

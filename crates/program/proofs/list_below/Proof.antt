@@ -29,7 +29,9 @@ add-first-2 : tie.Need-add-first-2 Inv-loop μ-loop
 add-first-2 c = omega (arith, c .before .before .before .pre .1 .code, c .before .before .before .pre .1 .paths)
 
 loop-holds : tie.Need-loop-holds Inv-loop μ-loop
-loop-holds c = (omega arith, below-start (c .before .before .before .args .p .now) (c .before .before .before .args .h .registers) (c .before .before .before .args .r .count) (c .before .before .before .args .r .a))
+loop-holds c =
+    let args = c .before .before .before .args in
+    (omega arith, below-start (args .p .now) (args .h .registers) (args .r .count) (args .r .a))
 
 add-word : tie.Need-add-word Inv-loop μ-loop
 add-word c = omega (arith, c .before .before .before .before .before .pre .2 .a, c .before .before .before .before .before .pre .2 .count)
@@ -38,7 +40,9 @@ mul-word : tie.Need-mul-word Inv-loop μ-loop
 mul-word c = omega (arith, c .before .before .before .before .before .pre .2 .a, c .before .before .before .before .before .pre .2 .count)
 
 add-word-2 : tie.Need-add-word-2 Inv-loop μ-loop
-add-word-2 c = omega (arith, c .before .before .before .before .before .pre .1 .code, c .before .before .before .before .before .pre .1 .paths, c .before .before .before .before .before .pre .2 .a, c .before .before .before .before .before .pre .2 .count)
+add-word-2 c =
+    let pre = c .before .before .before .before .before .pre in
+    omega (arith, pre .1 .code, pre .1 .paths, pre .2 .a, pre .2 .count)
 
 word-requires : tie.Need-word-requires Inv-loop μ-loop
 word-requires c κs = search needs
@@ -50,13 +54,36 @@ loop-less : tie.Need-loop-less Inv-loop μ-loop
 loop-less c = omega arith
 
 loop-again : tie.Need-loop-again Inv-loop μ-loop
-loop-again c = (omega arith, c .before .before .before .loop .inv .1 ∙ below-step (c .before .before .before .before .before .before .before .args .p .now) (c .before .before .before .before .before .before .before .args .h .registers) (c .before .before .before .before .before .before .before .args .r .count) (c .before .before .before .before .before .before .before .args .r .a) (c .before .before .before .loop .i) (c .before .word .result) (c .before .before .loop-test .taken) (c .before .word .ensures .0 ∙ ap (word-at (c .before .before .before .before .before .before .before .args .p .now)) (entry-place (c .before .before .before .before .before .before .before .args .p .now) (c .before .before .before .before .before .before .before .args .h) (c .before .before .before .before .before .before .before .args .r .a) (c .before .before .before .loop .i) (c .before .before .before .before .before .before .before .pre .0))) ∙ rw (lt-ltb _ _ (c .if1 .taken)))
+loop-again c =
+    let args = c .before .before .before .before .before .before .before .args in
+    let pre = c .before .before .before .before .before .before .before .pre in
+    let loop = c .before .before .before .loop in
+    let loop-test = c .before .before .loop-test in
+    let word = c .before .word in (
+      omega arith,
+      loop .inv .1
+          ∙ below-step (args .p .now) (args .h .registers) (args .r .count) (args .r .a) (loop .i) (word .result) (loop-test .taken)
+          (word .ensures .0 ∙ ap (word-at (args .p .now)) (entry-place (args .p .now) (args .h) (args .r .a) (loop .i) (pre .0)))
+          ∙ rw (lt-ltb _ _ (c .if1 .taken)),
+    )
 
 returns : tie.Need-returns Inv-loop μ-loop
-returns c = sym (c .before .before .before .loop .inv .1 ∙ below-step (c .before .before .before .before .before .before .before .args .p .now) (c .before .before .before .before .before .before .before .args .h .registers) (c .before .before .before .before .before .before .before .args .r .count) (c .before .before .before .before .before .before .before .args .r .a) (c .before .before .before .loop .i) (c .before .word .result) (c .before .before .loop-test .taken) (c .before .word .ensures .0 ∙ ap (word-at (c .before .before .before .before .before .before .before .args .p .now)) (entry-place (c .before .before .before .before .before .before .before .args .p .now) (c .before .before .before .before .before .before .before .args .h) (c .before .before .before .before .before .before .before .args .r .a) (c .before .before .before .loop .i) (c .before .before .before .before .before .before .before .pre .0))) ∙ rw (le-ltb _ _ (c .if1 .left)))
+returns c =
+    let args = c .before .before .before .before .before .before .before .args in
+    let pre = c .before .before .before .before .before .before .before .pre in
+    let loop = c .before .before .before .loop in
+    let loop-test = c .before .before .loop-test in
+    let word = c .before .word in
+    sym (loop .inv .1
+    ∙ below-step (args .p .now) (args .h .registers) (args .r .count) (args .r .a) (loop .i) (word .result) (loop-test .taken)
+    (word .ensures .0 ∙ ap (word-at (args .p .now)) (entry-place (args .p .now) (args .h) (args .r .a) (loop .i) (pre .0)))
+    ∙ rw (le-ltb _ _ (c .if1 .left)))
 
 returns-2 : tie.Need-returns-2 Inv-loop μ-loop
-returns-2 c = sym (c .before .loop .inv .1 ∙ below-end (c .before .before .before .before .before .args .p .now) (c .before .before .before .before .before .args .h .registers) (c .before .before .before .before .before .args .r .count) (c .before .before .before .before .before .args .r .a) (c .before .loop .i) (c .loop-test .left))
+returns-2 c =
+    let args = c .before .before .before .before .before .args in
+    let loop = c .before .loop in
+    sym (loop .inv .1 ∙ below-end (args .p .now) (args .h .registers) (args .r .count) (args .r .a) (loop .i) (c .loop-test .left))
 
 pub list-below-spec : {M : Type 1} → statement M
 list-below-spec =

@@ -24,7 +24,15 @@ word-requires-6 c κs = search needs
 
 returns : tie.Need-returns
 unfolding header-of code-count register-total result-at input-count path-total entry-total
-returns c = (cc (c .before .before .before .before .before .word .ensures .0, c .before .before .before .before .word2 .ensures .0, c .before .before .before .word3 .ensures .0, c .before .before .word4 .ensures .0, c .before .word5 .ensures .0, c .word6 .ensures .0), record { code = c .before .before .before .before .before .word .ensures .1; registers = c .before .before .before .before .word2 .ensures .1; paths = c .before .word5 .ensures .1; entries = c .word6 .ensures .1 })
+returns c =
+    let word = c .before .before .before .before .before .word in
+    let word2 = c .before .before .before .before .word2 in
+    let word3 = c .before .before .before .word3 in
+    let word4 = c .before .before .word4 in
+    let word5 = c .before .word5 in (
+      cc (word .ensures .0, word2 .ensures .0, word3 .ensures .0, word4 .ensures .0, word5 .ensures .0, c .word6 .ensures .0),
+      record { code = word .ensures .1; registers = word2 .ensures .1; paths = word5 .ensures .1; entries = c .word6 .ensures .1 },
+    )
 
 pub read-header-spec : {M : Type 1} → statement M
 read-header-spec =

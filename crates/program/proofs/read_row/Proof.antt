@@ -58,7 +58,25 @@ word-requires-5 c κs = search needs
 
 returns : tie.Need-returns
 unfolding row-of destination-at path-number
-returns c = (cc (c .before .before .before .before .before .before .before .byte .ensures, c .before .before .before .before .before .before .byte2 .ensures, c .before .before .before .before .before .half .ensures .0, c .before .before .before .before .word .ensures .0, c .before .before .before .word2 .ensures .0, c .before .before .word3 .ensures .0, c .before .word4 .ensures .0, c .word5 .ensures .0), record { op = omega arith; count = c .before .before .before .before .before .half .ensures .1; a = c .before .before .before .word2 .ensures .1; path = c .word5 .ensures .1 })
+returns c =
+    let byte = c .before .before .before .before .before .before .before .byte in
+    let byte2 = c .before .before .before .before .before .before .byte2 in
+    let half = c .before .before .before .before .before .half in
+    let word = c .before .before .before .before .word in
+    let word2 = c .before .before .before .word2 in
+    let word3 = c .before .before .word3 in (
+      cc (
+        byte .ensures,
+        byte2 .ensures,
+        half .ensures .0,
+        word .ensures .0,
+        word2 .ensures .0,
+        word3 .ensures .0,
+        c .before .word4 .ensures .0,
+        c .word5 .ensures .0,
+      ),
+      record { op = omega arith; count = half .ensures .1; a = word2 .ensures .1; path = c .word5 .ensures .1 },
+    )
 
 pub read-row-spec : {M : Type 1} → statement M
 read-row-spec =

@@ -16,7 +16,12 @@ root-ok-requires : tie.Need-root-ok-requires
 root-ok-requires c κs = omega (arith, c .before .before .before .pre .1 .code)
 
 returns : tie.Need-returns
-returns c = c .root-ok .ensures ∙ root-is (c .before .before .before .before .args .p .now) (32 + 24 * (c .before .before .before .before .args .h .code)) (c .before .before .before .before .args .k) (c .before .if1 .taken) (let e = record-place (c .before .before .before .before .args .p .now) (c .before .before .before .before .args .h) 0 (c .before .before .before .before .pre .0) in omega arith)
+returns c =
+    let args = c .before .before .before .before .args in
+    let pre = c .before .before .before .before .pre in
+    c .root-ok .ensures
+    ∙ root-is (args .p .now) (32 + 24 * (args .h .code)) (args .k) (c .before .if1 .taken)
+    (let e = record-place (args .p .now) (args .h) 0 (pre .0) in omega arith)
 
 mul-word : tie.Need-mul-word
 mul-word c = omega (arith, c .before .before .before .pre .2)
@@ -28,7 +33,13 @@ word-requires : tie.Need-word-requires
 word-requires c κs = search needs
 
 returns-2 : tie.Need-returns-2
-returns-2 c = late-is (c .before .before .before .before .before .args .p .now) (c .before .before .before .before .before .args .k) (c .before .word .result) (c .before .before .if1 .left) (parent-read (c .before .before .before .before .before .args .p .now) (c .before .before .before .before .before .args .k) _ (record-place (c .before .before .before .before .before .args .p .now) (c .before .before .before .before .before .args .h) (c .before .before .before .before .before .args .k) (c .before .before .before .before .before .pre .0)) (c .before .word .ensures .0)) (c .if2 .taken)
+returns-2 c =
+    let args = c .before .before .before .before .before .args in
+    let pre = c .before .before .before .before .before .pre in
+    let if1 = c .before .before .if1 in
+    let word = c .before .word in
+    late-is (args .p .now) (args .k) (word .result) (if1 .left)
+    (parent-read (args .p .now) (args .k) _ (record-place (args .p .now) (args .h) (args .k) (pre .0)) (word .ensures .0)) (c .if2 .taken)
 
 mul-word-2 : tie.Need-mul-word-2
 mul-word-2 c = omega (arith, c .before .before .before .before .before .pre .2)
@@ -73,11 +84,21 @@ add-result : tie.Need-add-result
 add-result c = omega (arith, c .before .before .before .word2 .ensures .1, c .before .step-length .ensures .1)
 
 returns-3 : tie.Need-returns-3
-returns-3 c = record-is (c .before .before .before .before .before .before .before .before .before .args .p .now) (c .before .before .before .before .before .before .before .before .before .args .k) (c .before .before .before .before .before .word .result) (c .word4 .result) (c .before .before .before .word2 .result) (c .before .step-length .result) (c .before .before .before .before .before .before .if1 .left)
-    (parent-read (c .before .before .before .before .before .before .before .before .before .args .p .now) (c .before .before .before .before .before .before .before .before .before .args .k) _ (record-place (c .before .before .before .before .before .before .before .before .before .args .p .now) (c .before .before .before .before .before .before .before .before .before .args .h) (c .before .before .before .before .before .before .before .before .before .args .k) (c .before .before .before .before .before .before .before .before .before .pre .0)) (c .before .before .before .before .before .word .ensures .0)) (omega arith)
-    (length-read (c .before .before .before .before .before .before .before .before .before .args .p .now) (c .before .before .before .before .before .before .before .before .before .args .k) _ (ap (λ (x : ℕ). x + 8) (record-place (c .before .before .before .before .before .before .before .before .before .args .p .now) (c .before .before .before .before .before .before .before .before .before .args .h) (c .before .before .before .before .before .before .before .before .before .args .k) (c .before .before .before .before .before .before .before .before .before .pre .0))) (c .word4 .ensures .0))
-    (length-read (c .before .before .before .before .before .before .before .before .before .args .p .now) (c .before .before .before .before .before .word .result) _ (ap (λ (x : ℕ). x + 8) (record-place (c .before .before .before .before .before .before .before .before .before .args .p .now) (c .before .before .before .before .before .before .before .before .before .args .h) (c .before .before .before .before .before .word .result) (c .before .before .before .before .before .before .before .before .before .pre .0))) (c .before .before .before .word2 .ensures .0))
-    (step-read (c .before .before .before .before .before .before .before .before .before .args .p .now) (c .before .before .before .before .before .before .before .before .before .args .k) _ (c .before .step-length .result) (c .before .before .word3 .result) (ap (λ (x : ℕ). x + 4) (record-place (c .before .before .before .before .before .before .before .before .before .args .p .now) (c .before .before .before .before .before .before .before .before .before .args .h) (c .before .before .before .before .before .before .before .before .before .args .k) (c .before .before .before .before .before .before .before .before .before .pre .0))) (c .before .before .word3 .ensures .0) (c .before .step-length .ensures .0))
+returns-3 c =
+    let args = c .before .before .before .before .before .before .before .before .before .args in
+    let pre = c .before .before .before .before .before .before .before .before .before .pre in
+    let if1 = c .before .before .before .before .before .before .if1 in
+    let word = c .before .before .before .before .before .word in
+    let word2 = c .before .before .before .word2 in
+    let word3 = c .before .before .word3 in
+    let step-length = c .before .step-length in
+    record-is (args .p .now) (args .k) (word .result) (c .word4 .result) (word2 .result) (step-length .result) (if1 .left)
+    (parent-read (args .p .now) (args .k) _ (record-place (args .p .now) (args .h) (args .k) (pre .0)) (word .ensures .0)) (omega arith)
+    (length-read (args .p .now) (args .k) _ (ap (λ (x : ℕ). x + 8) (record-place (args .p .now) (args .h) (args .k) (pre .0))) (c .word4 .ensures .0))
+    (length-read (args .p .now) (word .result) _ (ap (λ (x : ℕ). x + 8) (record-place (args .p .now) (args .h) (word .result) (pre .0)))
+    (word2 .ensures .0))
+    (step-read (args .p .now) (args .k) _ (step-length .result) (word3 .result)
+    (ap (λ (x : ℕ). x + 4) (record-place (args .p .now) (args .h) (args .k) (pre .0))) (word3 .ensures .0) (step-length .ensures .0))
 
 pub record-ok-spec : {M : Type 1} → statement M
 record-ok-spec =

@@ -24,11 +24,24 @@ word-requires-3 c κs = search needs
 
 returns : tie.Need-returns
 unfolding root-record-ok
-returns c = rw (eq-eqb _ _ (sym (c .before .before .before .before .word .ensures .0) ∙ c .before .before .before .if1 .taken), eq-eqb _ _ (sym (c .before .before .word2 .ensures .0) ∙ c .before .if2 .taken), c .word3 .ensures .0)
+returns c =
+    let word = c .before .before .before .before .word in
+    let if1 = c .before .before .before .if1 in
+    let word2 = c .before .before .word2 in
+    rw (eq-eqb _ _ (sym (word .ensures .0) ∙ if1 .taken), eq-eqb _ _ (sym (word2 .ensures .0) ∙ c .before .if2 .taken), c .word3 .ensures .0)
 
 returns-2 : tie.Need-returns-2
 unfolding root-record-ok
-returns-2 c = rw (eq-eqb _ _ (sym (c .before .before .before .word .ensures .0) ∙ c .before .before .if1 .taken), c .before .word2 .ensures .0, ne-eqb (word-at (c .before .before .before .before .before .args .p .now) (c .before .before .before .before .before .args .at + 4)) 0 (λ z. c .if2 .left (c .before .word2 .ensures .0 ∙ z)))
+returns-2 c =
+    let args = c .before .before .before .before .before .args in
+    let word = c .before .before .before .word in
+    let if1 = c .before .before .if1 in
+    let word2 = c .before .word2 in
+    rw (
+      eq-eqb _ _ (sym (word .ensures .0) ∙ if1 .taken),
+      word2 .ensures .0,
+      ne-eqb (word-at (args .p .now) (args .at + 4)) 0 (λ z. c .if2 .left (word2 .ensures .0 ∙ z)),
+    )
 
 returns-3 : tie.Need-returns-3
 unfolding root-record-ok

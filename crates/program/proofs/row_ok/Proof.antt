@@ -10,7 +10,11 @@ unused-zero-requires c κs = search needs
 
 returns : tie.Need-returns
 unfolding row-fields-ok
-returns c = rw (lt-ltb _ _ (c .before .before .before .before .before .if1 .taken), eq-eqb _ _ (c .before .before .before .if2 .taken), sym (c .before .before .unused-zero .ensures) ∙ c .before .if3 .taken)
+returns c =
+    let if1 = c .before .before .before .before .before .if1 in
+    let if2 = c .before .before .before .if2 in
+    let unused-zero = c .before .before .unused-zero in
+    rw (lt-ltb _ _ (if1 .taken), eq-eqb _ _ (if2 .taken), sym (unused-zero .ensures) ∙ c .before .if3 .taken)
 
 returns-2 : tie.Need-returns-2
 unfolding row-fields-ok

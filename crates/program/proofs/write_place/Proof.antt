@@ -18,17 +18,31 @@ add-write-path : tie.Need-add-write-path
 add-write-path c = search needs
 
 write-path-requires : tie.Need-write-path-requires
-write-path-requires c κs = (
-  omega (arith, c .before .before .before .before .before .pre .1, c .before .before .read-header .ensures .1 .code, c .before .before .read-header .ensures .1 .paths, paths-is (c .before .before .before .before .before .args .p .now) (c .before .before .read-header .result) (c .before .before .read-header .ensures .0)),
-  linked-from (c .before .before .before .before .before .args .p .now) (c .before .before .read-header .result) (c .before .before .read-header .ensures .0) (c .before .before .before .before .before .args .k) (c .before .before .before .before .before .pre .0) (c .before .before .before .before .before .pre .1),
-  omega (arith, c .before .before .before .before .before .pre .2, length-from (c .before .before .before .before .before .args .p .now) (c .before .before .read-header .result) (c .before .before .read-header .ensures .0) (c .before .before .before .before .before .args .k)),
-)
+write-path-requires c κs =
+    let args = c .before .before .before .before .before .args in
+    let pre = c .before .before .before .before .before .pre in
+    let read-header = c .before .before .read-header in (
+      omega (
+        arith,
+        pre .1,
+        read-header .ensures .1 .code,
+        read-header .ensures .1 .paths,
+        paths-is (args .p .now) (read-header .result) (read-header .ensures .0),
+      ),
+      linked-from (args .p .now) (read-header .result) (read-header .ensures .0) (args .k) (pre .0) (pre .1),
+      omega (arith, pre .2, length-from (args .p .now) (read-header .result) (read-header .ensures .0) (args .k)),
+    )
 
 same-length : tie.Need-same-length
 same-length c = search needs
 
 returns : tie.Need-returns
-returns c = c .before .before .write-path .ensures ∙ ap (λ (q : Path). placed (some q) (c .before .before .before .before .before .before .before .before .args .out .now)) (path-from (c .before .before .before .before .before .before .before .before .args .p .now) (c .before .before .before .before .before .read-header .result) (c .before .before .before .before .before .read-header .ensures .0) (c .before .before .before .before .before .before .before .before .args .k))
+returns c =
+    let args = c .before .before .before .before .before .before .before .before .args in
+    let read-header = c .before .before .before .before .before .read-header in
+    let write-path = c .before .before .write-path in
+    write-path .ensures
+    ∙ ap (λ (q : Path). placed (some q) (args .out .now)) (path-from (args .p .now) (read-header .result) (read-header .ensures .0) (args .k))
 
 pub write-place-spec : {M : Type 1} → statement M
 write-place-spec =

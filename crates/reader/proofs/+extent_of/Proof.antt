@@ -31,126 +31,94 @@ extent-of-Inv-loop b at levels left₀ end₀ left end = (w : well-formed (tree-
 abbrev extent-of-μ-loop : extent-of-lts.MeasureT-loop
 extent-of-μ-loop b at levels left₀ end₀ left end = left
 
-extent-of-returns : (t : ℕ) → extent-of-lts.Need-returns (
-  half-reads.Asked,
-  half-reads.Learnt,
-  extent-of-below t,
-  extent-of.Post,
-) (extent-of-at t) extent-of.Post extent-of-Inv-loop extent-of-μ-loop
-extent-of-returns t c = no-levels (c .before .before .args .b .now) (c .before .before .args .at) (c .before .before .args .levels) (c .before .before .pre .1) (c .if1 .taken)
-
-extent-of-add-half : (t : ℕ) → extent-of-lts.Need-add-half (
-  half-reads.Asked,
-  half-reads.Learnt,
-  extent-of-below t,
-  extent-of.Post,
-) (extent-of-at t) extent-of.Post extent-of-Inv-loop extent-of-μ-loop
-extent-of-add-half t c = let h = node-inside (c .before .before .args .b .now) (c .before .before .args .at) (c .before .before .args .levels) (c .before .before .pre .1) in omega (arith, h, c .before .before .good .0 .0)
-
-extent-of-half-requires : (t : ℕ) → extent-of-lts.Need-half-requires (
-  half-reads.Asked,
-  half-reads.Learnt,
-  extent-of-below t,
-  extent-of.Post,
-) (extent-of-at t) extent-of.Post extent-of-Inv-loop extent-of-μ-loop
-extent-of-half-requires t c κs = tt
-
-extent-of-add-end : (t : ℕ) → extent-of-lts.Need-add-end (
-  half-reads.Asked,
-  half-reads.Learnt,
-  extent-of-below t,
-  extent-of.Post,
-) (extent-of-at t) extent-of.Post extent-of-Inv-loop extent-of-μ-loop
-extent-of-add-end t c = let h = node-inside (c .before .before .before .args .b .now) (c .before .before .before .args .at) (c .before .before .before .args .levels) (c .before .before .before .pre .1) in omega (arith, h, c .before .before .before .good .0 .0)
-
-extent-of-loop-holds : (t : ℕ) → extent-of-lts.Need-loop-holds (
-  half-reads.Asked,
-  half-reads.Learnt,
-  extent-of-below t,
-  extent-of.Post,
-) (extent-of-at t) extent-of.Post extent-of-Inv-loop extent-of-μ-loop
-extent-of-loop-holds t c = (c .before .before .before .pre .1, level-start (c .before .before .before .args .b .now) (c .before .before .before .args .at) (c .before .before .before .args .levels) (c .before .before .before .pre .1) (c .half .result) (c .half .ensures .0) (c .before .if1 .left))
-
-extent-of-sub-extent-of : (t : ℕ) → extent-of-lts.Need-sub-extent-of (
-  half-reads.Asked,
-  half-reads.Learnt,
-  extent-of-below t,
-  extent-of.Post,
-) (extent-of-at t) extent-of.Post extent-of-Inv-loop extent-of-μ-loop
-extent-of-sub-extent-of t c = omega (arith, c .before .before .before .if1 .left)
-
-extent-of-extent-of-requires : (t : ℕ) → extent-of-lts.Need-extent-of-requires (
-  half-reads.Asked,
-  half-reads.Learnt,
-  extent-of-below t,
-  extent-of.Post,
-) (extent-of-at t) extent-of.Post extent-of-Inv-loop extent-of-μ-loop
-extent-of-extent-of-requires t c κs = (omega (arith, c .before .before .before .before .before .pre .0, c .before .before .before .if1 .left), first-child (c .before .before .before .before .before .args .b .now) (c .before .before .before .before .before .args .at) (c .before .before .before .before .before .args .levels) (c .before .loop .inv .0) (c .before .loop .left) (c .before .loop .end) (c .before .loop .inv .1) (λ e. omega (arith, c .loop-test .taken)))
-
-extent-of-enum-known-child : (t : ℕ) → extent-of-lts.Need-enum-known-child (
-  half-reads.Asked,
-  half-reads.Learnt,
-  extent-of-below t,
-  extent-of.Post,
-) (extent-of-at t) extent-of.Post extent-of-Inv-loop extent-of-μ-loop
-extent-of-enum-known-child t c = search needs
-
-extent-of-enum-told : (t : ℕ) → extent-of-lts.Need-enum-told (
-  half-reads.Asked,
-  half-reads.Learnt,
-  extent-of-below t,
-  extent-of.Post,
-) (extent-of-at t) extent-of.Post extent-of-Inv-loop extent-of-μ-loop
-extent-of-enum-told t c = search needs
-
-extent-of-returns-2 : (t : ℕ) → extent-of-lts.Need-returns-2 (
-  half-reads.Asked,
-  half-reads.Learnt,
-  extent-of-below t,
-  extent-of.Post,
-) (extent-of-at t) extent-of.Post extent-of-Inv-loop extent-of-μ-loop
-extent-of-returns-2 t c = level-deeper (c .before .before .before .before .before .before .before .before .args .b .now) (c .before .before .before .before .before .before .before .before .args .at) (c .before .before .before .before .before .before .before .before .args .levels) (c .before .before .before .before .loop .inv .0) (c .before .before .before .before .loop .left) (c .before .before .before .before .loop .end) (c .before .before .before .before .loop .inv .1) (λ e. omega (arith, c .before .before .before .loop-test .taken)) (c .before .before .extent-of .result) (c .before .before .extent-of .ensures) (c .enum-told .given .1)
-
-extent-of-sub-left : (t : ℕ) → extent-of-lts.Need-sub-left (
-  half-reads.Asked,
-  half-reads.Learnt,
-  extent-of-below t,
-  extent-of.Post,
-) (extent-of-at t) extent-of.Post extent-of-Inv-loop extent-of-μ-loop
-extent-of-sub-left t c = omega (arith, c .before .before .before .before .loop-test .taken)
-
-extent-of-loop-less : (t : ℕ) → extent-of-lts.Need-loop-less (
-  half-reads.Asked,
-  half-reads.Learnt,
-  extent-of-below t,
-  extent-of.Post,
-) (extent-of-at t) extent-of.Post extent-of-Inv-loop extent-of-μ-loop
-extent-of-loop-less t c = omega (arith, c .before .before .before .before .loop-test .taken)
-
-extent-of-loop-again : (t : ℕ) → extent-of-lts.Need-loop-again (
-  half-reads.Asked,
-  half-reads.Learnt,
-  extent-of-below t,
-  extent-of.Post,
-) (extent-of-at t) extent-of.Post extent-of-Inv-loop extent-of-μ-loop
-extent-of-loop-again t c = (c .before .before .before .before .before .loop .inv .0, level-next (c .before .before .before .before .before .before .before .before .before .args .b .now) (c .before .before .before .before .before .before .before .before .before .args .at) (c .before .before .before .before .before .before .before .before .before .args .levels) (c .before .before .before .before .before .loop .inv .0) (c .before .before .before .before .before .loop .left) (c .before .before .before .before .before .loop .end) (c .before .before .before .before .before .loop .inv .1) (λ e. omega (arith, c .before .before .before .before .loop-test .taken)) (c .before .before .before .extent-of .result) (c .before .child .given .0 .0) (c .before .before .before .extent-of .ensures) (c .before .child .given .1))
-
-extent-of-returns-3 : (t : ℕ) → extent-of-lts.Need-returns-3 (
-  half-reads.Asked,
-  half-reads.Learnt,
-  extent-of-below t,
-  extent-of.Post,
-) (extent-of-at t) extent-of.Post extent-of-Inv-loop extent-of-μ-loop
-extent-of-returns-3 t c = level-end (c .before .before .before .before .before .args .b .now) (c .before .before .before .before .before .args .at) (c .before .before .before .before .before .args .levels) (c .before .loop .inv .0) (c .before .loop .left) (c .before .loop .end) (c .before .loop .inv .1) (omega (arith, c .loop-test .left))
-
-pub +extent-of-spec : {M : Type 1} → statement M
-+extent-of-spec = close μ-extent-of λ t. extent-of-lts.spec (
+abbrev extent-of-calls : ℕ → extent-of-lts.Claims
+extent-of-calls t = (
   half-reads.Asked,
   half-reads.Learnt,
   extent-of-below t,
   extent-of.Post,
 )
-    (extent-of-at t)
+
+extent-of-returns : (t : ℕ) → extent-of-lts.Need-returns (extent-of-calls t) (extent-of-at t) extent-of.Post extent-of-Inv-loop extent-of-μ-loop
+extent-of-returns t c = no-levels (c .before .before .args .b .now) (c .before .before .args .at) (c .before .before .args .levels) (c .before .before .pre .1) (c .if1 .taken)
+
+extent-of-add-half : (t : ℕ) → extent-of-lts.Need-add-half (extent-of-calls t) (extent-of-at t) extent-of.Post extent-of-Inv-loop extent-of-μ-loop
+extent-of-add-half t c =
+    let args = c .before .before .args in
+    let good = c .before .before .good in
+    let pre = c .before .before .pre in
+    let h = node-inside (args .b .now) (args .at) (args .levels) (pre .1) in omega (arith, h, good .0 .0)
+
+extent-of-half-requires : (t : ℕ) → extent-of-lts.Need-half-requires (extent-of-calls t) (extent-of-at t) extent-of.Post extent-of-Inv-loop extent-of-μ-loop
+extent-of-half-requires t c κs = tt
+
+extent-of-add-end : (t : ℕ) → extent-of-lts.Need-add-end (extent-of-calls t) (extent-of-at t) extent-of.Post extent-of-Inv-loop extent-of-μ-loop
+extent-of-add-end t c =
+    let args = c .before .before .before .args in
+    let good = c .before .before .before .good in
+    let pre = c .before .before .before .pre in
+    let h = node-inside (args .b .now) (args .at) (args .levels) (pre .1) in omega (arith, h, good .0 .0)
+
+extent-of-loop-holds : (t : ℕ) → extent-of-lts.Need-loop-holds (extent-of-calls t) (extent-of-at t) extent-of.Post extent-of-Inv-loop extent-of-μ-loop
+extent-of-loop-holds t c =
+    let args = c .before .before .before .args in
+    let pre = c .before .before .before .pre in
+    (pre .1, level-start (args .b .now) (args .at) (args .levels) (pre .1) (c .half .result) (c .half .ensures .0) (c .before .if1 .left))
+
+extent-of-sub-extent-of : (t : ℕ) → extent-of-lts.Need-sub-extent-of (extent-of-calls t) (extent-of-at t) extent-of.Post extent-of-Inv-loop extent-of-μ-loop
+extent-of-sub-extent-of t c = omega (arith, c .before .before .before .if1 .left)
+
+extent-of-extent-of-requires : (t : ℕ) → extent-of-lts.Need-extent-of-requires (extent-of-calls t) (extent-of-at t) extent-of.Post extent-of-Inv-loop extent-of-μ-loop
+extent-of-extent-of-requires t c κs =
+    let args = c .before .before .before .before .before .args in
+    let pre = c .before .before .before .before .before .pre in
+    let if1 = c .before .before .before .if1 in
+    let loop = c .before .loop in (
+      omega (arith, pre .0, if1 .left),
+      first-child (args .b .now) (args .at) (args .levels) (loop .inv .0) (loop .left) (loop .end) (loop .inv .1) (λ e. omega (arith, c .loop-test .taken)),
+    )
+
+extent-of-enum-known-child : (t : ℕ) → extent-of-lts.Need-enum-known-child (extent-of-calls t) (extent-of-at t) extent-of.Post extent-of-Inv-loop extent-of-μ-loop
+extent-of-enum-known-child t c = search needs
+
+extent-of-enum-told : (t : ℕ) → extent-of-lts.Need-enum-told (extent-of-calls t) (extent-of-at t) extent-of.Post extent-of-Inv-loop extent-of-μ-loop
+extent-of-enum-told t c = search needs
+
+extent-of-returns-2 : (t : ℕ) → extent-of-lts.Need-returns-2 (extent-of-calls t) (extent-of-at t) extent-of.Post extent-of-Inv-loop extent-of-μ-loop
+extent-of-returns-2 t c =
+    let args = c .before .before .before .before .before .before .before .before .args in
+    let loop = c .before .before .before .before .loop in
+    let loop-test = c .before .before .before .loop-test in
+    let extent-of = c .before .before .extent-of in
+    level-deeper (args .b .now) (args .at) (args .levels) (loop .inv .0) (loop .left) (loop .end) (loop .inv .1) (λ e. omega (arith, loop-test .taken))
+    (extent-of .result) (extent-of .ensures) (c .enum-told .given .1)
+
+extent-of-sub-left : (t : ℕ) → extent-of-lts.Need-sub-left (extent-of-calls t) (extent-of-at t) extent-of.Post extent-of-Inv-loop extent-of-μ-loop
+extent-of-sub-left t c = omega (arith, c .before .before .before .before .loop-test .taken)
+
+extent-of-loop-less : (t : ℕ) → extent-of-lts.Need-loop-less (extent-of-calls t) (extent-of-at t) extent-of.Post extent-of-Inv-loop extent-of-μ-loop
+extent-of-loop-less t c = omega (arith, c .before .before .before .before .loop-test .taken)
+
+extent-of-loop-again : (t : ℕ) → extent-of-lts.Need-loop-again (extent-of-calls t) (extent-of-at t) extent-of.Post extent-of-Inv-loop extent-of-μ-loop
+extent-of-loop-again t c =
+    let args = c .before .before .before .before .before .before .before .before .before .args in
+    let loop = c .before .before .before .before .before .loop in
+    let loop-test = c .before .before .before .before .loop-test in
+    let extent-of = c .before .before .before .extent-of in
+    let child = c .before .child in (
+      loop .inv .0,
+      level-next (args .b .now) (args .at) (args .levels) (loop .inv .0) (loop .left) (loop .end) (loop .inv .1) (λ e. omega (arith, loop-test .taken))
+          (extent-of .result) (child .given .0 .0) (extent-of .ensures) (child .given .1),
+    )
+
+extent-of-returns-3 : (t : ℕ) → extent-of-lts.Need-returns-3 (extent-of-calls t) (extent-of-at t) extent-of.Post extent-of-Inv-loop extent-of-μ-loop
+extent-of-returns-3 t c =
+    let args = c .before .before .before .before .before .args in
+    let loop = c .before .loop in
+    level-end (args .b .now) (args .at) (args .levels) (loop .inv .0) (loop .left) (loop .end) (loop .inv .1) (omega (arith, c .loop-test .left))
+
+pub +extent-of-spec : {M : Type 1} → statement M
++extent-of-spec = close μ-extent-of λ t. extent-of-lts.spec (extent-of-calls t) (extent-of-at t)
     extent-of.Post
     extent-of-Inv-loop
     extent-of-μ-loop

@@ -45,10 +45,21 @@ loop-less : tie.Need-loop-less Inv-loop μ-loop
 loop-less c = omega arith
 
 loop-again : tie.Need-loop-again Inv-loop μ-loop
-loop-again c = (omega arith, c .before .before .before .before .before .loop .inv .1 ∙ rest-step (c .before .before .before .before .before .before .before .args .b .now) (c .before .before .before .before .before .loop .owed) (c .before .before .before .before .before .loop .at) (c .half .result) (λ e. omega arith) (sym (c .before .before .is-node .ensures) ∙ c .before .if2 .taken) (c .half .ensures .0))
+loop-again c =
+    let args = c .before .before .before .before .before .before .before .args in
+    let loop = c .before .before .before .before .before .loop in
+    let is-node = c .before .before .is-node in (
+      omega arith,
+      loop .inv .1
+          ∙ rest-step (args .b .now) (loop .owed) (loop .at) (c .half .result) (λ e. omega arith) (sym (is-node .ensures) ∙ c .before .if2 .taken)
+          (c .half .ensures .0),
+    )
 
 returns-2 : tie.Need-returns-2 Inv-loop μ-loop
-returns-2 c = sym (c .before .before .before .before .loop .inv .1 ∙ rest-bad (c .before .before .before .before .before .before .args .b .now) (c .before .before .before .before .loop .owed) (c .before .before .before .before .loop .at) (λ e. omega arith) (sym (c .before .is-node .ensures) ∙ c .if2 .left))
+returns-2 c =
+    let args = c .before .before .before .before .before .before .args in
+    let loop = c .before .before .before .before .loop in
+    sym (loop .inv .1 ∙ rest-bad (args .b .now) (loop .owed) (loop .at) (λ e. omega arith) (sym (c .before .is-node .ensures) ∙ c .if2 .left))
 
 returns-3 : tie.Need-returns-3 Inv-loop μ-loop
 returns-3 c = sym (c .before .loop .inv .1 ∙ rest-end (c .before .before .before .args .b .now) (c .before .loop .owed) (c .before .loop .at) (omega arith))

@@ -21,7 +21,10 @@ is-head-requires : tie.Need-is-head-requires
 is-head-requires c κs = search needs
 
 returns-3 : tie.Need-returns-3
-returns-3 c = is-there (c .before .before .before .before .before .args .b .now) (c .before .before .before .before .before .args .at) (c .is-head .result) (written (c .before .node .result)) (omega arith) (c .before .node .ensures .0) (c .is-head .ensures)
+returns-3 c =
+    let args = c .before .before .before .before .before .args in
+    let node = c .before .node in
+    is-there (args .b .now) (args .at) (c .is-head .result) (written (node .result)) (omega arith) (node .ensures .0) (c .is-head .ensures)
 
 pub is-node-spec : {M : Type 1} → statement M
 is-node-spec =

@@ -21,13 +21,29 @@ enum-told-2 : tie.Need-enum-told-2
 enum-told-2 c = search needs
 
 returns-2 : tie.Need-returns-2
-returns-2 c = too-deep (c .before .before .before .before .before .before .before .args .b .now) (c .before .before .before .before .before .before .before .args .nodes) (c .before .before .before .before .before .before .before .args .levels) (sym (c .before .before .before .before .is-formula .ensures) ∙ c .before .before .before .if2 .taken) (c .before .before .before .before .before .if1 .left) (c .before .before .extent-of .result) (c .before .before .extent-of .ensures) (c .enum-told2 .given .1)
+returns-2 c =
+    let args = c .before .before .before .before .before .before .before .args in
+    let if1 = c .before .before .before .before .before .if1 in
+    let is-formula = c .before .before .before .before .is-formula in
+    let if2 = c .before .before .before .if2 in
+    let extent-of = c .before .before .extent-of in
+    too-deep (args .b .now) (args .nodes) (args .levels) (sym (is-formula .ensures) ∙ if2 .taken) (if1 .left) (extent-of .result) (extent-of .ensures)
+    (c .enum-told2 .given .1)
 
 returns-3 : tie.Need-returns-3
-returns-3 c = all-within (c .before .before .before .before .before .before .before .args .b .now) (c .before .before .before .before .before .before .before .args .nodes) (c .before .before .before .before .before .before .before .args .levels) (sym (c .before .before .before .before .is-formula .ensures) ∙ c .before .before .before .if2 .taken) (c .before .before .before .before .before .if1 .left) (c .before .before .extent-of .result) (c .enum-told .given .0 .0) (c .before .before .extent-of .ensures) (c .enum-told .given .1)
+returns-3 c =
+    let args = c .before .before .before .before .before .before .before .args in
+    let if1 = c .before .before .before .before .before .if1 in
+    let is-formula = c .before .before .before .before .is-formula in
+    let if2 = c .before .before .before .if2 in
+    let extent-of = c .before .before .extent-of in
+    all-within (args .b .now) (args .nodes) (args .levels) (sym (is-formula .ensures) ∙ if2 .taken) (if1 .left) (extent-of .result)
+    (c .enum-told .given .0 .0) (extent-of .ensures) (c .enum-told .given .1)
 
 returns-4 : tie.Need-returns-4
-returns-4 c = not-limited (c .before .before .before .before .args .b .now) (c .before .before .before .before .args .nodes) (c .before .before .before .before .args .levels) (sym (c .before .is-formula .ensures) ∙ c .if2 .left)
+returns-4 c =
+    let args = c .before .before .before .before .args in
+    not-limited (args .b .now) (args .nodes) (args .levels) (sym (c .before .is-formula .ensures) ∙ c .if2 .left)
 
 pub within-limits-spec : {M : Type 1} → statement M
 within-limits-spec =

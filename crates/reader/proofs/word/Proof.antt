@@ -64,9 +64,16 @@ add-result-3 c = search needs
 
 returns : tie.Need-returns
 unfolding word-at half-at
-returns c = let z : c .before .before .before .before .before .before .before .before .before .before .before .args .at + 2 + 1 ≡ c .before .before .before .before .before .before .before .before .before .before .before .args .at + 3 = omega arith in
-    let e : getD (c .before .before .before .before .before .before .before .before .before .before .before .args .b .now) (c .before .before .before .before .before .before .before .before .before .before .before .args .at + 2 + 1) 0 ≡ getD (c .before .before .before .before .before .before .before .before .before .before .before .args .b .now) (c .before .before .before .before .before .before .before .before .before .before .before .args .at + 3) 0 = ap (λ (i : ℕ). getD (c .before .before .before .before .before .before .before .before .before .before .before .args .b .now) i 0) z in
-    (omega (arith, c .before .before .before .before .before .before .wide .ensures, c .before .before .before .before .wide2 .ensures, c .before .before .wide3 .ensures, c .wide4 .ensures), omega (arith, c .before .before .before .before .before .before .wide .ensures .1, c .before .before .before .before .wide2 .ensures .1, c .before .before .wide3 .ensures .1, c .wide4 .ensures .1))
+returns c =
+    let args = c .before .before .before .before .before .before .before .before .before .before .before .args in
+    let wide = c .before .before .before .before .before .before .wide in
+    let wide2 = c .before .before .before .before .wide2 in
+    let wide3 = c .before .before .wide3 in
+    let z : args .at + 2 + 1 ≡ args .at + 3 = omega arith in
+    let e : getD (args .b .now) (args .at + 2 + 1) 0 ≡ getD (args .b .now) (args .at + 3) 0 = ap (λ (i : ℕ). getD (args .b .now) i 0) z in (
+      omega (arith, wide .ensures, wide2 .ensures, wide3 .ensures, c .wide4 .ensures),
+      omega (arith, wide .ensures .1, wide2 .ensures .1, wide3 .ensures .1, c .wide4 .ensures .1),
+    )
 
 half-requires : tie.Need-half-requires
 half-requires c κs = search needs

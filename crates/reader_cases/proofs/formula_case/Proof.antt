@@ -24,7 +24,9 @@ slice-reshare-prefix-judged : tie.Need-slice-reshare-prefix-judged
 slice-reshare-prefix-judged c = search needs
 
 slice-aggregate-judged : tie.Need-slice-aggregate-judged
-slice-aggregate-judged c = sym (length-take-le (c .before .before .before .unhex .result) (c .before .before .before .unhex .last .1 .0) (omega (arith, c .before .before .before .unhex .ensures, c .before .before .before .unhex .kept .1 .0)))
+slice-aggregate-judged c =
+    let unhex = c .before .before .before .unhex in
+    sym (length-take-le (unhex .result) (unhex .last .1 .0) (omega (arith, unhex .ensures, unhex .kept .1 .0)))
 
 judged-requires : tie.Need-judged-requires
 judged-requires c κs = search needs

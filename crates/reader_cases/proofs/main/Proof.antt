@@ -17,7 +17,9 @@ array-share-prefix-text : tie.Need-array-share-prefix-text
 array-share-prefix-text c = omega (arith, c .before .read-full .ensures, c .before .read-full .kept .1 .0)
 
 slice-aggregate-all-cases : tie.Need-slice-aggregate-all-cases
-slice-aggregate-all-cases c = sym (length-take-le (c .before .before .read-full .result) (c .before .before .read-full .last .1 .0) (omega (arith, c .before .before .read-full .ensures, c .before .before .read-full .kept .1 .0)))
+slice-aggregate-all-cases c =
+    let read-full = c .before .before .read-full in
+    sym (length-take-le (read-full .result) (read-full .last .1 .0) (omega (arith, read-full .ensures, read-full .kept .1 .0)))
 
 slice-aggregate-all-cases-2 : tie.Need-slice-aggregate-all-cases-2
 slice-aggregate-all-cases-2 c = sym (length-replicate {A = ℕ} 262272 0)

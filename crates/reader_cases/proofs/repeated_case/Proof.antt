@@ -39,7 +39,9 @@ array-share-prefix-nodes : tie.Need-array-share-prefix-nodes
 array-share-prefix-nodes c = search needs
 
 slice-aggregate-repeated : tie.Need-slice-aggregate-repeated
-slice-aggregate-repeated c = sym (length-take-le (c .before .before .unhex .result) (c .before .before .unhex .last .1 .0) (omega (arith, c .before .before .unhex .ensures, c .before .before .unhex .kept .1 .0)))
+slice-aggregate-repeated c =
+    let unhex = c .before .before .unhex in
+    sym (length-take-le (unhex .result) (unhex .last .1 .0) (omega (arith, unhex .ensures, unhex .kept .1 .0)))
 
 repeated-requires : tie.Need-repeated-requires
 repeated-requires c κs = search needs
@@ -48,7 +50,9 @@ slice-reshare-prefix-judged : tie.Need-slice-reshare-prefix-judged
 slice-reshare-prefix-judged c = search needs
 
 slice-aggregate-judged : tie.Need-slice-aggregate-judged
-slice-aggregate-judged c = sym (length-take-le (c .before .before .before .repeated .result) (c .before .before .before .repeated .last .1 .1 .1 .0) (omega (arith, c .before .before .before .repeated .ensures, c .before .before .before .repeated .kept .1 .1 .1 .0)))
+slice-aggregate-judged c =
+    let repeated = c .before .before .before .repeated in
+    sym (length-take-le (repeated .result) (repeated .last .1 .1 .1 .0) (omega (arith, repeated .ensures, repeated .kept .1 .1 .1 .0)))
 
 judged-requires : tie.Need-judged-requires
 judged-requires c κs = search needs

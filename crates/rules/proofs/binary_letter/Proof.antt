@@ -88,7 +88,19 @@ returns-9 : tie.Need-returns-9
 returns-9 c = rw (c .before .before .match .keys9) (c .byte9 .ensures)
 
 returns-10 : tie.Need-returns-10
-returns-10 c = rw (ne-eqb (c .before .args .q) 0x40 (c .match .rest .0 .0 .0 .0 .0 .0 .0 .0 .1), ne-eqb (c .before .args .q) 0x41 (c .match .rest .0 .0 .0 .0 .0 .0 .0 .1), ne-eqb (c .before .args .q) 0x42 (c .match .rest .0 .0 .0 .0 .0 .0 .1), ne-eqb (c .before .args .q) 0x43 (c .match .rest .0 .0 .0 .0 .0 .1), ne-eqb (c .before .args .q) 0x44 (c .match .rest .0 .0 .0 .0 .1), ne-eqb (c .before .args .q) 0x45 (c .match .rest .0 .0 .0 .1), ne-eqb (c .before .args .q) 0x46 (c .match .rest .0 .0 .1), ne-eqb (c .before .args .q) 0x47 (c .match .rest .0 .1), ne-eqb (c .before .args .q) 0x48 (c .match .rest .1))
+returns-10 c =
+    let args = c .before .args in
+    rw (
+      ne-eqb (args .q) 0x40 (c .match .rest .0 .0 .0 .0 .0 .0 .0 .0 .1),
+      ne-eqb (args .q) 0x41 (c .match .rest .0 .0 .0 .0 .0 .0 .0 .1),
+      ne-eqb (args .q) 0x42 (c .match .rest .0 .0 .0 .0 .0 .0 .1),
+      ne-eqb (args .q) 0x43 (c .match .rest .0 .0 .0 .0 .0 .1),
+      ne-eqb (args .q) 0x44 (c .match .rest .0 .0 .0 .0 .1),
+      ne-eqb (args .q) 0x45 (c .match .rest .0 .0 .0 .1),
+      ne-eqb (args .q) 0x46 (c .match .rest .0 .0 .1),
+      ne-eqb (args .q) 0x47 (c .match .rest .0 .1),
+      ne-eqb (args .q) 0x48 (c .match .rest .1),
+    )
 
 pub binary-letter-spec : {M : Type 1} → statement M
 binary-letter-spec =

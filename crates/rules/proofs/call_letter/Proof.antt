@@ -133,7 +133,24 @@ returns-14 : tie.Need-returns-14
 returns-14 c = rw (c .before .before .match .keys14) (c .byte14 .ensures)
 
 returns-15 : tie.Need-returns-15
-returns-15 c = rw (ne-eqb (c .before .args .q) 0x70 (c .match .rest .0 .0 .0 .0 .0 .0 .0 .0 .0 .0 .0 .0 .0 .1), ne-eqb (c .before .args .q) 0x71 (c .match .rest .0 .0 .0 .0 .0 .0 .0 .0 .0 .0 .0 .0 .1), ne-eqb (c .before .args .q) 0x72 (c .match .rest .0 .0 .0 .0 .0 .0 .0 .0 .0 .0 .0 .1), ne-eqb (c .before .args .q) 0x73 (c .match .rest .0 .0 .0 .0 .0 .0 .0 .0 .0 .0 .1), ne-eqb (c .before .args .q) 0x74 (c .match .rest .0 .0 .0 .0 .0 .0 .0 .0 .0 .1), ne-eqb (c .before .args .q) 0x75 (c .match .rest .0 .0 .0 .0 .0 .0 .0 .0 .1), ne-eqb (c .before .args .q) 0x76 (c .match .rest .0 .0 .0 .0 .0 .0 .0 .1), ne-eqb (c .before .args .q) 0x77 (c .match .rest .0 .0 .0 .0 .0 .0 .1), ne-eqb (c .before .args .q) 0x78 (c .match .rest .0 .0 .0 .0 .0 .1), ne-eqb (c .before .args .q) 0x7b (c .match .rest .0 .0 .0 .0 .1), ne-eqb (c .before .args .q) 0x7c (c .match .rest .0 .0 .0 .1), ne-eqb (c .before .args .q) 0x7d (c .match .rest .0 .0 .1), ne-eqb (c .before .args .q) 0x7e (c .match .rest .0 .1), ne-eqb (c .before .args .q) 0x7f (c .match .rest .1))
+returns-15 c =
+    let args = c .before .args in
+    rw (
+      ne-eqb (args .q) 0x70 (c .match .rest .0 .0 .0 .0 .0 .0 .0 .0 .0 .0 .0 .0 .0 .1),
+      ne-eqb (args .q) 0x71 (c .match .rest .0 .0 .0 .0 .0 .0 .0 .0 .0 .0 .0 .0 .1),
+      ne-eqb (args .q) 0x72 (c .match .rest .0 .0 .0 .0 .0 .0 .0 .0 .0 .0 .0 .1),
+      ne-eqb (args .q) 0x73 (c .match .rest .0 .0 .0 .0 .0 .0 .0 .0 .0 .0 .1),
+      ne-eqb (args .q) 0x74 (c .match .rest .0 .0 .0 .0 .0 .0 .0 .0 .0 .1),
+      ne-eqb (args .q) 0x75 (c .match .rest .0 .0 .0 .0 .0 .0 .0 .0 .1),
+      ne-eqb (args .q) 0x76 (c .match .rest .0 .0 .0 .0 .0 .0 .0 .1),
+      ne-eqb (args .q) 0x77 (c .match .rest .0 .0 .0 .0 .0 .0 .1),
+      ne-eqb (args .q) 0x78 (c .match .rest .0 .0 .0 .0 .0 .1),
+      ne-eqb (args .q) 0x7b (c .match .rest .0 .0 .0 .0 .1),
+      ne-eqb (args .q) 0x7c (c .match .rest .0 .0 .0 .1),
+      ne-eqb (args .q) 0x7d (c .match .rest .0 .0 .1),
+      ne-eqb (args .q) 0x7e (c .match .rest .0 .1),
+      ne-eqb (args .q) 0x7f (c .match .rest .1),
+    )
 
 pub call-letter-spec : {M : Type 1} → statement M
 call-letter-spec =

@@ -84,7 +84,30 @@ returns-18 c = rw (c .match .keys18)
 
 returns-19 : tie.Need-returns-19
 unfolding code-of
-returns-19 c = rw (ne-eqb (c .before .before .args .letter) 0x61 (c .before .match .rest .0 .0 .0 .0 .0 .0 .0 .0 .0 .0 .0 .0 .0 .0 .0 .0 .0 .1), ne-eqb (c .before .before .args .letter) 0x62 (c .before .match .rest .0 .0 .0 .0 .0 .0 .0 .0 .0 .0 .0 .0 .0 .0 .0 .0 .1), ne-eqb (c .before .before .args .letter) 0x63 (c .before .match .rest .0 .0 .0 .0 .0 .0 .0 .0 .0 .0 .0 .0 .0 .0 .0 .1), ne-eqb (c .before .before .args .letter) 0x78 (c .before .match .rest .0 .0 .0 .0 .0 .0 .0 .0 .0 .0 .0 .0 .0 .0 .1), ne-eqb (c .before .before .args .letter) 0x79 (c .before .match .rest .0 .0 .0 .0 .0 .0 .0 .0 .0 .0 .0 .0 .0 .1), ne-eqb (c .before .before .args .letter) 0x7a (c .before .match .rest .0 .0 .0 .0 .0 .0 .0 .0 .0 .0 .0 .0 .1), ne-eqb (c .before .before .args .letter) 0x77 (c .before .match .rest .0 .0 .0 .0 .0 .0 .0 .0 .0 .0 .0 .1), ne-eqb (c .before .before .args .letter) 0x30 (c .before .match .rest .0 .0 .0 .0 .0 .0 .0 .0 .0 .0 .1), ne-eqb (c .before .before .args .letter) 0x31 (c .before .match .rest .0 .0 .0 .0 .0 .0 .0 .0 .0 .1), ne-eqb (c .before .before .args .letter) 0x32 (c .before .match .rest .0 .0 .0 .0 .0 .0 .0 .0 .1), ne-eqb (c .before .before .args .letter) 0x33 (c .before .match .rest .0 .0 .0 .0 .0 .0 .0 .1), ne-eqb (c .before .before .args .letter) 0x68 (c .before .match .rest .0 .0 .0 .0 .0 .0 .1), ne-eqb (c .before .before .args .letter) 0x74 (c .before .match .rest .0 .0 .0 .0 .0 .1), ne-eqb (c .before .before .args .letter) 0x2d (c .before .match .rest .0 .0 .0 .0 .1), ne-eqb (c .before .before .args .letter) 0x65 (c .before .match .rest .0 .0 .0 .1), ne-eqb (c .before .before .args .letter) 0x54 (c .before .match .rest .0 .0 .1), ne-eqb (c .before .before .args .letter) 0x6e (c .before .match .rest .0 .1), ne-eqb (c .before .before .args .letter) 0x6d (c .before .match .rest .1)) (c .operator-code .ensures)
+returns-19 c =
+    let args = c .before .before .args in
+    let match = c .before .match in
+    rw (
+      ne-eqb (args .letter) 0x61 (match .rest .0 .0 .0 .0 .0 .0 .0 .0 .0 .0 .0 .0 .0 .0 .0 .0 .0 .1),
+      ne-eqb (args .letter) 0x62 (match .rest .0 .0 .0 .0 .0 .0 .0 .0 .0 .0 .0 .0 .0 .0 .0 .0 .1),
+      ne-eqb (args .letter) 0x63 (match .rest .0 .0 .0 .0 .0 .0 .0 .0 .0 .0 .0 .0 .0 .0 .0 .1),
+      ne-eqb (args .letter) 0x78 (match .rest .0 .0 .0 .0 .0 .0 .0 .0 .0 .0 .0 .0 .0 .0 .1),
+      ne-eqb (args .letter) 0x79 (match .rest .0 .0 .0 .0 .0 .0 .0 .0 .0 .0 .0 .0 .0 .1),
+      ne-eqb (args .letter) 0x7a (match .rest .0 .0 .0 .0 .0 .0 .0 .0 .0 .0 .0 .0 .1),
+      ne-eqb (args .letter) 0x77 (match .rest .0 .0 .0 .0 .0 .0 .0 .0 .0 .0 .0 .1),
+      ne-eqb (args .letter) 0x30 (match .rest .0 .0 .0 .0 .0 .0 .0 .0 .0 .0 .1),
+      ne-eqb (args .letter) 0x31 (match .rest .0 .0 .0 .0 .0 .0 .0 .0 .0 .1),
+      ne-eqb (args .letter) 0x32 (match .rest .0 .0 .0 .0 .0 .0 .0 .0 .1),
+      ne-eqb (args .letter) 0x33 (match .rest .0 .0 .0 .0 .0 .0 .0 .1),
+      ne-eqb (args .letter) 0x68 (match .rest .0 .0 .0 .0 .0 .0 .1),
+      ne-eqb (args .letter) 0x74 (match .rest .0 .0 .0 .0 .0 .1),
+      ne-eqb (args .letter) 0x2d (match .rest .0 .0 .0 .0 .1),
+      ne-eqb (args .letter) 0x65 (match .rest .0 .0 .0 .1),
+      ne-eqb (args .letter) 0x54 (match .rest .0 .0 .1),
+      ne-eqb (args .letter) 0x6e (match .rest .0 .1),
+      ne-eqb (args .letter) 0x6d (match .rest .1),
+    )
+    (c .operator-code .ensures)
 
 pub code-of-spec : {M : Type 1} → statement M
 code-of-spec =

@@ -53,7 +53,26 @@ returns-16 : tie.Need-returns-16
 returns-16 c = rw (c .match .keys16)
 
 returns-17 : tie.Need-returns-17
-returns-17 c = rw (ne-eqb (c .before .args .letter) 0x2b (c .match .rest .0 .0 .0 .0 .0 .0 .0 .0 .0 .0 .0 .0 .0 .0 .0 .1), ne-eqb (c .before .args .letter) 0x2a (c .match .rest .0 .0 .0 .0 .0 .0 .0 .0 .0 .0 .0 .0 .0 .0 .1), ne-eqb (c .before .args .letter) 0x2f (c .match .rest .0 .0 .0 .0 .0 .0 .0 .0 .0 .0 .0 .0 .0 .1), ne-eqb (c .before .args .letter) 0x5e (c .match .rest .0 .0 .0 .0 .0 .0 .0 .0 .0 .0 .0 .0 .1), ne-eqb (c .before .args .letter) 0x3c (c .match .rest .0 .0 .0 .0 .0 .0 .0 .0 .0 .0 .0 .1), ne-eqb (c .before .args .letter) 0x3e (c .match .rest .0 .0 .0 .0 .0 .0 .0 .0 .0 .0 .1), ne-eqb (c .before .args .letter) 0x3d (c .match .rest .0 .0 .0 .0 .0 .0 .0 .0 .0 .1), ne-eqb (c .before .args .letter) 0x3f (c .match .rest .0 .0 .0 .0 .0 .0 .0 .0 .1), ne-eqb (c .before .args .letter) 0x4c (c .match .rest .0 .0 .0 .0 .0 .0 .0 .1), ne-eqb (c .before .args .letter) 0x53 (c .match .rest .0 .0 .0 .0 .0 .0 .1), ne-eqb (c .before .args .letter) 0x43 (c .match .rest .0 .0 .0 .0 .0 .1), ne-eqb (c .before .args .letter) 0x46 (c .match .rest .0 .0 .0 .0 .1), ne-eqb (c .before .args .letter) 0x48 (c .match .rest .0 .0 .0 .1), ne-eqb (c .before .args .letter) 0x4d (c .match .rest .0 .0 .1), ne-eqb (c .before .args .letter) 0x58 (c .match .rest .0 .1), ne-eqb (c .before .args .letter) 0x59 (c .match .rest .1))
+returns-17 c =
+    let args = c .before .args in
+    rw (
+      ne-eqb (args .letter) 0x2b (c .match .rest .0 .0 .0 .0 .0 .0 .0 .0 .0 .0 .0 .0 .0 .0 .0 .1),
+      ne-eqb (args .letter) 0x2a (c .match .rest .0 .0 .0 .0 .0 .0 .0 .0 .0 .0 .0 .0 .0 .0 .1),
+      ne-eqb (args .letter) 0x2f (c .match .rest .0 .0 .0 .0 .0 .0 .0 .0 .0 .0 .0 .0 .0 .1),
+      ne-eqb (args .letter) 0x5e (c .match .rest .0 .0 .0 .0 .0 .0 .0 .0 .0 .0 .0 .0 .1),
+      ne-eqb (args .letter) 0x3c (c .match .rest .0 .0 .0 .0 .0 .0 .0 .0 .0 .0 .0 .1),
+      ne-eqb (args .letter) 0x3e (c .match .rest .0 .0 .0 .0 .0 .0 .0 .0 .0 .0 .1),
+      ne-eqb (args .letter) 0x3d (c .match .rest .0 .0 .0 .0 .0 .0 .0 .0 .0 .1),
+      ne-eqb (args .letter) 0x3f (c .match .rest .0 .0 .0 .0 .0 .0 .0 .0 .1),
+      ne-eqb (args .letter) 0x4c (c .match .rest .0 .0 .0 .0 .0 .0 .0 .1),
+      ne-eqb (args .letter) 0x53 (c .match .rest .0 .0 .0 .0 .0 .0 .1),
+      ne-eqb (args .letter) 0x43 (c .match .rest .0 .0 .0 .0 .0 .1),
+      ne-eqb (args .letter) 0x46 (c .match .rest .0 .0 .0 .0 .1),
+      ne-eqb (args .letter) 0x48 (c .match .rest .0 .0 .0 .1),
+      ne-eqb (args .letter) 0x4d (c .match .rest .0 .0 .1),
+      ne-eqb (args .letter) 0x58 (c .match .rest .0 .1),
+      ne-eqb (args .letter) 0x59 (c .match .rest .1),
+    )
 
 pub operator-code-spec : {M : Type 1} → statement M
 operator-code-spec =

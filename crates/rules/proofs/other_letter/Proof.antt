@@ -52,7 +52,15 @@ returns-5 : tie.Need-returns-5
 returns-5 c = rw (c .before .before .match .keys5) (c .byte5 .ensures)
 
 returns-6 : tie.Need-returns-6
-returns-6 c = rw (ne-eqb (c .before .args .q) 0x20 (c .match .rest .0 .0 .0 .0 .1), ne-eqb (c .before .args .q) 0x30 (c .match .rest .0 .0 .0 .1), ne-eqb (c .before .args .q) 0x31 (c .match .rest .0 .0 .1), ne-eqb (c .before .args .q) 0x80 (c .match .rest .0 .1), ne-eqb (c .before .args .q) 0x8d (c .match .rest .1))
+returns-6 c =
+    let args = c .before .args in
+    rw (
+      ne-eqb (args .q) 0x20 (c .match .rest .0 .0 .0 .0 .1),
+      ne-eqb (args .q) 0x30 (c .match .rest .0 .0 .0 .1),
+      ne-eqb (args .q) 0x31 (c .match .rest .0 .0 .1),
+      ne-eqb (args .q) 0x80 (c .match .rest .0 .1),
+      ne-eqb (args .q) 0x8d (c .match .rest .1),
+    )
 
 pub other-letter-spec : {M : Type 1} → statement M
 other-letter-spec =

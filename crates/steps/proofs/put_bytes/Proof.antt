@@ -33,7 +33,14 @@ loop-less : tie.Need-loop-less Inv-loop μ-loop
 loop-less c = omega arith
 
 loop-again : tie.Need-loop-again Inv-loop μ-loop
-loop-again c = (omega arith, length-set (c .before .before .loop .out) (c .before .before .before .args .at + c .before .before .loop .i) _ ∙ c .before .before .loop .inv .1, ap (λ (x : List ℕ). set x (c .before .before .before .args .at + c .before .before .loop .i) (getD (c .before .before .before .args .b .now) (c .before .before .loop .i) 0)) (c .before .before .loop .inv .2) ∙ paste-more (c .before .before .before .args .out .now) (c .before .before .before .args .at) (c .before .before .before .args .b .now) (c .before .before .loop .i) (omega arith) (omega arith))
+loop-again c =
+    let args = c .before .before .before .args in
+    let loop = c .before .before .loop in (
+      omega arith,
+      length-set (loop .out) (args .at + loop .i) _ ∙ loop .inv .1,
+      ap (λ (x : List ℕ). set x (args .at + loop .i) (getD (args .b .now) (loop .i) 0)) (loop .inv .2)
+          ∙ paste-more (args .out .now) (args .at) (args .b .now) (loop .i) (omega arith) (omega arith),
+    )
 
 add-result : tie.Need-add-result Inv-loop μ-loop
 add-result c = omega arith
@@ -42,7 +49,11 @@ same-length : tie.Need-same-length Inv-loop μ-loop
 same-length c = c .before .loop .inv .1
 
 returns : tie.Need-returns Inv-loop μ-loop
-returns c = let e : c .before .loop .i ≡ length (c .before .before .args .b .now) = omega arith in (ap (λ (x : ℕ). c .before .before .args .at + x) e, c .before .loop .inv .2 ∙ paste-over (c .before .before .args .out .now) (c .before .before .args .at) (c .before .loop .i) (c .before .before .args .b .now) e)
+returns c =
+    let args = c .before .before .args in
+    let loop = c .before .loop in
+    let e : loop .i ≡ length (args .b .now) = omega arith in
+    (ap (λ (x : ℕ). args .at + x) e, loop .inv .2 ∙ paste-over (args .out .now) (args .at) (loop .i) (args .b .now) e)
 
 pub put-bytes-spec : {M : Type 1} → statement M
 put-bytes-spec =

@@ -17,9 +17,13 @@ long-root-requires c κs = search needs
 
 small : (c : tie.After-long-root) → c .long-root .result < 2 ^ 54
 small c =
-    let e = c .before .evened in
-    root-small (c .before .before .before .args .b) (c .before .before .normalised .result .digits) (c .before .before .normalised .result .exp) (c .before .evened .result) (c .long-root .result) (c .before .before .before .pre .1) (c .before .before .normalised .ensures .3) (c .before .before .normalised .ensures .0) (c .before .before .normalised .ensures .2)
-    (e .ensures .2) (e .ensures .0) (e .ensures .1) (c .long-root .ensures)
+    let args = c .before .before .before .args in
+    let pre = c .before .before .before .pre in
+    let normalised = c .before .before .normalised in
+    let evened = c .before .evened in
+    let e = evened in
+    root-small (args .b) (normalised .result .digits) (normalised .result .exp) (evened .result) (c .long-root .result) (pre .1) (normalised .ensures .3)
+    (normalised .ensures .0) (normalised .ensures .2) (e .ensures .2) (e .ensures .0) (e .ensures .1) (c .long-root .ensures)
 
 add-result : tie.Need-add-result
 add-result c = search needs
@@ -35,10 +39,14 @@ add-result-3 c = let h = small (c) in omega arith
 
 returns : tie.Need-returns
 returns c =
-    let e = c .before .evened in (
+    let args = c .before .before .before .args in
+    let pre = c .before .before .before .pre in
+    let normalised = c .before .before .normalised in
+    let evened = c .before .evened in
+    let e = evened in (
       let h = small (c) in omega arith,
-      root-pattern (c .before .before .before .args .b) (c .before .before .normalised .result .digits) (c .before .before .normalised .result .exp) (c .before .evened .result) (c .long-root .result) (c .before .before .before .pre .1) (c .before .before .normalised .ensures .3) (c .before .before .normalised .ensures .0) (c .before .before .normalised .ensures .2)
-          (e .ensures .2) (e .ensures .0) (e .ensures .1) (c .long-root .ensures),
+      root-pattern (args .b) (normalised .result .digits) (normalised .result .exp) (evened .result) (c .long-root .result) (pre .1)
+          (normalised .ensures .3) (normalised .ensures .0) (normalised .ensures .2) (e .ensures .2) (e .ensures .0) (e .ensures .1) (c .long-root .ensures),
     )
 
 pub root-bits-spec : {M : Type 1} → statement M

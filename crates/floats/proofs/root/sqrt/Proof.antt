@@ -28,7 +28,10 @@ float-from-bits-result : tie.Need-float-from-bits-result
 float-from-bits-result c = no-nan-bits (c .root-bits .result) (c .root-bits .ensures .0)
 
 returns : tie.Need-returns
-returns c = c .root-bits .ensures .1 ∙ ap (sqrt binary64) (ofBits-toBits binary64 (c .before .before .before .args .x) (held (fits binary64 (c .before .before .before .args .x)) (c .before .before .before .good .0 .1)))
+returns c =
+    let args = c .before .before .before .args in
+    let good = c .before .before .before .good in
+    c .root-bits .ensures .1 ∙ ap (sqrt binary64) (ofBits-toBits binary64 (args .x) (held (fits binary64 (args .x)) (good .0 .1)))
 
 returns-2 : tie.Need-returns-2
 unfolding ofBits

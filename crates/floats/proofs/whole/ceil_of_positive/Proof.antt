@@ -28,11 +28,23 @@ int-to-float-result c = let h = small (c .before .before .before) in in-float _ 
 
 returns : tie.Need-returns
 unfolding ofBits
-returns c = rw (c .before .before .before .truncating-f64-to-u64 .ensures) (ceil-raised (above-of (c .before .before .before .before .before .args .x) (c .before .before .before .before .before .pre)) (c .before .before .before .before .if1 .taken) (rw (c .before .before .before .truncating-f64-to-u64 .ensures) at (c .before .if2 .taken)))
+returns c =
+    let args = c .before .before .before .before .before .args in
+    let pre = c .before .before .before .before .before .pre in
+    let if1 = c .before .before .before .before .if1 in
+    let truncating-f64-to-u64 = c .before .before .before .truncating-f64-to-u64 in
+    let the-truncating-f64-to-u64 = truncating-f64-to-u64 .ensures in
+    rw the-truncating-f64-to-u64 (ceil-raised (above-of (args .x) (pre)) (if1 .taken) (rw the-truncating-f64-to-u64 at (c .before .if2 .taken)))
 
 returns-2 : tie.Need-returns-2
 unfolding ofBits
-returns-2 c = rw (c .before .before .truncating-f64-to-u64 .ensures) (ceil-kept (above-of (c .before .before .before .before .args .x) (c .before .before .before .before .pre)) (c .before .before .before .if1 .taken) (rw (c .before .before .truncating-f64-to-u64 .ensures) at (c .if2 .left)))
+returns-2 c =
+    let args = c .before .before .before .before .args in
+    let pre = c .before .before .before .before .pre in
+    let if1 = c .before .before .before .if1 in
+    let truncating-f64-to-u64 = c .before .before .truncating-f64-to-u64 in
+    let the-truncating-f64-to-u64 = truncating-f64-to-u64 .ensures in
+    rw the-truncating-f64-to-u64 (ceil-kept (above-of (args .x) (pre)) (if1 .taken) (rw the-truncating-f64-to-u64 at (c .if2 .left)))
 
 returns-3 : tie.Need-returns-3
 unfolding ofBits

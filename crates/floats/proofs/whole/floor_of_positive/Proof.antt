@@ -12,7 +12,11 @@ truncating-f64-to-u64-requires c κs = truncates (above-of (c .before .args .x) 
 
 int-to-float-result : tie.Need-int-to-float-result
 unfolding ofBits
-int-to-float-result c = rw (c .before .truncating-f64-to-u64 .ensures) (in-float _ (le-of-lt (cast-lt (above-of (c .before .before .before .args .x) (c .before .before .before .pre)) (c .before .before .if1 .taken))))
+int-to-float-result c =
+    let args = c .before .before .before .args in
+    let pre = c .before .before .before .pre in
+    let if1 = c .before .before .if1 in
+    rw (c .before .truncating-f64-to-u64 .ensures) (in-float _ (le-of-lt (cast-lt (above-of (args .x) (pre)) (if1 .taken))))
 
 returns : tie.Need-returns
 unfolding ofBits

@@ -23,8 +23,11 @@ floor-requires c κs = search needs
 
 returns : tie.Need-returns
 returns c =
-    ap (λ (y : Float). eq y (c .before .before .before .args .x)) (c .floor .ensures)
-    ∙ whole-is binary64 (c .before .before .before .args .x) (held (fits binary64 (c .before .before .before .args .x)) (c .before .before .before .good .0 .1)) (sym (c .before .before .is-finite .ensures) ∙ c .before .if1 .taken)
+    let args = c .before .before .before .args in
+    let good = c .before .before .before .good in
+    let is-finite = c .before .before .is-finite in
+    ap (λ (y : Float). eq y (args .x)) (c .floor .ensures)
+    ∙ whole-is binary64 (args .x) (held (fits binary64 (args .x)) (good .0 .1)) (sym (is-finite .ensures) ∙ c .before .if1 .taken)
 
 returns-2 : tie.Need-returns-2
 returns-2 c = not-finite (c .before .before .args .x) (sym (c .before .is-finite .ensures) ∙ c .if1 .left)
