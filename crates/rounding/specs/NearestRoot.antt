@@ -1,35 +1,35 @@
--- "Sqrt is the nearest f64 to the exact root, proved over whole numbers; of -0 it is -0": for any width, p digits in a significand and values below
--- 2 ^ (em + 1). In units of the smallest positive value the radicand a / c is n / c, a square of units. A value of the format is j units, where j has
--- at most p digits with zeros after them (`Short`). The result's v is nearer to the root than j is where the root lies on v's side of half way
--- between them: 4 n < (v + j)² c for a j above v, and the other way round for one below. No root of a value lies half way, so v is nearer than any
--- other value.
+-- "Sqrt is the nearest f64 to the exact root, proved over whole numbers; of -0 it is -0": for any width. In units the radicand a / c is n / c, a square of
+-- units. A value of the width is j units, where j has at most p digits with zeros after them (`Short`). The result's v is nearer to the root than j is
+-- where the root lies on v's side of half way between them: 4 n < (v + j)² c for a j above v, and the other way round for one below. No root of a value
+-- lies half way, so v is nearer than any other value.
 use mathlib.Core.Path.{_≡_, refl, sym, ap, ap₂, _∙_, subst}
 use mathlib.Core.Logic.{_⊎_, inl, inr}
 use mathlib.Core.Bool.{Bool, true, false, cond}
 use Prim.Native.Nat.{ℕ, zero-le, suc, _+_, _-_, _*_, _/_, _^_, _≤_, _<_, compare}
-use native.Mathlib.Nat.{mul-le-mul-left, eq-of-mul-eq-mul-right, mul-lt-mul-of-pos-left, le-trans, le-of-eq, le-of-lt, lt-of-lt-of-le, lt-of-le-of-lt, lt-of-not-le, not-le-of-lt, eq-or-lt-of-le, one-mul, mul-pos, mul-one, mul-assoc, mul-comm, mul-left-comm, add-mul, mul-le-mul, mul-le-mul-right, mul-lt-mul-of-pos-right, le-div-iff-mul-le, div-lt-iff-lt-mul, lt-of-mul-lt-mul-right, suc-mul, add-comm, pow-succ'}
+use native.Mathlib.Nat.{mul-le-mul-left, eq-of-mul-eq-mul-right, mul-lt-mul-of-pos-left, le-trans, le-of-eq, le-of-lt, lt-of-lt-of-le, lt-of-le-of-lt, lt-of-not-le, not-le-of-lt, eq-or-lt-of-le, one-mul, mul-pos, mul-one, mul-assoc, mul-comm, mul-left-comm, add-mul, mul-le-mul, mul-le-mul-right, mul-lt-mul-of-pos-right, le-div-iff-mul-le, div-lt-iff-lt-mul, lt-of-mul-lt-mul-right, suc-mul, zero-lt-suc, add-comm, pow-succ'}
 use native.Mathlib.Decide.{decLe}
 use native.Mathlib.Numerals.{add-one}
 use native.Mathlib.Omega.{arith}
-use borrow.Author.Tests.{lt-ltb}
+use borrow.Author.Tests.{lt-leb}
 use lib.Arith.{lt-of-le-ne}
-use lib.Dec.{T, lit<, lit≤}
+use lib.Dec.{T, lit≤}
 use lib.IntN.{ℤ}
 use lib.Pow.{pow-pos, pow-add, pow-mono, pow-lt}
 use lib.Ieee.{Float, nan, inf, fin, Format, binary32, binary64, prec, emax, low, up, down, size, nearest, odd, fits}
 use lib.Ieee.Digits.{size-lt, size-reaches}
 use lib.Ieee.Exact.{HasValue, odd-sign}
 use lib.Ieee.Fits.{down-pos, nearest-le}
-use Rattle.arithmetic.specs.Root.{least, units, root, nearest-root, sqrt-at, sqrt}
+use Rattle.arithmetic.specs.Width.{Width, width, digits, least, past, of-units}
+use Rattle.arithmetic.specs.Root.{root, nearest-root, sqrt-at, sqrt}
 use Rattle.rounding.specs.Square.{square-more, square-twice, root-is, root-ge, root-lt}
 use Rattle.rounding.specs.Digits.{nearest-cases}
 use Rattle.rounding.specs.Value.{Short, fits-says, placed}
 
 -- the radicand in squared units, times c
-abbrev pub squared-units : ℕ → ℕ → ℕ → ℕ
-squared-units p em a = a * 2 ^ least p em * 2 ^ least p em
+abbrev pub squared-units : Width → ℕ → ℕ
+squared-units W a = a * 2 ^ least W * 2 ^ least W
 
--- of the root in units the format drops so many digits, and keeps these
+-- the digits at the end of the root that no value of its size has, and the root without them
 abbrev pub dropped : ℕ → ℕ → ℕ → ℕ
 dropped p n c = size (root (n / c)) - p
 
@@ -284,86 +284,100 @@ module _ (p n c : ℕ) (P : 0 < p) (C : 0 < c) where
       most : v ≤ q * w + w
       most = le-trans (mul-le-mul-right w (nearest-le q (compare (4 * n) ((2 * q + 1) * (2 * q + 1) * u)))) (le-of-eq (suc-mul q w))
 
--- ---- the root of a / c, below 2 ^ (em + 1): y is a value of the format, and no value of the format is nearer
-pub record IsNearestRoot (p em a c : ℕ) (y : Float) : Type 0 where
+-- ---- the root of a / c, below 2 ^ (power + 1): y is a value of the width, and no value of the width is nearer
+pub record IsNearestRoot (W : Width) (a c : ℕ) (y : Float) : Type 0 where
   pub value : ℕ
-  pub has : HasValue y false value (2 ^ least p em)
-  pub short : Short p value
-  pub in-range : value < 2 ^ (least p em + suc em)
-  pub above : (j : ℕ) → Short p j → value < j → 4 * squared-units p em a < (value + j) * (value + j) * c
-  pub below : (j : ℕ) → Short p j → j < value → (value + j) * (value + j) * c < 4 * squared-units p em a
+  pub has : HasValue y false value (2 ^ least W)
+  pub short : Short (digits W) value
+  pub in-range : value < past W
+  pub above : (j : ℕ) → Short (digits W) j → value < j → 4 * squared-units W a < (value + j) * (value + j) * c
+  pub below : (j : ℕ) → Short (digits W) j → j < value → (value + j) * (value + j) * c < 4 * squared-units W a
 
-units-value : (p em q k : ℕ) → q * 2 ^ k < 2 ^ (least p em + suc em) → HasValue (units p em false q k) false (q * 2 ^ k) (2 ^ least p em)
-unfolding units
-units-value p em q k h =
-    subst (λ (b : Bool). HasValue (cond b (odd (suc p) false q k (least p em)) (inf false)) false (q * 2 ^ k) (2 ^ least p em)) (sym (lt-ltb (q * 2 ^ k) (2 ^ (least p em + suc em)) h))
-    (odd-sign (suc p) false q k (least p em))
+units-value : (W : Width) (q k : ℕ) → q * 2 ^ k < past W → HasValue (of-units W false q k) false (q * 2 ^ k) (2 ^ least W)
+unfolding of-units
+units-value W q k h =
+    subst (λ (b : Bool). HasValue (cond b (inf false) (odd (suc (digits W)) false q k (least W))) false (q * 2 ^ k) (2 ^ least W)) (sym (lt-leb (past W) (q * 2 ^ k) h))
+    (odd-sign (suc (digits W)) false q k (least W))
 
-nearest-root-is : (p em a c : ℕ) → nearest-root p em a c ≡ units p em false (kept (squared-units p em a) c (dropped p (squared-units p em a) c)) (dropped p (squared-units p em a) c)
+nearest-root-is : (W : Width) (a c : ℕ)
+    → nearest-root W a c ≡ of-units W false (kept (squared-units W a) c (dropped (digits W) (squared-units W a) c)) (dropped (digits W) (squared-units W a) c)
 unfolding nearest-root
-nearest-root-is p em a c = refl
+nearest-root-is W a c = refl
 
-root-in-range : (p em a c : ℕ) (P : 0 < p) (C : 0 < c) → 1 ≤ em → a < 2 ^ suc em * c → v p (squared-units p em a) c P C < 2 ^ (least p em + suc em)
-root-in-range p em a c P C E h =
-    let W = 2 ^ least p em in
+root-in-range : (W : Width) (a c : ℕ) (C : 0 < c) → 1 ≤ W .power → a < 2 ^ suc (W .power) * c → v (digits W) (squared-units W a) c (zero-lt-suc (W .fraction)) C < past W
+root-in-range W a c C E h =
+    let em = W .power in
+    let l = least W in
+    let U = 2 ^ l in
     let M = 2 ^ em in
-    let n = squared-units p em a in
+    let n = squared-units W a in
     let two : 2 ^ 1 ≤ M = pow-mono E in
-    let b : 2 ^ 1 * 1 ≤ M * W = mul-le-mul two (pow-pos (least p em)) in
+    let b : 2 ^ 1 * 1 ≤ M * U = mul-le-mul two (pow-pos l) in
     let e : 2 ^ suc em ≤ M * M = le-trans (pow-mono {i = suc em} {j = em + em} (omega arith)) (le-of-eq (pow-add 2 em em)) in
     let g : a < M * M * c = lt-of-lt-of-le h (mul-le-mul-right c e) in
-    let r : n < M * W * (M * W) * c = lt-of-lt-of-le (mul-lt-mul-of-pos-right (mul-lt-mul-of-pos-right g (pow-pos (least p em))) (pow-pos (least p em))) (le-of-eq (regroup M c W)) in
-    lt-of-lt-of-le (bounded p n c P C (M * W) (omega arith) r)
-    (le-of-eq (sym (mul-assoc 2 M W) ∙ ap (λ (x : ℕ). x * W) (sym (pow-succ' 2 em)) ∙ sym (pow-add 2 (suc em) (least p em)) ∙ ap (λ (x : ℕ). 2 ^ x) (add-comm (suc em) (least p em))))
+    let r : n < M * U * (M * U) * c = lt-of-lt-of-le (mul-lt-mul-of-pos-right (mul-lt-mul-of-pos-right g (pow-pos l)) (pow-pos l)) (le-of-eq (regroup M c U)) in
+    lt-of-lt-of-le (bounded (digits W) n c (zero-lt-suc (W .fraction)) C (M * U) (omega arith) r)
+    (le-of-eq (sym (mul-assoc 2 M U) ∙ ap (λ (x : ℕ). x * U) (sym (pow-succ' 2 em)) ∙ sym (pow-add 2 (suc em) l) ∙ ap (λ (x : ℕ). 2 ^ x) (add-comm (suc em) l)))
   where
     regroup : (M c W : ℕ) → M * M * c * W * W ≡ M * W * (M * W) * c
     regroup M c W = simp (mul-assoc, mul-comm, mul-left-comm)
 
--- a / c is a value of the format: `units` of the smallest one
-pub nearest-root-nearest : (p em a c units : ℕ) → 0 < p → 1 ≤ em → 0 < c → a < 2 ^ suc em * c → Short p units → a * 2 ^ least p em ≡ units * c → IsNearestRoot p em a c (nearest-root p em a c)
-nearest-root-nearest p em a c units P E C h x e =
-    let n = squared-units p em a in
+-- a / c is a value of the width, of so many units
+pub nearest-root-nearest : (W : Width) (a c units : ℕ) → 1 ≤ W .power → 0 < c → a < 2 ^ suc (W .power) * c → Short (digits W) units → a * 2 ^ least W ≡ units * c
+    → IsNearestRoot W a c (nearest-root W a c)
+nearest-root-nearest W a c units E C h x e =
+    let p = digits W in
+    let P : 0 < p = zero-lt-suc (W .fraction) in
+    let n = squared-units W a in
     let k = dropped p n c in
-    let W = 2 ^ least p em in
-    let l = root-in-range p em a c P C E h in
-    let n-is : n ≡ units * c * W = ap (λ (z : ℕ). z * W) e in
+    let U = 2 ^ least W in
+    let l = root-in-range W a c C E h in
+    let n-is : n ≡ units * c * U = ap (λ (z : ℕ). z * U) e in
     record {
       value = v p n c P C;
-      has = subst (λ (y : Float). HasValue y false (v p n c P C) W) (sym (nearest-root-is p em a c)) (units-value p em (kept n c k) k l);
+      has = subst (λ (y : Float). HasValue y false (v p n c P C) U) (sym (nearest-root-is W a c)) (units-value W (kept n c k) k l);
       short = short p n c P C;
       in-range = l;
-      above = λ j s l. above p n c P C W units (x .digits) (x .zeros) (least p em) (x .few) (x .same) refl n-is j (s .digits) (s .zeros) (s .few) (s .same) l;
-      below = λ j s l. below p n c P C W units (x .digits) (x .zeros) (least p em) (x .few) (x .same) refl n-is j (s .digits) (s .zeros) (s .few) (s .same) l;
+      above = λ j s l. above p n c P C U units (x .digits) (x .zeros) (least W) (x .few) (x .same) refl n-is j (s .digits) (s .zeros) (s .few) (s .same) l;
+      below = λ j s l. below p n c P C U units (x .digits) (x .zeros) (least W) (x .few) (x .same) refl n-is j (s .digits) (s .zeros) (s .few) (s .same) l;
     }
 
 -- ---- Sqrt
 -- of a value above 0 that the format holds
-pub sqrt-nearest : (F : Format) (m : ℕ) (e : ℤ) → T (fits F (fin false (suc m) e)) → IsNearestRoot (prec F) (emax F) (suc m * up e) (down e) (sqrt F (fin false (suc m) e))
+pub sqrt-nearest : (F : Format) (m : ℕ) (e : ℤ) → T (fits F (fin false (suc m) e)) → IsNearestRoot (width F) (suc m * up e) (down e) (sqrt F (fin false (suc m) e))
 unfolding sqrt-at
 sqrt-nearest F m e t =
     let h = fits-says F false m e t in
     let x = placed (low F) e (h .fine) in
-    nearest-root-nearest (prec F) (emax F) (suc m * up e) (down e) (suc m * 2 ^ x .exponent) (digits F) (exponents F) (down-pos e) (h .range)
-    (record { digits = suc m; zeros = x .exponent; few = h .digits; same = refl })
-    (mul-assoc (suc m) (up e) (2 ^ low F) ∙ ap (λ (z : ℕ). suc m * z) (x .same) ∙ sym (mul-assoc (suc m) (2 ^ x .exponent) (down e)))
+    nearest-root-nearest (width F) (suc m * up e) (down e) (suc m * 2 ^ x .exponent) (exponents F) (down-pos e) (range F (h .range))
+    (record { digits = suc m; zeros = x .exponent; few = few F (h .digits); same = refl })
+    (ap (λ (z : ℕ). suc m * up e * 2 ^ z) (units F) ∙ mul-assoc (suc m) (up e) (2 ^ low F) ∙ ap (λ (z : ℕ). suc m * z) (x .same) ∙ sym (mul-assoc (suc m) (2 ^ x .exponent) (down e)))
   where
-    digits : (F : Format) → 0 < prec F
-    digits binary32 = lit< tt
-    digits binary64 = lit< tt
+    few : (F : Format) → suc m < 2 ^ prec F → suc m < 2 ^ digits (width F)
+    few binary32 h = h
+    few binary64 h = h
 
-    exponents : (F : Format) → 1 ≤ emax F
+    range : (F : Format) → suc m * up e < 2 ^ suc (emax F) * down e → suc m * up e < 2 ^ suc (width F .power) * down e
+    range binary32 h = h
+    range binary64 h = h
+
+    units : (F : Format) → least (width F) ≡ low F
+    units binary32 = refl
+    units binary64 = refl
+
+    exponents : (F : Format) → 1 ≤ width F .power
     exponents binary32 = lit≤ tt
     exponents binary64 = lit≤ tt
 
 -- "of -0 it is -0": a zero is its own root, and below zero there is none
-pub sqrt-zero : (p em : ℕ) (s : Bool) (e : ℤ) → sqrt-at p em (fin s 0 e) ≡ fin s 0 e
+pub sqrt-zero : (W : Width) (s : Bool) (e : ℤ) → sqrt-at W (fin s 0 e) ≡ fin s 0 e
 unfolding sqrt-at
-sqrt-zero p em s e = refl
+sqrt-zero W s e = refl
 
-pub sqrt-below-zero : (p em m : ℕ) (e : ℤ) → sqrt-at p em (fin true (suc m) e) ≡ nan
+pub sqrt-below-zero : (W : Width) (m : ℕ) (e : ℤ) → sqrt-at W (fin true (suc m) e) ≡ nan
 unfolding sqrt-at
-sqrt-below-zero p em m e = refl
+sqrt-below-zero W m e = refl
 
-pub sqrt-infinity : (p em : ℕ) → (sqrt-at p em (inf false) ≡ inf false) × (sqrt-at p em (inf true) ≡ nan)
+pub sqrt-infinity : (W : Width) → (sqrt-at W (inf false) ≡ inf false) × (sqrt-at W (inf true) ≡ nan)
 unfolding sqrt-at
-sqrt-infinity p em = (refl, refl)
+sqrt-infinity W = (refl, refl)

@@ -2,13 +2,13 @@
 use mathlib.Core.Path.{_≡_, refl, sym, ap, _∙_, subst, subst₂}
 use mathlib.Core.Bool.{Bool, true, false, _&&_, cond}
 use Prim.Native.Nat.{ℕ, zero, suc, _+_, _-_, _*_, _/_, _%_, _^_, _≤_, _<_, zero-le}
-use native.Mathlib.Nat.{lt-of-not-le, not-le-of-lt, le-trans, le-of-eq, le-of-lt, le-refl, le-suc, lt-of-lt-of-le, lt-of-le-of-lt, zero-lt-suc, mul-one, one-mul, zero-mul, mul-assoc, mul-lt-mul-of-pos-right, div-one, mod-one, zero-div, zero-mod, add-comm, pow-succ'}
+use native.Mathlib.Nat.{lt-of-not-le, not-le-of-lt, le-trans, le-of-eq, le-of-lt, le-refl, le-suc, lt-of-lt-of-le, lt-of-le-of-lt, zero-lt-suc, mul-one, one-mul, zero-mul, mul-assoc, mul-lt-mul-of-pos-right, div-one, mod-one, zero-div, zero-mod, add-comm}
 use native.Mathlib.Omega.{arith}
 use borrow.Author.Tests.{eq-eqb}
-use lib.Dec.{T, ltb, leb, eqb, ltb→lt, leb→le, eqb→eq}
+use lib.Dec.{T, ltb, leb, eqb, ltb→lt, leb→le}
 use lib.IntN.{ℤ, pos, negsuc}
 use lib.Pow.{pow-pos, pow-add, pow-lt, shr-le}
-use lib.Ieee.{Float, fin, Format, prec, emax, low, up, down, round, fits}
+use lib.Ieee.{Float, nan, inf, fin, Format, prec, emax, low, up, down, round, fits}
 use lib.Ieee.Fits.{and-l, and-r, round-fits}
 use lib.Ieee.Exact.{HasValue, round-exact}
 use lib.Ieee.Back.{round-whole, whole-unique}
@@ -58,15 +58,20 @@ fits-says F s m e t =
       range = ltb→lt (suc m * up e) (2 ^ suc (emax F) * down e) (and-r (p && q && r) w t);
     }
 
-two-up : (p : ℕ) → 0 < p → 2 * p ≡ 1 → ⊥
-two-up p h e = omega arith
-
 -- a zero is written in one way
+exponent : Float → ℤ
+exponent nan = pos 0
+exponent (inf s) = pos 0
+exponent (fin s m e) = e
+
 pub zero-exponent : (F : Format) (s : Bool) (e : ℤ) → T (fits F (fin s zero e)) → e ≡ pos 0
-unfolding fits
-zero-exponent F s (pos zero) t = refl
-zero-exponent F s (pos (suc k)) t = absurd (two-up (2 ^ k) (pow-pos k) (sym (pow-succ' 2 k) ∙ sym (mul-one (2 ^ suc k)) ∙ eqb→eq (2 ^ suc k * 1) 1 t))
-zero-exponent F s (negsuc k) t = absurd (two-up (2 ^ k) (pow-pos k) (sym (pow-succ' 2 k) ∙ sym (one-mul (2 ^ suc k)) ∙ eqb→eq (1 * 2 ^ suc k) 1 t))
+unfolding exponent
+zero-exponent F s e t =
+    let plain : T (fits F (fin s zero (pos 0))) = unfold fits in tt in
+    ap exponent (whole-unique F (fin s zero e) (fin s zero (pos 0)) s 0 t plain (refl, none e) (refl, none (pos 0)))
+  where
+    none : (e : ℤ) → 0 * up e * 1 ≡ 0 * down e
+    none e = mul-one (0 * up e) ∙ zero-mul (up e) ∙ sym (zero-mul (down e))
 
 pub holds : (F : Format) (s : Bool) (m : ℕ) (e : ℤ) → T (fits F (fin s m e)) → Held F m e
 holds F s zero e t =
