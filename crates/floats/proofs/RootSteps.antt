@@ -16,8 +16,9 @@ use lib.Ieee.Bits.{ofBits-toBits, nanBits-above}
 use lib.Ieee.Positive.{num, den, positive, den-pos, positive-of-value, value→cross, first-pos}
 use Rattle.arithmetic.specs.Width.{Width, width, of-units}
 use Rattle.arithmetic.specs.Root.{nearest-root, sqrt-at, sqrt}
-use Rattle.rounding.specs.Square.{Root, square-more, root-ge, root-lt}
-use Rattle.rounding.specs.RootDigits.{root-by-digits}
+use Rattle.rounding.specs.Square.{Root}
+use Rattle.rounding.proofs.Square.{square-more, root-ge, root-lt}
+use Rattle.rounding.proofs.RootDigits.{root-by-digits}
 use Rattle.floats.specs.Fields.{significand, magnitude, infinity-bits}
 use Rattle.floats.proofs.Bits.{of-pattern, bits-value, pattern-in}
 use Rattle.floats.proofs.Zero.{Above, infinity, number, Still, unordered, zero±, Below, infinity-, number-}

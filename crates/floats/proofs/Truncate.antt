@@ -14,7 +14,7 @@ use lib.Ieee.Fits.{down-pos}
 use lib.Ieee.Exact.{HasValue}
 use lib.Ieee.Back.{round-whole}
 use Rattle.arithmetic.specs.Round.{ceil-div, floor, ceil}
-use Rattle.rounding.specs.Value.{fits-says, round-of-whole, ceil-div-one}
+use Rattle.rounding.proofs.Value.{fits-says, round-of-whole, ceil-div-one}
 use Rattle.floats.proofs.Zero.{Above, infinity, number, Still, unordered, zero±}
 
 -- ---- a test against 2 ^ k

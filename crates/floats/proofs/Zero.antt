@@ -11,7 +11,7 @@ use lib.Ieee.{Float, nan, inf, fin, Format, up, down, neg, lt, fits}
 use lib.Ieee.Fits.{up-pos}
 use lib.Ieee.Bits.{is-true}
 use Rattle.arithmetic.specs.Value.{0f}
-use Rattle.rounding.specs.Value.{zero-exponent}
+use Rattle.rounding.proofs.Value.{zero-exponent}
 
 pub held : (b : Bool) → b ≡ true → T b
 held b e = subst T (sym e) tt

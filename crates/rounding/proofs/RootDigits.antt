@@ -10,8 +10,9 @@ use lib.Pow.{pow-pos, pow-add}
 use lib.Ieee.{Float, size, nearest}
 use Rattle.arithmetic.specs.Width.{Width, digits, least, of-units}
 use Rattle.arithmetic.specs.Root.{root, nearest-root}
-use Rattle.rounding.specs.Square.{Root, square-twice, square-more, root-is, root-ge, root-lt, root-unique}
-use Rattle.rounding.specs.Digits.{less, more, size-of}
+use Rattle.rounding.specs.Square.{Root}
+use Rattle.rounding.proofs.Square.{square-twice, square-more, root-is, root-ge, root-lt, root-unique}
+use Rattle.rounding.proofs.Digits.{less, more, size-of}
 
 -- ---- the same with n and k as they come
 abbrev at : Width → ℕ → ℕ → ℕ → Float

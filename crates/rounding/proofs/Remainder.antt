@@ -16,8 +16,8 @@ use lib.Ieee.Fits.{up-pos, down-pos, rem-fits}
 use lib.Ieee.Exact.{HasValue, round-exact}
 use Rattle.arithmetic.specs.Value.{0f}
 use Rattle.arithmetic.specs.Modulo.{wrapped, modulo}
-use Rattle.rounding.specs.Value.{Short, Placed, placed, holds, zero-exponent}
-use Rattle.rounding.specs.Order.{le-shows, zero-left}
+use Rattle.rounding.proofs.Value.{Short, Placed, placed, holds, zero-exponent}
+use Rattle.rounding.proofs.Order.{le-shows, zero-left}
 
 -- ---- remainders of multiples
 scaled-mod : (a b k : ℕ) → 0 < b → 0 < k → a * k % (b * k) ≡ a % b * k

@@ -14,9 +14,9 @@ use lib.Ieee.Fits.{down-pos, nan-fits, inf-fits, neg-fits, round-fits}
 use lib.Ieee.Exact.{HasValue}
 use Rattle.arithmetic.specs.Value.{finite, whole}
 use Rattle.arithmetic.specs.Round.{floor-div, ceil-div, floor, ceil}
-use Rattle.rounding.specs.Value.{floor-exact, ceil-exact}
-use Rattle.rounding.specs.Sign.{neg-neg, ceil-neg}
-use Rattle.rounding.specs.Order.{same-test, eq-of-value, Le±, le-of-values±, values-of-le±, le-neg, zero-left}
+use Rattle.rounding.proofs.Value.{floor-exact, ceil-exact}
+use Rattle.rounding.proofs.Sign.{neg-neg, ceil-neg}
+use Rattle.rounding.proofs.Order.{same-test, eq-of-value, Le±, le-of-values±, values-of-le±, le-neg, zero-left}
 
 -- ---- no fraction
 floor-div-meets : (a c : ℕ) → eqb (floor-div a c * c) a ≡ eqb (a % c) 0

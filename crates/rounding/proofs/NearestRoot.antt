@@ -21,9 +21,9 @@ use lib.Ieee.Exact.{HasValue, odd-sign}
 use lib.Ieee.Fits.{down-pos, nearest-le}
 use Rattle.arithmetic.specs.Width.{Width, width, digits, least, past, of-units}
 use Rattle.arithmetic.specs.Root.{root, nearest-root, sqrt-at, sqrt}
-use Rattle.rounding.specs.Square.{square-more, square-twice, root-is, root-ge, root-lt}
-use Rattle.rounding.specs.Digits.{nearest-cases}
-use Rattle.rounding.specs.Value.{Short, fits-says, placed}
+use Rattle.rounding.proofs.Square.{square-more, square-twice, root-is, root-ge, root-lt}
+use Rattle.rounding.proofs.Digits.{nearest-cases}
+use Rattle.rounding.proofs.Value.{Short, fits-says, placed}
 
 -- the radicand in squared units, times c
 abbrev pub squared-units : Width → ℕ → ℕ

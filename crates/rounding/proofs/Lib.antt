@@ -1,0 +1,10 @@
+pub mod Square
+pub mod Digits
+pub mod Value
+pub mod Sign
+pub mod Order
+pub mod Whole
+pub mod NearestRoot
+pub mod RootDigits
+pub mod Remainder
+pub mod Once
