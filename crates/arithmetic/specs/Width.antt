@@ -1,9 +1,9 @@
 -- The widths of IEEE 754's binary values, of any size: `fraction` digits after the leading one, and finite values below 2 ^ (power + 1).
 -- What crate `rounding` says of a width holds where the fraction has a digit at least and the power is above its number of digits.
-use Prim.Native.Nat.{ℕ, suc, _+_, _-_, _*_, _/_, _^_, compare}
+use Prim.Native.Nat.{ℕ, suc, _+_, _-_, _*_, _^_}
 use mathlib.Core.Bool.{Bool, cond}
 use lib.Dec.{leb}
-use lib.Ieee.{Float, inf, Format, binary32, binary64, size, nearest, odd}
+use lib.Ieee.{Float, inf, Format, binary32, binary64, odd}
 
 pub record Width : Type 0 where
   pub fraction : ℕ
@@ -29,14 +29,3 @@ past W = 2 ^ (least W + suc (W .power))
 unfoldable pub of-units : Width → Bool → ℕ → ℕ → Float
 unfolding odd
 of-units W s q k = cond (leb (past W) (q * 2 ^ k)) (inf s) (odd (suc (digits W)) s q k (least W))
-
--- ±a / c, rounded: there are n / c units. Values near it are multiples of 2 ^ k units, and it lies from q to q + 1 such multiples. It becomes the nearer one,
--- as twice it compares with 2 q + 1 of them; half way between the two, the even one.
-unfoldable pub round-at : Width → Bool → ℕ → ℕ → Float
-unfolding size of-units
-round-at W s a c =
-    let n = a * 2 ^ least W in
-    let k = size (n / c) - digits W in
-    let u = c * 2 ^ k in
-    let q = n / u in
-    of-units W s (nearest q (compare (2 * n) ((2 * q + 1) * u))) k

@@ -1,5 +1,7 @@
 pub mod Square
 pub mod Digits
+pub mod Neighbours
+pub mod Nearest
 pub mod Value
 pub mod Sign
 pub mod Order

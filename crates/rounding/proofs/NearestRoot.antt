@@ -23,7 +23,9 @@ use Rattle.arithmetic.specs.Width.{Width, width, digits, least, past, of-units}
 use Rattle.arithmetic.specs.Root.{root, nearest-root, sqrt-at, sqrt}
 use Rattle.rounding.proofs.Square.{square-more, square-twice, root-is, root-ge, root-lt}
 use Rattle.rounding.proofs.Digits.{nearest-cases}
-use Rattle.rounding.proofs.Value.{Short, fits-says, placed}
+use Rattle.rounding.specs.Rounding.{Short}
+use Rattle.rounding.proofs.Neighbours.{next, multiples-short}
+use Rattle.rounding.proofs.Value.{fits-says, placed}
 
 -- the radicand in squared units, times c
 abbrev pub squared-units : Width → ℕ → ℕ
@@ -177,31 +179,6 @@ module _ (p n c : ℕ) (P : 0 < p) (C : 0 < c) where
       let b : n / c < 2 ^ p * w * (2 ^ p * w) = lt-of-lt-of-le (root-is (n / c) .1) (mul-le-mul a a) in
       root-lt (n / u) q (2 ^ p) (root-is (n / u)) (div-lt-iff-lt-mul u-pos .1 (lt-of-lt-of-le (div-lt-iff-lt-mul C .0 b) (le-of-eq (scaled-square (2 ^ p) w c))))
 
-  -- no value of at most p digits lies between the two
-  next : (j h i : ℕ) → h < 2 ^ p → j ≡ h * 2 ^ i → q * w < j → (q + 1) * w ≤ j
-  next j h i H J l = elim full [ inl z ↦ unit q w j (ap (λ (x : ℕ). 2 ^ x) z) l | inr g ↦ multiple g ]
-    where
-      unit : (q w j : ℕ) → w ≡ 1 → q * w < j → (q + 1) * w ≤ j
-      unit q w j e l =
-          let a : q * w ≡ q = ap (λ (x : ℕ). q * x) e ∙ mul-one q in
-          let b : (q + 1) * w ≡ q + 1 = ap (λ (x : ℕ). (q + 1) * x) e ∙ mul-one (q + 1) in
-          omega arith
-
-      coarse : 2 ^ (p - 1) ≤ q → k ≤ i
-      coarse g = le-of-not-lt (λ (f : i < k). not-le-of-lt l
-          (le-trans (le-of-eq J) (le-trans (mul-le-mul-right (2 ^ i) (le-of-lt H)) (le-trans (le-of-eq (sym (pow-add 2 p i)))
-          (le-trans (pow-mono {i = p + i} {j = p - 1 + k} (omega arith)) (le-trans (le-of-eq (pow-add 2 (p - 1) k)) (mul-le-mul-right w g)))))))
-        where
-          le-of-not-lt : (i < k → ⊥) → k ≤ i
-          le-of-not-lt f = omega arith
-
-      multiple : 2 ^ (p - 1) ≤ q → (q + 1) * w ≤ j
-      multiple g =
-          let e : i ≡ i - k + k = let x = coarse g in omega arith in
-          let m : j ≡ h * 2 ^ (i - k) * w = J ∙ ap (λ (x : ℕ). h * 2 ^ x) e ∙ ap (λ (x : ℕ). h * x) (pow-add 2 (i - k) k) ∙ sym (mul-assoc h (2 ^ (i - k)) w) in
-          let a : q < h * 2 ^ (i - k) = lt-of-mul-lt-mul-right w (lt-of-lt-of-le l (le-of-eq m)) in
-          le-trans (mul-le-mul-right w (le-trans (le-of-eq (add-one q)) a)) (le-of-eq (sym m))
-
   abbrev v : ℕ
   v = kept n c k * 2 ^ k
 
@@ -250,22 +227,19 @@ module _ (p n c : ℕ) (P : 0 < p) (C : 0 < c) where
     ]
 
     -- the root is on v's side of half way to a j above
-    above : (j h i : ℕ) → h < 2 ^ p → j ≡ h * 2 ^ i → v < j → 4 * n < (v + j) * (v + j) * c
-    above j h i H J l = nearer-above q w c n j (kept n c k) C nearer (next j h i H J) to l
+    above : (j : ℕ) → Short p j → v < j → 4 * n < (v + j) * (v + j) * c
+    above j s l = nearer-above q w c n j (kept n c k) C nearer (next p q k P full j s) to l
 
     -- and to a j below
-    below : (j h i : ℕ) → h < 2 ^ p → j ≡ h * 2 ^ i → j < v → (v + j) * (v + j) * c < 4 * n
-    below j h i H J l = nearer-below q w c n j (kept n c k) C nearer (next j h i H J) from l
+    below : (j : ℕ) → Short p j → j < v → (v + j) * (v + j) * c < 4 * n
+    below j s l = nearer-below q w c n j (kept n c k) C nearer (next p q k P full j s) from l
 
   -- ---- v is a value of the format
   kept-le : kept n c k ≤ 2 ^ p
   kept-le = elim near [ inl d ↦ le-trans (le-of-eq (d .0)) (le-of-lt few) | inr d ↦ le-trans (le-of-eq (d .0)) few ]
 
   short : Short p v
-  short = elim (eq-or-lt-of-le kept-le) [
-    | inl e ↦ record { digits = 1; zeros = p + k; few = pow-lt {i = 0} {j = p} P; same = ap (λ (x : ℕ). x * 2 ^ k) e ∙ sym (pow-add 2 p k) ∙ sym (one-mul (2 ^ (p + k))) }
-    | inr l ↦ record { digits = kept n c k; zeros = k; few = l; same = refl }
-  ]
+  short = multiples-short p (kept n c k) k P kept-le
 
   -- below twice any B whose square is above the radicand
   bounded : (B : ℕ) → 1 < B → n < B * B * c → v < 2 * B
@@ -338,8 +312,8 @@ nearest-root-nearest W a c units E C h x e =
       has = subst (λ (y : Float). HasValue y false (v p n c P C) U) (sym (nearest-root-is W a c)) (units-value W (kept n c k) k l);
       short = short p n c P C;
       in-range = l;
-      above = λ j s l. above p n c P C U units (x .digits) (x .zeros) (least W) (x .few) (x .same) refl n-is j (s .digits) (s .zeros) (s .few) (s .same) l;
-      below = λ j s l. below p n c P C U units (x .digits) (x .zeros) (least W) (x .few) (x .same) refl n-is j (s .digits) (s .zeros) (s .few) (s .same) l;
+      above = λ j s l. above p n c P C U units (x .digits) (x .zeros) (least W) (x .few) (x .same) refl n-is j s l;
+      below = λ j s l. below p n c P C U units (x .digits) (x .zeros) (least W) (x .few) (x .same) refl n-is j s l;
     }
 
 -- ---- Sqrt

@@ -16,7 +16,8 @@ use lib.Ieee.Fits.{up-pos, down-pos, rem-fits}
 use lib.Ieee.Exact.{HasValue, round-exact}
 use Rattle.arithmetic.specs.Value.{0f}
 use Rattle.arithmetic.specs.Modulo.{wrapped, modulo}
-use Rattle.rounding.proofs.Value.{Short, Placed, placed, holds, zero-exponent}
+use Rattle.rounding.specs.Rounding.{Short}
+use Rattle.rounding.proofs.Value.{Placed, placed, holds, zero-exponent}
 use Rattle.rounding.proofs.Order.{le-shows, zero-left}
 
 -- ---- remainders of multiples

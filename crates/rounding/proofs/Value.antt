@@ -14,13 +14,6 @@ use lib.Ieee.Exact.{HasValue, round-exact}
 use lib.Ieee.Back.{round-whole, whole-unique}
 use Rattle.arithmetic.specs.Round.{floor-div, ceil-div}
 
--- ---- a value in units of the smallest positive one: at most p digits, and zeros after them
-pub record Short (p r : ℕ) : Type 0 where
-  pub digits : ℕ
-  pub zeros : ℕ
-  pub few : digits < 2 ^ p
-  pub same : r ≡ digits * 2 ^ zeros
-
 -- ---- a value in units of the format's smallest: m * 2 ^ exponent
 pub record Placed (l : ℕ) (e : ℤ) : Type 0 where
   pub exponent : ℕ
