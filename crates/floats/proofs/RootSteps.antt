@@ -4,21 +4,20 @@ use mathlib.Core.Bool.{Bool, true, false, not, cond, true≢false}
 use mathlib.Core.Logic.{inl, inr}
 use Prim.Native.Nat.{ℕ, zero, suc, _+_, _-_, _*_, _/_, _%_, _^_, _≤_, _<_}
 use native.Mathlib.Nat.{le-refl, le-of-eq, lt-of-lt-of-le, lt-of-le-of-lt, lt-of-not-le, mul-assoc, mul-comm, mul-left-comm, mul-add, add-mul, add-assoc, mul-pos, mul-one, pow-suc, pow-succ', mul-le-mul, le-of-mul-le-mul-right, zero-lt-suc, not-le-of-lt, eq-zero-or-pos, div-add-mod', mod-lt}
-use native.Mathlib.Decide.{decLe}
 use native.Mathlib.Omega.{arith}
-use borrow.Author.Tests.{le-leb, lt-leb, le-ltb, lt-ltb}
-use lib.Dec.{T, leb, ltb, eqb·suc-zero, lit<, lt→ltb}
+use lib.Dec.{T, eqb·suc-zero, lit<, lt→ltb}
 use lib.Arith.{le→nltb}
 use lib.Pow.{pow-pos, pow-add, pow-mono}
-use lib.Ieee.{Float, nan, inf, fin, binary64, top, odd, units, fits, ofBits, toBits, lt, isNan, nanBits}
+use lib.Ieee.{Float, nan, inf, fin, binary64, top, fits, ofBits, toBits, lt, isNan, nanBits}
 use lib.Ieee.Exact.{HasValue}
 use lib.Ieee.Bits.{ofBits-toBits, nanBits-above}
 use lib.Ieee.Positive.{num, den, positive, den-pos, positive-of-value, value→cross, first-pos}
-use Rattle.arithmetic.specs.Width.{Width, width, of-units}
+use Rattle.arithmetic.specs.Width.{Width, width}
 use Rattle.arithmetic.specs.Root.{nearest-root, sqrt-at, sqrt}
 use Rattle.rounding.specs.Square.{Root}
 use Rattle.rounding.proofs.Square.{square-more, root-ge, root-lt}
 use Rattle.rounding.proofs.RootDigits.{root-by-digits}
+use Rattle.rounding.proofs.Rounded.{units-are}
 use Rattle.floats.specs.Fields.{significand, magnitude, infinity-bits}
 use Rattle.floats.proofs.Bits.{of-pattern, bits-value, pattern-in}
 use Rattle.floats.proofs.Zero.{Above, infinity, number, Still, unordered, zero±, Below, infinity-, number-}
@@ -165,18 +164,6 @@ fields-some (suc x) low h =
     expo : suc x + 51 ≡ suc x - 1 + 52
     expo = omega arith
 
--- ---- units of a width that is a format's
-units-are : (s : Bool) (q k : ℕ) → of-units (width binary64) s q k ≡ units binary64 s q k
-unfolding of-units units
-units-are s q k = turned (q * 2 ^ k) (2 ^ 2098)
-  where
-    turned : (a b : ℕ) → cond (leb b a) (inf s) (odd 54 s q k 1074) ≡ cond (ltb a b) (odd 54 s q k 1074) (inf s)
-    turned a b = go (decLe b a)
-      where
-        go : Dec (b ≤ a) → cond (leb b a) (inf s) (odd 54 s q k 1074) ≡ cond (ltb a b) (odd 54 s q k 1074) (inf s)
-        go (yes h) = rw (le-leb b a h, le-ltb a b h)
-        go (no f) = let l = lt-of-not-le f in rw (lt-leb b a l, lt-ltb a b l)
-
 -- ---- the root of a value that is above zero
 sqrt-positive : (W : Width) (x : Float) → T (positive x) → sqrt-at W x ≡ nearest-root W (num x) (den x)
 unfolding sqrt-at
@@ -236,7 +223,7 @@ module _ (b digits exp M r : ℕ) (B : b < infinity-bits) (D : digits * 2 ^ exp 
       let ql : 2 ^ 52 ≤ q = let z = root-big in omega arith in
       let qh : q ≤ 2 ^ 53 = let z = root-small in omega arith in
       of-pattern q k ql qh (lt-of-le-of-lt (mul-le-mul {n₁ = q} {m₁ = 2 ^ k} {n₂ = 2 ^ 53} {m₂ = 2 ^ 1533} qh (pow-mono {i = k} {j = 1533} (omega arith))) (lit< tt))
-      ∙ sym (units-are false q k)
+      ∙ sym (units-are binary64 false q k)
       ∙ sym (root-by-digits (width binary64) (num x) (den x) (M * 2 ^ 52) k r (den-pos x) (omega arith) (omega arith) (radicand (num x) (den x) (value→cross x (magnitude b) (2 ^ 1074) v)) (subst (λ (z : ℕ). Root z r) four R))
       ∙ sym (sqrt-positive (width binary64) x p)
 

@@ -2,6 +2,7 @@ pub mod Square
 pub mod Digits
 pub mod Neighbours
 pub mod Nearest
+pub mod Rounded
 pub mod Value
 pub mod Sign
 pub mod Order

@@ -20,6 +20,10 @@ pub record Size (W : Width) (j : ℕ) : Type 0 where
   pub short : Short (digits W) j
   pub within : j ≤ past W
 
+-- the largest number: all digits ones
+abbrev pub largest : Width → ℕ
+largest W = (2 ^ digits W - 1) * 2 ^ (least W + W .power - W .fraction)
+
 -- y has the sign s, and is j units in size
 abbrev pub Counts : Width → Float → Bool → ℕ → Type 0
 Counts W nan s j = ⊥
