@@ -1,2 +1,3 @@
 pub mod Square
 pub mod Rounding
+pub mod Exact
