@@ -6,8 +6,8 @@ pub mod Rounded
 pub mod Value
 pub mod Sign
 pub mod Order
+pub mod Once
 pub mod Whole
 pub mod NearestRoot
 pub mod RootDigits
 pub mod Remainder
-pub mod Once

@@ -196,7 +196,7 @@ over-tie r x z n a b h d e = go (decLe x n)
 pub past-short : (W : Width) → Short (digits W) (past W)
 past-short W = record { digits = 1; zeros = least W + suc (W .power); few = pow-lt {i = 0} {j = digits W} (zero-lt-suc (W .fraction)); same = sym (one-mul (past W)) }
 
-counted : (W : Width) (y : Float) (s : Bool) (j : ℕ) → HasValue y s j (2 ^ least W) → j < past W → Counts W y s j
+pub counted : (W : Width) (y : Float) (s : Bool) (j : ℕ) → HasValue y s j (2 ^ least W) → j < past W → Counts W y s j
 counted W nan s j h l = absurd h
 counted W (inf t) s j h l = absurd h
 counted W (fin t m e) s j h l = (h .0, h .1, l)

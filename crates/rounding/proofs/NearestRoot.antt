@@ -4,7 +4,7 @@
 -- lies half way, so v is nearer than any other value.
 use mathlib.Core.Path.{_≡_, refl, sym, ap, ap₂, _∙_, subst}
 use mathlib.Core.Logic.{_⊎_, inl, inr}
-use mathlib.Core.Bool.{Bool, true, false, cond}
+use mathlib.Core.Bool.{Bool, true, false, not, cond}
 use Prim.Native.Nat.{ℕ, zero-le, suc, _+_, _-_, _*_, _/_, _^_, _≤_, _<_, compare}
 use native.Mathlib.Nat.{mul-le-mul-left, eq-of-mul-eq-mul-right, mul-lt-mul-of-pos-left, le-trans, le-of-eq, le-of-lt, lt-of-lt-of-le, lt-of-le-of-lt, lt-of-not-le, not-le-of-lt, eq-or-lt-of-le, one-mul, mul-pos, mul-one, mul-assoc, mul-comm, mul-left-comm, add-mul, mul-le-mul, mul-le-mul-right, mul-lt-mul-of-pos-right, le-div-iff-mul-le, div-lt-iff-lt-mul, lt-of-mul-lt-mul-right, suc-mul, zero-lt-suc, add-comm, pow-succ'}
 use native.Mathlib.Decide.{decLe}
@@ -15,7 +15,7 @@ use lib.Arith.{lt-of-le-ne}
 use lib.Dec.{T, lit≤}
 use lib.IntN.{ℤ}
 use lib.Pow.{pow-pos, pow-add, pow-mono, pow-lt}
-use lib.Ieee.{Float, nan, inf, fin, Format, binary32, binary64, prec, emax, low, up, down, size, nearest, odd, fits}
+use lib.Ieee.{Float, nan, inf, fin, Format, binary32, binary64, prec, emax, low, up, down, size, nearest, odd, fits, isNan}
 use lib.Ieee.Digits.{size-lt, size-reaches}
 use lib.Ieee.Exact.{HasValue, odd-sign}
 use lib.Ieee.Fits.{down-pos, nearest-le}
@@ -23,13 +23,12 @@ use Rattle.arithmetic.specs.Width.{Width, width, digits, least, past, of-units}
 use Rattle.arithmetic.specs.Root.{root, nearest-root, sqrt-at, sqrt}
 use Rattle.rounding.proofs.Square.{square-more, square-twice, root-is, root-ge, root-lt}
 use Rattle.rounding.proofs.Digits.{nearest-cases}
-use Rattle.rounding.specs.Rounding.{Short}
+use Rattle.rounding.specs.Rounding.{Short, Held, Counts}
+use Rattle.rounding.specs.Exact.{sign}
+use Rattle.rounding.specs.NearestRoot.{squared-units, NearerRoot, IsNearestRoot}
+use Rattle.rounding.proofs.Nearest.{counted}
 use Rattle.rounding.proofs.Neighbours.{next, multiples-short}
-use Rattle.rounding.proofs.Value.{fits-says, placed}
-
--- the radicand in squared units, times c
-abbrev pub squared-units : Width → ℕ → ℕ
-squared-units W a = a * 2 ^ least W * 2 ^ least W
+use Rattle.rounding.proofs.Value.{held-units, fits-says, fits-size}
 
 -- the digits at the end of the root that no value of its size has, and the root without them
 abbrev pub dropped : ℕ → ℕ → ℕ → ℕ
@@ -258,20 +257,12 @@ module _ (p n c : ℕ) (P : 0 < p) (C : 0 < c) where
       most : v ≤ q * w + w
       most = le-trans (mul-le-mul-right w (nearest-le q (compare (4 * n) ((2 * q + 1) * (2 * q + 1) * u)))) (le-of-eq (suc-mul q w))
 
--- ---- the root of a / c, below 2 ^ (power + 1): y is a value of the width, and no value of the width is nearer
-pub record IsNearestRoot (W : Width) (a c : ℕ) (y : Float) : Type 0 where
-  pub value : ℕ
-  pub has : HasValue y false value (2 ^ least W)
-  pub short : Short (digits W) value
-  pub in-range : value < past W
-  pub above : (j : ℕ) → Short (digits W) j → value < j → 4 * squared-units W a < (value + j) * (value + j) * c
-  pub below : (j : ℕ) → Short (digits W) j → j < value → (value + j) * (value + j) * c < 4 * squared-units W a
-
-units-value : (W : Width) (q k : ℕ) → q * 2 ^ k < past W → HasValue (of-units W false q k) false (q * 2 ^ k) (2 ^ least W)
+-- ---- the root of a / c, for a number of the width
+units-count : (W : Width) (q k : ℕ) → q * 2 ^ k < past W → Counts W (of-units W false q k) false (q * 2 ^ k)
 unfolding of-units
-units-value W q k h =
-    subst (λ (b : Bool). HasValue (cond b (inf false) (odd (suc (digits W)) false q k (least W))) false (q * 2 ^ k) (2 ^ least W)) (sym (lt-leb (past W) (q * 2 ^ k) h))
-    (odd-sign (suc (digits W)) false q k (least W))
+units-count W q k h =
+    subst (λ (b : Bool). Counts W (cond b (inf false) (odd (suc (digits W)) false q k (least W))) false (q * 2 ^ k)) (sym (lt-leb (past W) (q * 2 ^ k) h))
+    (counted W (odd (suc (digits W)) false q k (least W)) false (q * 2 ^ k) (odd-sign (suc (digits W)) false q k (least W)) h)
 
 nearest-root-is : (W : Width) (a c : ℕ)
     → nearest-root W a c ≡ of-units W false (kept (squared-units W a) c (dropped (digits W) (squared-units W a) c)) (dropped (digits W) (squared-units W a) c)
@@ -296,8 +287,8 @@ root-in-range W a c C E h =
     regroup : (M c W : ℕ) → M * M * c * W * W ≡ M * W * (M * W) * c
     regroup M c W = simp (mul-assoc, mul-comm, mul-left-comm)
 
--- a / c is a value of the width, of so many units
-pub nearest-root-nearest : (W : Width) (a c units : ℕ) → 1 ≤ W .power → 0 < c → a < 2 ^ suc (W .power) * c → Short (digits W) units → a * 2 ^ least W ≡ units * c
+-- a / c is of so many units
+nearest-root-nearest : (W : Width) (a c units : ℕ) → 1 ≤ W .power → 0 < c → a < 2 ^ suc (W .power) * c → Short (digits W) units → a * 2 ^ least W ≡ units * c
     → IsNearestRoot W a c (nearest-root W a c)
 nearest-root-nearest W a c units E C h x e =
     let p = digits W in
@@ -308,40 +299,31 @@ nearest-root-nearest W a c units E C h x e =
     let l = root-in-range W a c C E h in
     let n-is : n ≡ units * c * U = ap (λ (z : ℕ). z * U) e in
     record {
-      value = v p n c P C;
-      has = subst (λ (y : Float). HasValue y false (v p n c P C) U) (sym (nearest-root-is W a c)) (units-value W (kept n c k) k l);
-      short = short p n c P C;
-      in-range = l;
-      above = λ j s l. above p n c P C U units (x .digits) (x .zeros) (least W) (x .few) (x .same) refl n-is j s l;
-      below = λ j s l. below p n c P C U units (x .digits) (x .zeros) (least W) (x .few) (x .same) refl n-is j s l;
+      units = v p n c P C;
+      counts = subst (λ (y : Float). Counts W y false (v p n c P C)) (sym (nearest-root-is W a c)) (units-count W (kept n c k) k l);
+      number = record { short = short p n c P C; within = le-of-lt l };
+      nearer = λ j z. (
+        above p n c P C U units (x .digits) (x .zeros) (least W) (x .few) (x .same) refl n-is j (z .short),
+        below p n c P C U units (x .digits) (x .zeros) (least W) (x .few) (x .same) refl n-is j (z .short),
+      );
     }
 
--- ---- Sqrt
--- of a value above 0 that the format holds
-pub sqrt-nearest : (F : Format) (m : ℕ) (e : ℤ) → T (fits F (fin false (suc m) e)) → IsNearestRoot (width F) (suc m * up e) (down e) (sqrt F (fin false (suc m) e))
+-- ---- Sqrt of a number above 0
+pub sqrt-at-nearest : (W : Width) → 1 ≤ W .power → (m : ℕ) (e : ℤ) → Held W (suc m) e → IsNearestRoot W (suc m * up e) (down e) (sqrt-at W (fin false (suc m) e))
 unfolding sqrt-at
-sqrt-nearest F m e t =
-    let h = fits-says F false m e t in
-    let x = placed (low F) e (h .fine) in
-    nearest-root-nearest (width F) (suc m * up e) (down e) (suc m * 2 ^ x .exponent) (exponents F) (down-pos e) (range F (h .range))
-    (record { digits = suc m; zeros = x .exponent; few = few F (h .digits); same = refl })
-    (ap (λ (z : ℕ). suc m * up e * 2 ^ z) (units F) ∙ mul-assoc (suc m) (up e) (2 ^ low F) ∙ ap (λ (z : ℕ). suc m * z) (x .same) ∙ sym (mul-assoc (suc m) (2 ^ x .exponent) (down e)))
+sqrt-at-nearest W E m e h = let u = held-units W (suc m) e h in nearest-root-nearest W (suc m * up e) (down e) (u .units) E (down-pos e) (h .range) (u .short) (u .same)
+
+pub sqrt-nearest : (F : Format) (m : ℕ) (e : ℤ) → T (fits F (fin false (suc m) e)) → IsNearestRoot (width F) (suc m * up e) (down e) (sqrt F (fin false (suc m) e))
+sqrt-nearest F m e t = sqrt-at-nearest (width F) (some F) m e (fits-says F false m e t)
   where
-    few : (F : Format) → suc m < 2 ^ prec F → suc m < 2 ^ digits (width F)
-    few binary32 h = h
-    few binary64 h = h
+    some : (F : Format) → 1 ≤ width F .power
+    some binary32 = lit≤ tt
+    some binary64 = lit≤ tt
 
-    range : (F : Format) → suc m * up e < 2 ^ suc (emax F) * down e → suc m * up e < 2 ^ suc (width F .power) * down e
-    range binary32 h = h
-    range binary64 h = h
-
-    units : (F : Format) → least (width F) ≡ low F
-    units binary32 = refl
-    units binary64 = refl
-
-    exponents : (F : Format) → 1 ≤ width F .power
-    exponents binary32 = lit≤ tt
-    exponents binary64 = lit≤ tt
+-- against every value that the format holds
+pub sqrt-nearer : (F : Format) (m : ℕ) (e : ℤ) (t : T (fits F (fin false (suc m) e))) (y : Float) → T (fits F y) → T (not (isNan y))
+    → (j : ℕ) × Counts (width F) y (sign y) j × NearerRoot (width F) (suc m * up e) (down e) (sqrt-nearest F m e t .units) j
+sqrt-nearer F m e t y h k = let z = fits-size F y h k in (z .0, z .1, sqrt-nearest F m e t .nearer (z .0) (z .2))
 
 -- "of -0 it is -0": a zero is its own root, and below zero there is none
 pub sqrt-zero : (W : Width) (s : Bool) (e : ℤ) → sqrt-at W (fin s 0 e) ≡ fin s 0 e

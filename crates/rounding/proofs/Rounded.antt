@@ -1,10 +1,10 @@
 -- What follows of a rounded result: there is one only, a number rounds to itself, and the infinities begin half way past the largest number.
 -- And that the toolchain's `round` at a format is `round-at` at its width.
-use mathlib.Core.Path.{_≡_, refl, sym, ap, _∙_, subst}
+use mathlib.Core.Path.{_≡_, refl, sym, ap, ap₂, _∙_, subst}
 use mathlib.Core.Logic.{_⊎_, inl, inr, _↔_}
 use mathlib.Core.Bool.{Bool, cond}
 use Prim.Native.Nat.{ℕ, suc, _+_, _-_, _*_, _/_, _%_, _^_, _≤_, _<_, compare, Ordering}
-use native.Mathlib.Nat.{le-trans, le-of-eq, le-of-lt, le-antisymm, lt-of-lt-of-le, lt-of-le-of-lt, lt-of-not-le, not-le-of-lt, zero-lt-suc, lt-irrefl, mul-assoc, mul-comm, mul-le-mul-right, mul-lt-mul-of-pos-right, eq-of-mul-eq-mul-right, add-mul, one-mul, div-add-mod', pow-succ', eq-or-lt-of-le}
+use native.Mathlib.Nat.{le-trans, le-of-eq, le-of-lt, le-antisymm, lt-of-lt-of-le, lt-of-le-of-lt, lt-of-not-le, not-le-of-lt, zero-lt-suc, lt-irrefl, mul-assoc, mul-comm, mul-right-comm, mul-sub, mul-le-mul-right, le-of-mul-le-mul-right, mul-lt-mul-of-pos-right, eq-of-mul-eq-mul-right, add-mul, one-mul, div-add-mod', pow-succ', eq-or-lt-of-le}
 use native.Mathlib.Decide.{decLe, ℕ-discrete}
 use native.Mathlib.Omega.{arith}
 use borrow.Author.Tests.{le-leb, lt-leb, le-ltb, lt-ltb}
@@ -64,6 +64,29 @@ rounded-number W s a c j y r C z e =
   where
     plain : (x n y : ℕ) → n ≡ y → distance x n ≤ distance y n → x ≡ y
     plain x n y e l = omega arith
+
+-- ---- only the fraction counts, not how it is written
+times : (x y k : ℕ) → distance (x * k) (y * k) ≡ distance x y * k
+times x y k = ap₂ (λ (a b : ℕ). a + b) (less-times x y) (less-times y x) ∙ sym (add-mul (x - y) (y - x) k)
+  where
+    less-times : (x y : ℕ) → x * k - y * k ≡ (x - y) * k
+    less-times x y = ap₂ (λ (a b : ℕ). a - b) (mul-comm x k) (mul-comm y k) ∙ sym (mul-sub k x y) ∙ mul-comm k (x - y)
+
+off-times : (W : Width) (a c b d j : ℕ) → a * d ≡ b * c → off W b d j * c ≡ off W a c j * d
+off-times W a c b d j e =
+    sym (times (j * d) (b * 2 ^ least W) c)
+    ∙ ap₂ (λ (x y : ℕ). distance x y) (mul-right-comm j d c) (mul-right-comm b (2 ^ least W) c ∙ ap (λ (x : ℕ). x * 2 ^ least W) (sym e) ∙ mul-right-comm a d (2 ^ least W))
+    ∙ times (j * c) (a * 2 ^ least W) d
+
+pub rescaled : (W : Width) (s : Bool) (a c b d : ℕ) (y : Float) → 0 < c → 0 < d → a * d ≡ b * c → IsRounded W s a c y → IsRounded W s b d y
+rescaled W s a c b d y C D e r = record {
+  units = r .units;
+  counts = r .counts;
+  number = r .number;
+  closest = λ j z. le-of-mul-le-mul-right (le-trans (le-of-eq (off-times W a c b d (r .units) e)) (le-trans (mul-le-mul-right d (r .closest j z)) (le-of-eq (sym (off-times W a c b d j e))))) C;
+  even = λ j z n i.
+      r .even j z n (eq-of-mul-eq-mul-right d D (off W a c (r .units)) (off W a c j) (sym (off-times W a c b d (r .units) e) ∙ ap (λ (x : ℕ). x * c) i ∙ off-times W a c b d j e));
+}
 
 -- ---- from half way between the largest number and 2 ^ (power + 1) on, and only from there, the result is infinite
 abbrev top : Width → ℕ

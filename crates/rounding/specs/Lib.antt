@@ -1,3 +1,6 @@
 pub mod Square
 pub mod Rounding
 pub mod Exact
+pub mod Whole
+pub mod NearestRoot
+pub mod Modulo

@@ -5,6 +5,7 @@
 use mathlib.Core.Path.{_≡_}
 use mathlib.Core.Bool.{Bool}
 use Prim.Native.Nat.{ℕ, suc, _+_, _-_, _*_, _/_, _^_, _≤_, _<_, compare}
+use lib.IntN.{ℤ}
 use lib.Ieee.{Float, nan, inf, fin, up, down, size, nearest}
 use Rattle.arithmetic.specs.Width.{Width, digits, least, past, of-units}
 
@@ -15,7 +16,13 @@ pub record Short (p j : ℕ) : Type 0 where
   pub few : digits < 2 ^ p
   pub same : j ≡ digits * 2 ^ zeros
 
--- j units are the size of a number of the width, or 2 ^ (power + 1)
+-- m * 2 ^ e is a number of the width: m has so many digits at most, and it is a whole number of units and below 2 ^ (power + 1)
+pub record Held (W : Width) (m : ℕ) (e : ℤ) : Type 0 where
+  pub few : m < 2 ^ digits W
+  pub fine : down e ≤ 2 ^ least W
+  pub range : m * up e < 2 ^ suc (W .power) * down e
+
+-- In units: j is the size of a number of the width, or 2 ^ (power + 1)
 pub record Size (W : Width) (j : ℕ) : Type 0 where
   pub short : Short (digits W) j
   pub within : j ≤ past W
