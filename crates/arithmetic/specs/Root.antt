@@ -1,18 +1,10 @@
 -- "Sqrt is the nearest f64 to the exact root, proved over whole numbers; of -0 it is -0, and below zero Domain."
--- For any width: p digits in a significand, the leading one counted, and values below 2 ^ (em + 1).
+-- For any width; a format is one.
 use Prim.Native.Nat.{ℕ, zero, suc, _+_, _-_, _*_, _/_, _^_, compare}
-use mathlib.Core.Bool.{Bool, true, false, cond}
-use lib.Dec.{leb, ltb}
-use lib.Ieee.{Float, nan, inf, fin, Format, prec, emax, up, down, size, nearest, odd}
-
--- the smallest positive value is 2 ^ -(least p em)
-abbrev pub least : ℕ → ℕ → ℕ
-least p em = em + p - 2
-
--- q * 2 ^ k of the smallest positive value, or an infinity where that is too large
-unfoldable pub units : ℕ → ℕ → Bool → ℕ → ℕ → Float
-unfolding odd
-units p em s q k = cond (ltb (q * 2 ^ k) (2 ^ (least p em + suc em))) (odd (suc p) s q k (least p em)) (inf s)
+use mathlib.Core.Bool.{true, false, cond}
+use lib.Dec.{leb}
+use lib.Ieee.{Float, nan, inf, fin, Format, up, down, size, nearest}
+use Rattle.arithmetic.specs.Width.{Width, width, digits, least, of-units}
 
 -- the largest r with r * r ≤ n, for an n below 4 ^ d: by binary digits, the leading ones first
 abbrev pub grown : ℕ → ℕ → ℕ
@@ -27,27 +19,26 @@ unfoldable pub root : ℕ → ℕ
 unfolding root-below size
 root n = root-below (size n) n
 
--- The value nearest to the root of a / c. In units of the smallest value the root's square is n / c.
--- Of the root's whole part the format keeps the p leading digits and drops k. In multiples of 2 ^ k units the root lies between q and q + 1,
--- and it is the nearer of the two: by how its square compares with that of q + 1/2, and at a tie the even one.
-unfoldable pub nearest-root : ℕ → ℕ → ℕ → ℕ → Float
-unfolding root units
-nearest-root p em a c =
-    let n = a * 2 ^ least p em * 2 ^ least p em in
-    let k = size (root (n / c)) - p in
+-- The root of a / c, rounded: its square is n / c, in squared units. As far up as the root, values are multiples of 2 ^ k units, and it lies from q to q + 1 such
+-- multiples. It becomes the nearer one, as four times its square compares with the square of 2 q + 1 of them; half way between the two, the even one.
+unfoldable pub nearest-root : Width → ℕ → ℕ → Float
+unfolding root of-units
+nearest-root W a c =
+    let n = a * 2 ^ least W * 2 ^ least W in
+    let k = size (root (n / c)) - digits W in
     let u = c * (2 ^ k * 2 ^ k) in
     let q = root (n / u) in
-    units p em false (nearest q (compare (4 * n) ((2 * q + 1) * (2 * q + 1) * u))) k
+    of-units W false (nearest q (compare (4 * n) ((2 * q + 1) * (2 * q + 1) * u))) k
 
-unfoldable pub sqrt-at : ℕ → ℕ → Float → Float
+unfoldable pub sqrt-at : Width → Float → Float
 unfolding nearest-root
-sqrt-at p em nan = nan
-sqrt-at p em (inf true) = nan
-sqrt-at p em (inf false) = inf false
-sqrt-at p em (fin s zero e) = fin s zero e
-sqrt-at p em (fin true (suc m) e) = nan
-sqrt-at p em (fin false (suc m) e) = nearest-root p em (suc m * up e) (down e)
+sqrt-at W nan = nan
+sqrt-at W (inf true) = nan
+sqrt-at W (inf false) = inf false
+sqrt-at W (fin s zero e) = fin s zero e
+sqrt-at W (fin true (suc m) e) = nan
+sqrt-at W (fin false (suc m) e) = nearest-root W (suc m * up e) (down e)
 
 -- the square root in a format; below zero it is NaN
 abbrev pub sqrt : Format → Float → Float
-sqrt F x = sqrt-at (prec F) (emax F) x
+sqrt F x = sqrt-at (width F) x

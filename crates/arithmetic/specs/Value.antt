@@ -5,12 +5,8 @@ use lib.IntN.{pos, negsuc}
 use lib.Dec.{eqb}
 use lib.Ieee.{Float, eq, up, down}
 use lib.Ieee as Ieee
-
 -- neither a NaN nor an infinity
-abbrev pub finite : Float → Bool
-finite Ieee.nan = false
-finite (Ieee.inf s) = false
-finite (Ieee.fin s m e) = true
+pub use lib.Ieee.Scale.{finite}
 
 abbrev pub 0f : Float
 0f = Ieee.fin false 0 (pos 0)

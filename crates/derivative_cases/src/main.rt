@@ -9,6 +9,7 @@ ghost use mathlib.Core.Path.{_≡_};
 ghost use mathlib.Core.Bool.{true};
 ghost use Prim.Native.Nat.{_*_, _≤_};
 ghost use lib.ListN.{length};
+use check::same;
 use differentiate::write_derivative;
 use reader::half;
 use reader::is_formula;
@@ -50,20 +51,6 @@ fn derive(f: &[u8], by: By, out: &mut [u8]) -> Answer {
     Answer::Refused(2)
 }
 
-fn equal(a: &[u8], b: &[u8]) -> bool {
-    if a.len() != b.len() {
-        return false;
-    }
-    let mut i = 0;
-    while i < a.len() {
-        if a[i] != b[i] {
-            return false;
-        }
-        i += 1;
-    }
-    true
-}
-
 // Whether the answer is the one recorded; the slice is just long enough.
 fn is_right(f: &[u8], by: By, recorded: u8, tree: &[u8], out: &mut [u8]) -> bool {
     let given = derive(f, by, out);
@@ -76,7 +63,7 @@ fn is_right(f: &[u8], by: By, recorded: u8, tree: &[u8], out: &mut [u8]) -> bool
             if n != tree.len() {
                 return false;
             }
-            equal(tree, out)
+            same(tree, out)
         }
     }
 }

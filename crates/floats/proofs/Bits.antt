@@ -15,7 +15,7 @@ use lib.Ieee.Fits.{down-pos, odd-fits}
 use lib.Ieee.Exact.{HasValue, odd-sign, units-val}
 use lib.Ieee.Bits.{ofBits-toBits, toBits-lt}
 use Rattle.floats.specs.Fields.{significand, magnitude, infinity-bits}
-use Rattle.rounding.specs.Digits.{size-of}
+use Rattle.rounding.proofs.Digits.{size-of}
 
 -- ---- the pattern of q * 2 ^ k units, q having all the digits that the format keeps
 module _ (f : Format) (p : ℕ) (is : prec f ≡ suc p) (q k : ℕ) (lo : 2 ^ p ≤ q) (hi : q < 2 ^ suc p) where

@@ -8,14 +8,16 @@ use native.Mathlib.Omega.{arith}
 use lib.Dec.{T, eqb·suc-zero, lit<, lt→ltb}
 use lib.Arith.{le→nltb}
 use lib.Pow.{pow-pos, pow-add, pow-mono}
-use lib.Ieee.{Float, nan, inf, fin, Format, binary64, prec, emax, top, fits, ofBits, toBits, lt, isNan, nanBits}
-use lib.Ieee as Ieee
+use lib.Ieee.{Float, nan, inf, fin, binary64, top, fits, ofBits, toBits, lt, isNan, nanBits}
 use lib.Ieee.Exact.{HasValue}
 use lib.Ieee.Bits.{ofBits-toBits, nanBits-above}
 use lib.Ieee.Positive.{num, den, positive, den-pos, positive-of-value, value→cross, first-pos}
-use Rattle.arithmetic.specs.Root.{units, nearest-root, sqrt-at, sqrt}
-use Rattle.rounding.specs.Square.{Root, square-more, root-ge, root-lt}
-use Rattle.rounding.specs.RootDigits.{root-by-digits}
+use Rattle.arithmetic.specs.Width.{Width, width}
+use Rattle.arithmetic.specs.Root.{nearest-root, sqrt-at, sqrt}
+use Rattle.rounding.specs.Square.{Root}
+use Rattle.rounding.proofs.Square.{square-more, root-ge, root-lt}
+use Rattle.rounding.proofs.RootDigits.{root-by-digits}
+use Rattle.rounding.proofs.Rounded.{units-are}
 use Rattle.floats.specs.Fields.{significand, magnitude, infinity-bits}
 use Rattle.floats.proofs.Bits.{of-pattern, bits-value, pattern-in}
 use Rattle.floats.proofs.Zero.{Above, infinity, number, Still, unordered, zero±, Below, infinity-, number-}
@@ -162,19 +164,14 @@ fields-some (suc x) low h =
     expo : suc x + 51 ≡ suc x - 1 + 52
     expo = omega arith
 
--- ---- the format of any width, at `lib.Ieee`'s
-units-are : (F : Format) (s : Bool) (q k : ℕ) → units (prec F) (emax F) s q k ≡ Ieee.units F s q k
-unfolding units Ieee.units
-units-are F s q k = refl
-
 -- ---- the root of a value that is above zero
-sqrt-positive : (p em : ℕ) (x : Float) → T (positive x) → sqrt-at p em x ≡ nearest-root p em (num x) (den x)
+sqrt-positive : (W : Width) (x : Float) → T (positive x) → sqrt-at W x ≡ nearest-root W (num x) (den x)
 unfolding sqrt-at
-sqrt-positive p em nan h = absurd h
-sqrt-positive p em (inf s) h = absurd h
-sqrt-positive p em (fin true m e) h = absurd h
-sqrt-positive p em (fin false zero e) h = absurd h
-sqrt-positive p em (fin false (suc m) e) h = refl
+sqrt-positive W nan h = absurd h
+sqrt-positive W (inf s) h = absurd h
+sqrt-positive W (fin true m e) h = absurd h
+sqrt-positive W (fin false zero e) h = absurd h
+sqrt-positive W (fin false (suc m) e) h = refl
 
 radicand-plain : (a c d M f K U w v : ℕ) → a * U ≡ d * c → M * f ≡ d * w → K ≡ f * v → U ≡ w * (w * v) → a * U * U ≡ M * w * (c * K)
 radicand-plain a c d M f K U w v e g h u =
@@ -227,8 +224,8 @@ module _ (b digits exp M r : ℕ) (B : b < infinity-bits) (D : digits * 2 ^ exp 
       let qh : q ≤ 2 ^ 53 = let z = root-small in omega arith in
       of-pattern q k ql qh (lt-of-le-of-lt (mul-le-mul {n₁ = q} {m₁ = 2 ^ k} {n₂ = 2 ^ 53} {m₂ = 2 ^ 1533} qh (pow-mono {i = k} {j = 1533} (omega arith))) (lit< tt))
       ∙ sym (units-are binary64 false q k)
-      ∙ sym (root-by-digits 52 1023 (num x) (den x) (M * 2 ^ 52) k r (den-pos x) (omega arith) (omega arith) (radicand (num x) (den x) (value→cross x (magnitude b) (2 ^ 1074) v)) (subst (λ (z : ℕ). Root z r) four R))
-      ∙ sym (sqrt-positive 53 1023 x p)
+      ∙ sym (root-by-digits (width binary64) (num x) (den x) (M * 2 ^ 52) k r (den-pos x) (omega arith) (omega arith) (radicand (num x) (den x) (value→cross x (magnitude b) (2 ^ 1074) v)) (subst (λ (z : ℕ). Root z r) four R))
+      ∙ sym (sqrt-positive (width binary64) x p)
 
 -- ---- the cases of `sqrt`
 pub positive-number : {x : Float} → Above x → lt x (inf false) ≡ true → T (positive x)

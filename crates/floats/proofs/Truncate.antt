@@ -14,7 +14,8 @@ use lib.Ieee.Fits.{down-pos}
 use lib.Ieee.Exact.{HasValue}
 use lib.Ieee.Back.{round-whole}
 use Rattle.arithmetic.specs.Round.{ceil-div, floor, ceil}
-use Rattle.rounding.specs.Value.{fits-says, round-of-whole, ceil-div-one}
+use Rattle.rounding.proofs.Value.{fits-says, round-of-whole}
+use Rattle.rounding.proofs.Whole.{ceil-div-one}
 use Rattle.floats.proofs.Zero.{Above, infinity, number, Still, unordered, zero±}
 
 -- ---- a test against 2 ^ k
@@ -82,13 +83,13 @@ no-fraction m k a b =
 pub floor-beyond : {x : Float} → T (fits binary64 x) → Above x → lt x (two^ 53) ≡ false → x ≡ floor binary64 x
 unfolding floor
 floor-beyond t infinity k = refl
-floor-beyond t (number m (negsuc j)) k = absurd (no-fraction m j (fits-says binary64 false m (negsuc j) t .digits) (not-under (suc m) (negsuc j) 53 k))
+floor-beyond t (number m (negsuc j)) k = absurd (no-fraction m j (fits-says binary64 false m (negsuc j) t .few) (not-under (suc m) (negsuc j) 53 k))
 floor-beyond t (number m (pos j)) k = sym (ap (λ (n : ℕ). round binary64 false n 1) (div-one (suc m * 2 ^ j)) ∙ round-of-whole binary64 false m j t)
 
 pub ceil-beyond : {x : Float} → T (fits binary64 x) → Above x → lt x (two^ 53) ≡ false → x ≡ ceil binary64 x
 unfolding ceil
 ceil-beyond t infinity k = refl
-ceil-beyond t (number m (negsuc j)) k = absurd (no-fraction m j (fits-says binary64 false m (negsuc j) t .digits) (not-under (suc m) (negsuc j) 53 k))
+ceil-beyond t (number m (negsuc j)) k = absurd (no-fraction m j (fits-says binary64 false m (negsuc j) t .few) (not-under (suc m) (negsuc j) 53 k))
 ceil-beyond t (number m (pos j)) k = sym (ap (λ (n : ℕ). round binary64 false n 1) (ceil-div-one (suc m * 2 ^ j)) ∙ round-of-whole binary64 false m j t)
 
 -- ---- whether anything was cut off

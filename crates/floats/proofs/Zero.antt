@@ -9,8 +9,9 @@ use lib.Dec.{T, ltb, lt→ltb}
 use lib.IntN.{ℤ, pos}
 use lib.Ieee.{Float, nan, inf, fin, Format, up, down, neg, lt, fits}
 use lib.Ieee.Fits.{up-pos}
+use lib.Ieee.Bits.{is-true}
 use Rattle.arithmetic.specs.Value.{0f}
-use Rattle.rounding.specs.Value.{zero-exponent}
+use Rattle.rounding.proofs.Value.{zero-exponent}
 
 pub held : (b : Bool) → b ≡ true → T b
 held b e = subst T (sym e) tt
@@ -87,9 +88,5 @@ negated-above (number- m e) =
     let z = zero-mul (down e) in
     lt→ltb (0 * down e) (suc m * up e * 1) (omega arith)
 
-T-is : (b : Bool) → T b → b ≡ true
-T-is true t = refl
-T-is false t = absurd t
-
 pub above-of : (x : Float) → T (lt 0f x) → Above x
-above-of x t = above x (T-is (lt 0f x) t)
+above-of x t = above x (is-true (lt 0f x) t)

@@ -6,7 +6,7 @@ use lib.Dec.{eqb}
 abbrev pub infinity-bits : ℕ
 infinity-bits = 0x7ff0_0000_0000_0000
 
--- an exponent's field of 0 has no leading digit, and counts as a field of 1
+-- subnormal where the field is 0: then the fraction is all, and its weight is that of field 1
 abbrev pub significand : ℕ → ℕ → ℕ
 significand field t = cond (eqb field 0) t (t + 2 ^ 52)
 

@@ -3,7 +3,7 @@ use mathlib.Core.Path.{ap, _∙_}
 use borrow.Author.Needs.{needs}
 use lib.Ieee.{binary64, ofBits, neg, lt, fits}
 use Rattle.arithmetic.specs.Value.{0f}
-use Rattle.rounding.specs.Sign.{floor-neg}
+use Rattle.rounding.proofs.Sign.{floor-neg}
 use Rattle.floats.proofs.Zero.{held, below, negated-above, still}
 use Rattle.floats.proofs.Truncate.{floor-still}
 use Rattle.floats.proofs.whole.floor.Statement.{statement}

@@ -4,7 +4,7 @@ use mathlib.Core.Bool.{false, true≢false}
 use borrow.Author.Needs.{needs}
 use lib.Ieee.{Float, nan, inf, fin, binary64, eq, fits}
 use Rattle.arithmetic.specs.Value.{finite, whole}
-use Rattle.rounding.specs.Whole.{whole-is}
+use Rattle.rounding.proofs.Whole.{whole-is}
 use Rattle.floats.proofs.Zero.{held}
 use Rattle.floats.proofs.whole.is_whole.Statement.{statement}
 use Rattle.floats.proofs.whole.is_whole.Tie as tie

@@ -1,4 +1,4 @@
--- The root of a fraction, rounded to a format of any width, from the digits of a whole root.
+-- The root of a fraction, rounded to any width, from the digits of a whole root.
 use mathlib.Core.Path.{_≡_, refl, sym, ap, _∙_, subst}
 use mathlib.Core.Logic.{_⊎_, inl, inr}
 use mathlib.Core.Bool.{false}
@@ -8,18 +8,20 @@ use native.Mathlib.Decide.{decLe}
 use native.Mathlib.Omega.{arith}
 use lib.Pow.{pow-pos, pow-add}
 use lib.Ieee.{Float, size, nearest}
-use Rattle.arithmetic.specs.Root.{least, units, root, nearest-root}
-use Rattle.rounding.specs.Square.{Root, square-twice, square-more, root-is, root-ge, root-lt, root-unique}
-use Rattle.rounding.specs.Digits.{less, more, size-of}
+use Rattle.arithmetic.specs.Width.{Width, digits, least, of-units}
+use Rattle.arithmetic.specs.Root.{root, nearest-root}
+use Rattle.rounding.specs.Square.{Root}
+use Rattle.rounding.proofs.Square.{square-twice, square-more, root-is, root-ge, root-lt, root-unique}
+use Rattle.rounding.proofs.Digits.{less, more, size-of}
 
--- ---- `nearest-root`, from its n and its k on
-abbrev at : ℕ → ℕ → ℕ → ℕ → ℕ → Float
-at p em n c k =
-    units p em false (nearest (root (n / (c * (2 ^ k * 2 ^ k)))) (compare (4 * n) ((2 * root (n / (c * (2 ^ k * 2 ^ k))) + 1) * (2 * root (n / (c * (2 ^ k * 2 ^ k))) + 1) * (c * (2 ^ k * 2 ^ k))))) k
+-- ---- the same with n and k as they come
+abbrev at : Width → ℕ → ℕ → ℕ → Float
+at W n c k =
+    of-units W false (nearest (root (n / (c * (2 ^ k * 2 ^ k)))) (compare (4 * n) ((2 * root (n / (c * (2 ^ k * 2 ^ k))) + 1) * (2 * root (n / (c * (2 ^ k * 2 ^ k))) + 1) * (c * (2 ^ k * 2 ^ k))))) k
 
-nearest-root-is : (p em a c : ℕ) → nearest-root p em a c ≡ at p em (a * 2 ^ least p em * 2 ^ least p em) c (size (root (a * 2 ^ least p em * 2 ^ least p em / c)) - p)
+nearest-root-is : (W : Width) (a c : ℕ) → nearest-root W a c ≡ at W (a * 2 ^ least W * 2 ^ least W) c (size (root (a * 2 ^ least W * 2 ^ least W / c)) - digits W)
 unfolding nearest-root
-nearest-root-is p em a c = refl
+nearest-root-is W a c = refl
 
 square-pow : (j k : ℕ) → 2 ^ (j + k) * 2 ^ (j + k) ≡ 2 ^ j * 2 ^ j * (2 ^ k * 2 ^ k)
 square-pow j k = simp (pow-add, mul-assoc, mul-left-comm)
@@ -57,7 +59,7 @@ no-tie B q h =
 
 -- The radicand n / c is B * 4 ^ k, B's root having p + 1 digits, and r is the whole root of 4 * B: one digit more.
 -- The root of 4 * B is no odd whole number, so the last digit of r says which way to round.
-module _ (p em n c B k r : ℕ) (C : 0 < c) (lo : 2 ^ p * 2 ^ p ≤ B) (hi : B < 2 ^ suc p * 2 ^ suc p) (n-is : n ≡ B * (c * (2 ^ k * 2 ^ k))) (R : Root (4 * B) r) where
+module _ (W : Width) (n c B k r : ℕ) (C : 0 < c) (lo : 2 ^ W .fraction * 2 ^ W .fraction ≤ B) (hi : B < 2 ^ digits W * 2 ^ digits W) (n-is : n ≡ B * (c * (2 ^ k * 2 ^ k))) (R : Root (4 * B) r) where
   kk : 0 < 2 ^ k * 2 ^ k
   kk = mul-pos (pow-pos k) (pow-pos k)
 
@@ -67,8 +69,11 @@ module _ (p em n c B k r : ℕ) (C : 0 < c) (lo : 2 ^ p * 2 ^ p ≤ B) (hi : B <
   over-u : n / (c * (2 ^ k * 2 ^ k)) ≡ B
   over-u = ap (λ (x : ℕ). x / (c * (2 ^ k * 2 ^ k))) n-is ∙ mul-div-cancel B (mul-pos C kk)
 
-  digits : size (root (n / c)) ≡ suc (p + k)
-  digits =
+  abbrev p : ℕ
+  p = W .fraction
+
+  digits-are : size (root (n / c)) ≡ suc (p + k)
+  digits-are =
       let w = root-is (n / c) in
       let x = root (n / c) in
       let l1 : 2 ^ (p + k) * 2 ^ (p + k) ≤ n / c = le-trans (le-of-eq (square-pow p k)) (le-trans (mul-le-mul-right (2 ^ k * 2 ^ k) lo) (le-of-eq (sym over-c))) in
@@ -77,7 +82,7 @@ module _ (p em n c B k r : ℕ) (C : 0 < c) (lo : 2 ^ p * 2 ^ p ≤ B) (hi : B <
       size-of x (p + k) (root-ge (n / c) x (2 ^ (p + k)) w l1) (root-lt (n / c) x (2 ^ suc (p + k)) w h1)
 
   dropped : size (root (n / c)) - suc p ≡ k
-  dropped = let e = digits in omega arith
+  dropped = let e = digits-are in omega arith
 
   q-is : root (n / (c * (2 ^ k * 2 ^ k))) ≡ r / 2
   q-is = ap root over-u ∙ root-unique B (root B) (r / 2) (root-is B) (half-root B r R)
@@ -105,12 +110,12 @@ module _ (p em n c B k r : ℕ) (C : 0 < c) (lo : 2 ^ p * 2 ^ p ≤ B) (hi : B <
           (more (4 * n) ((2 * q + 1) * (2 * q + 1) * (c * (2 ^ k * 2 ^ k))) (lt-of-lt-of-le (mul-lt-mul-of-pos-right l u-pos) (le-of-eq (sym four-n))))
           ∙ s .1
 
-  pub at-is : at (suc p) em n c (size (root (n / c)) - suc p) ≡ units (suc p) em false ((r + 1) / 2) k
+  pub at-is : at W n c (size (root (n / c)) - digits W) ≡ of-units W false ((r + 1) / 2) k
   at-is =
-      ap (λ (j : ℕ). at (suc p) em n c j) dropped
-      ∙ ap (λ (q : ℕ). units (suc p) em false (nearest q (compare (4 * n) ((2 * q + 1) * (2 * q + 1) * (c * (2 ^ k * 2 ^ k))))) k) q-is
-      ∙ ap (λ (q : ℕ). units (suc p) em false q k) (picked (r / 2) refl)
+      ap (λ (j : ℕ). at W n c j) dropped
+      ∙ ap (λ (q : ℕ). of-units W false (nearest q (compare (4 * n) ((2 * q + 1) * (2 * q + 1) * (c * (2 ^ k * 2 ^ k))))) k) q-is
+      ∙ ap (λ (q : ℕ). of-units W false q k) (picked (r / 2) refl)
 
-pub root-by-digits : (p em a c B k r : ℕ) → 0 < c → 2 ^ p * 2 ^ p ≤ B → B < 2 ^ suc p * 2 ^ suc p
-    → a * 2 ^ least (suc p) em * 2 ^ least (suc p) em ≡ B * (c * (2 ^ k * 2 ^ k)) → Root (4 * B) r → nearest-root (suc p) em a c ≡ units (suc p) em false ((r + 1) / 2) k
-root-by-digits p em a c B k r C lo hi e R = nearest-root-is (suc p) em a c ∙ at-is p em (a * 2 ^ least (suc p) em * 2 ^ least (suc p) em) c B k r C lo hi e R
+pub root-by-digits : (W : Width) (a c B k r : ℕ) → 0 < c → 2 ^ W .fraction * 2 ^ W .fraction ≤ B → B < 2 ^ digits W * 2 ^ digits W
+    → a * 2 ^ least W * 2 ^ least W ≡ B * (c * (2 ^ k * 2 ^ k)) → Root (4 * B) r → nearest-root W a c ≡ of-units W false ((r + 1) / 2) k
+root-by-digits W a c B k r C lo hi e R = nearest-root-is W a c ∙ at-is W (a * 2 ^ least W * 2 ^ least W) c B k r C lo hi e R

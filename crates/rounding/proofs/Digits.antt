@@ -40,7 +40,7 @@ same a b h = go (compare a b) (subst (λ (x : ℕ). T (eqb a x)) h (eqb-refl a))
     go Ordering·eq t = refl
     go Ordering·gt t = absurd t
 
--- q, or the next number up: the one where a is at most b, the other where b is at most a
+-- `nearest` gives q only where a is at most b, and q + 1 only where b is at most a
 pub nearest-cases : (q a b : ℕ) → ((nearest q (compare a b) ≡ q) × (a ≤ b)) ⊎ ((nearest q (compare a b) ≡ suc q) × (b ≤ a))
 nearest-cases q a b = go (decLe (suc a) b) (decLe (suc b) a)
   where

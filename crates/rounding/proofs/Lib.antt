@@ -1,0 +1,13 @@
+pub mod Square
+pub mod Digits
+pub mod Neighbours
+pub mod Nearest
+pub mod Rounded
+pub mod Value
+pub mod Sign
+pub mod Order
+pub mod Once
+pub mod Whole
+pub mod NearestRoot
+pub mod RootDigits
+pub mod Remainder
