@@ -4,6 +4,7 @@ use crate::files::{cell, load, read_text, write, Failure, Loaded, Output, REFUSE
 use crate::names::Names;
 use crate::print::number;
 use crate::problem::position;
+use crate::tree::RESERVED;
 use crate::values;
 use std::path::Path;
 
@@ -22,6 +23,9 @@ pub fn check(file: &str) -> Result<Output, Failure> {
     let unused: Vec<&str> = formula.names.all().enumerate().filter(|(at, _)| !formula.tree.has_symbol(*at as u32)).map(|(_, name)| name).collect();
     if !unused.is_empty() {
         text += &format!("not used: {}\n", unused.join(", "));
+    }
+    for (symbol, name) in formula.names.all().enumerate().filter(|(_, name)| RESERVED.contains(name)) {
+        text += &format!("{name} is a word of formulas too; as a name it is written ${symbol}\n");
     }
     Ok(Output { text, ..Output::default() })
 }

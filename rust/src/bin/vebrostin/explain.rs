@@ -2,7 +2,7 @@
 use crate::bytes;
 use crate::names::Names;
 use crate::place::{locate, Place};
-use crate::print::{number, piece, print};
+use crate::print::{piece, print};
 use crate::problem::Problem;
 use crate::text::Formula;
 use crate::tree::{Head, Tree, CEIL, DENSITY, DIVIDE, FLOOR, HILL, IFELSE, MAX, MIN, MODULO, NOT, POWER, SQRT};
@@ -111,17 +111,17 @@ fn mistyped(place: Place<'_>, names: &Names) -> (String, String) {
 fn moving(place: Place<'_>, names: &Names) -> (String, String) {
     let node = place.node();
     let from = if let Place::Rest(_, from) = place { from } else { 0 };
-    let (what, part) = match node.head {
-        Head::Call(FLOOR | CEIL) | Head::Binary(MODULO) => (format!("{} depends", node.operator()), node),
+    let (what, part, otherwise) = match node.head {
+        Head::Call(FLOOR | CEIL) | Head::Binary(MODULO) => (format!("{} depends", node.operator()), node, "or round what comes out"),
         _ => {
             let condition = node.children.get(from).unwrap_or(node);
-            (format!("the condition {} depends", piece(&print(condition, names))), condition)
+            (format!("the condition {} depends", piece(&print(condition, names))), condition, "or use min, max or abs")
         }
     };
     let kind = |node: &Tree| if let Head::Symbol(symbol) = node.head { names.moving(symbol) } else { None };
     let culprit = part.find(&|node| kind(node).is_some());
     let (name, kind) = culprit.map_or((String::new(), ""), |node| (print(node, names), kind(node).unwrap_or("")));
-    let advice = format!("Only parameters may decide here: make it {name}:p where it is fixed before the flight, or use min, max or abs.");
+    let advice = format!("Only parameters may stand here: make it {name}:p where it is fixed before the flight, {otherwise}.");
     (format!("{what} on {name}, {kind}"), advice)
 }
 
@@ -146,16 +146,13 @@ fn value(part: &Tree, names: &Names, inputs: &[f64]) -> Option<f64> {
 
 /// What goes wrong in a node with these values of its children.
 fn reason(node: &Tree, values: &[f64]) -> String {
-    let texts: Vec<String> = values.iter().map(|value| number(value.to_bits())).collect();
-    let worked = match (node.head, texts.as_slice()) {
-        (Head::Binary(_), [a, b]) => format!("{a} {} {b}", node.operator()),
-        _ => format!("{}({})", node.operator(), texts.join(", ")),
-    };
+    let numbers = values.iter().map(|value| Tree::new(Head::Number(value.to_bits()), vec![], 0..0)).collect();
+    let worked = print(&Tree::new(node.head, numbers, 0..0), &Names::default());
     let why = match (node.head, values) {
         (Head::Binary(DIVIDE), [_, 0.0]) => "divides by zero",
         (Head::Binary(MODULO), [_, b]) if *b <= 0.0 => "is a remainder by a number that isn't above 0",
         (Head::Binary(POWER), [0.0, b]) if *b <= 0.0 => "is a power of 0 with an exponent that isn't above 0",
-        (Head::Binary(POWER), [a, b]) if *a < 0.0 && b.fract() != 0.0 => "is a broken power of a number below 0",
+        (Head::Binary(POWER), [a, b]) if *a < 0.0 && b.fract() != 0.0 => "is a power of a number below 0 with a fraction as exponent",
         (Head::Call(SQRT), [x]) if *x < 0.0 => "is a root of a number below 0",
         (Head::Call(1 | 2), [x]) if *x <= 0.0 => "is a logarithm of a number that isn't above 0",
         (Head::Call(HILL), [_, n, k]) if *n <= 0.0 || *k <= 0.0 => "has a second or third argument that isn't above 0",

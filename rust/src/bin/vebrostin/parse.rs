@@ -281,6 +281,9 @@ impl<'a> Parser<'a> {
     }
 
     fn misplaced(&self, name: &str) -> Problem {
+        if let Some(symbol) = self.names.symbol(name) {
+            return self.here(&format!("{name} is a word of formulas"), &format!("As a name it is written ${symbol}."));
+        }
         match name {
             "not" => self.here("not stands inside an operation", "Write it in parentheses: (not a)"),
             "and" | "or" => self.here(&format!("a part is missing before {name}"), "Write a part on each side."),

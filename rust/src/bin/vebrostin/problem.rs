@@ -10,7 +10,7 @@ pub struct Problem {
 }
 
 /// Lines of a piece that are shown at most.
-const SHOWN: usize = 8;
+const SHOWN: usize = 4;
 
 impl Problem {
     pub fn new(span: Span, message: impl Into<String>, advice: impl Into<String>) -> Self {
@@ -25,7 +25,8 @@ impl Problem {
         for (start, content) in lines.iter().take(SHOWN) {
             let from = self.span.start.clamp(*start, start + content.len()) - start;
             let to = self.span.end.clamp(*start, start + content.len()) - start;
-            out += &format!("    {}\n    {}\n", plain(content), mark(content, from, to));
+            let (line, from, to) = window(content, from, to);
+            out += &format!("    {}\n    {}\n", plain(&line), mark(&line, from, to));
         }
         if lines.len() > SHOWN {
             out += "    ..\n";
@@ -66,6 +67,17 @@ fn lines_of<'a>(text: &'a str, span: &Span) -> Vec<(usize, &'a str)> {
         start = end + 1;
     }
     lines
+}
+
+/// A long line is cut before and behind the start of its part; the part's bytes in what is left.
+fn window(line: &str, from: usize, to: usize) -> (String, usize, usize) {
+    const BEFORE: usize = 60;
+    const BEHIND: usize = 80;
+    let first = line.get(..from).unwrap_or("").char_indices().rev().nth(BEFORE).map_or(0, |(at, _)| at);
+    let last = line.get(from..).unwrap_or("").char_indices().nth(BEHIND).map_or(line.len(), |(at, _)| from + at);
+    let (left, right) = (if first > 0 { ".. " } else { "" }, if last < line.len() { " .." } else { "" });
+    let shown = format!("{left}{}{right}", line.get(first..last).unwrap_or(line));
+    (shown, from - first + left.len(), to.min(last) - first + left.len())
 }
 
 /// Marks below a part of a line: at least one, a tab below a tab, blanks at the part's edges left out.
