@@ -30,7 +30,8 @@ pub fn derive(error: &Error, formula: &Formula, symbol: u32) -> Problem {
     let name = formula.names.all().nth(symbol as usize).unwrap_or("");
     let (part, message, advice) = match error.refusal {
         Refusal::TooLarge => {
-            (tree, format!("the derivative by {name} is too large"), "It has at most 16,384 nodes and 128 levels: fewer abs, min and max within each other help.")
+            let advice = "It has at most 16,384 nodes and 128 levels: fewer abs, min and max within each other help.";
+            (tree, format!("the derivative by {name} is too large"), advice)
         }
         Refusal::Type => (tree, "a truth value has no derivative".into(), "Ask for rates of formulas that give a number."),
         Refusal::Unsupported => {

@@ -106,7 +106,8 @@ fn command(words: &[String]) -> Result<Output, Failure> {
         (["eval", file, values], by, None, None) => commands::eval(file, values, by.unwrap_or("")),
         (["show", folder], None, None, None) => show::show(folder),
         (["pack", file, values, folder], None, None, None) => commands::pack(file, values, folder),
-        (["plot", file, values @ ..], by, Some(over), Some(out)) if values.len() < 2 => plot::plot(file, values.first().copied(), over, by.unwrap_or(""), out),
+        (["plot", file], by, Some(over), Some(out)) => plot::plot(file, None, over, by.unwrap_or(""), out),
+        (["plot", file, values], by, Some(over), Some(out)) => plot::plot(file, Some(values), over, by.unwrap_or(""), out),
         ([], None, None, None) => Err(Failure { text: HELP.into(), status: files::TROUBLE }),
         _ => Err(Failure::trouble("this is no command with its words; vebrostin --help")),
     }

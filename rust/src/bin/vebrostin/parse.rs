@@ -215,7 +215,10 @@ impl<'a> Parser<'a> {
 
     fn closed(&mut self, open: Span) -> Result<(), Problem> {
         match self.word() {
-            Word::Sign(")") => Ok(self.step()),
+            Word::Sign(")") => {
+                self.step();
+                Ok(())
+            }
             Word::End => Err(Problem::new(open, "this ( is never closed", "Write a ) where it ends.")),
             _ => Err(self.here("an operator or ) is missing before this", "Write * for a product: 3 * distance")),
         }

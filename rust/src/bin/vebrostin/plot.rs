@@ -25,19 +25,25 @@ pub fn plot(file: &str, values: Option<&str>, over: &str, by: &str, out: &str) -
     let picture = Picture { title: loaded.formula.short().into(), fixed, over: name.into(), from, to, curves, panels };
     write(Path::new(out), draw(&picture).as_bytes())?;
     let text = format!("{out}: {} over {name} from {} to {}, ", loaded.formula.short(), number(from.to_bits()), number(to.to_bits()));
-    Ok(Output { text: text + &format!("{} of {POINTS} points, {missing} of them without a value\n", counted(rows.len(), "curve")), ..Output::default() })
+    let text = text + &format!("{} of {POINTS} points, {missing} of them without a value\n", counted(rows.len(), "curve"));
+    Ok(Output { text, ..Output::default() })
 }
 
 fn between(from: f64, to: f64, part: f64) -> f64 {
     from * (1.0 - part) + to * part
 }
 
-/// `NAME=FROM..TO`.
+/// The name and the numbers of `NAME=FROM..TO`.
+fn parts(over: &str) -> Option<(&str, f64, f64)> {
+    let (name, range) = over.split_once('=')?;
+    let (from, to) = range.split_once("..")?;
+    Some((name.trim(), signed(from.trim()).ok()?, signed(to.trim()).ok()?))
+}
+
 fn range(over: &str) -> Result<(&str, f64, f64), Failure> {
-    let parts = over.split_once('=').and_then(|(name, range)| range.split_once("..").map(|(from, to)| (name.trim(), from.trim(), to.trim())));
-    let range = parts.and_then(|(name, from, to)| Some((name, signed(from).ok()?, signed(to).ok()?)));
-    match range {
+    match parts(over) {
         Some((_, from, to)) if from >= to => Err(Failure::trouble(format!("--over {over}: the first number has to be below the second"))),
+        Some((_, from, to)) if !(to - from).is_finite() => Err(Failure::trouble(format!("--over {over}: the range is too long"))),
         Some(range) => Ok(range),
         None => Err(Failure::trouble(format!("--over {over}: write it as distance=100..900"))),
     }
