@@ -51,7 +51,7 @@ ok eval-no-rate eval examples/reserve.txt examples/reserve.csv --by piston
 ok eval-unknown-rate eval examples/trip.txt examples/trip.csv --by distanse
 
 # lines of values that are not as they should be
-printf 'wind,tas,distance,burn,climb\r\n0,200,400,300,90\r\n0,200,400,300\n0,2OO,400,300,90\n1e999,200,400,300,90\n\n -30 , 200,4e2, +300,90' > "$try/odd.csv"
+printf '"wind","tas",distance,burn,climb\r\n0,200,400,300,90\r\n0,200,400,300\n0,2OO,400,300,90\n1e999,200,400,300,90\n\n -30 , 200,4e2, +300,90' > "$try/odd.csv"
 printf 'climb,burn,distance,tas\n90,300,400,200\n' > "$try/short.csv"
 printf 'climb,burn,distance,tas,wind,wnd\n' > "$try/extra.csv"
 printf 'climb,burn,distance,tas,wind,wind\n' > "$try/twice.csv"

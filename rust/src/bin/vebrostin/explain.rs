@@ -5,7 +5,7 @@ use crate::place::{locate, Place};
 use crate::print::{piece, print};
 use crate::problem::Problem;
 use crate::text::Formula;
-use crate::tree::{Head, Tree, CEIL, DENSITY, DIVIDE, FLOOR, HILL, IFELSE, MAX, MIN, MODULO, NOT, POWER, SQRT};
+use crate::tree::{Head, Tree, CEIL, DENSITY, DIVIDE, FLOOR, HILL, IFELSE, LOG, LOG10, MAX, MIN, MODULO, NOT, POWER, SQRT};
 use vebrostin::{Error, Program, Question, Refusal};
 
 /// A refusal of a formula by compile.
@@ -155,7 +155,7 @@ fn reason(node: &Tree, values: &[f64]) -> String {
         (Head::Binary(POWER), [0.0, b]) if *b <= 0.0 => "is a power of 0 with an exponent that isn't above 0",
         (Head::Binary(POWER), [a, b]) if *a < 0.0 && b.fract() != 0.0 => "is a power of a number below 0 with a fraction as exponent",
         (Head::Call(SQRT), [x]) if *x < 0.0 => "is a root of a number below 0",
-        (Head::Call(1 | 2), [x]) if *x <= 0.0 => "is a logarithm of a number that isn't above 0",
+        (Head::Call(LOG | LOG10), [x]) if *x <= 0.0 => "is a logarithm of a number that isn't above 0",
         (Head::Call(HILL), [_, n, k]) if *n <= 0.0 || *k <= 0.0 => "has a second or third argument that isn't above 0",
         (Head::Call(DENSITY), [_, mean, shape]) if *mean <= 0.0 || *shape <= 0.0 => "has a second or third argument that isn't above 0",
         _ => "is too large for a number",

@@ -83,7 +83,7 @@ fn window(line: &str, from: usize, to: usize) -> (String, usize, usize) {
 /// Marks below a part of a line: at least one, a tab below a tab, blanks at the part's edges left out.
 fn mark(line: &str, from: usize, to: usize) -> String {
     let part = line.get(from..to).unwrap_or("");
-    let from = from + part.len() - part.trim_start().len();
+    let from = if part.trim().is_empty() { from } else { from + part.len() - part.trim_start().len() };
     let blank = line.get(..from).unwrap_or(line).chars().map(|c| if c == '\t' { '\t' } else { ' ' });
     let marks = part.trim().chars().count().max(1);
     blank.chain(std::iter::repeat_n('^', marks)).collect()

@@ -293,6 +293,16 @@ fn reasons() {
     }
 }
 
+/// Characters that move what a terminal shows are neither read nor shown.
+#[test]
+fn odd_characters() {
+    for (odd, code) in [("\u{7}", "7"), ("\u{1b}", "1b"), ("\u{202e}", "202e"), ("\r", "d"), ("\u{0}", "0")] {
+        let shown = message(&format!("counts: fuel\nnames: a:p\na {odd} + 1\n"));
+        let said = format!("formula:3:3: the character \\u{{{code}}} doesn't belong into a text\n    a \u{fffd} + 1\n      ^\n");
+        assert_eq!(shown, said + "Save the file as plain text in UTF-8.\n");
+    }
+}
+
 /// Each text of tools/command/refusals.txt has the message that stands below it; WRITE=1 writes the messages anew.
 #[test]
 fn messages() {

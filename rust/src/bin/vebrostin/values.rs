@@ -32,10 +32,15 @@ fn cells(line: &str, at: usize) -> Vec<(&str, Span)> {
     let mut list = Vec::new();
     for cell in line.split(',').filter(|_| !line.trim().is_empty()) {
         let from = start + cell.len() - cell.trim_start().len();
-        list.push((cell.trim(), from..from + cell.trim().len()));
+        list.push((unquoted(cell.trim()), from..from + cell.trim().len()));
         start += cell.len() + 1;
     }
     list
+}
+
+/// A cell without the quotes that some spreadsheets put around it.
+fn unquoted(cell: &str) -> &str {
+    cell.strip_prefix('"').and_then(|cell| cell.strip_suffix('"')).unwrap_or(cell)
 }
 
 /// The symbol of each column.
