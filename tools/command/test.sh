@@ -95,8 +95,10 @@ printf 'fuel \033[31m\n' > "$try/escape/counts.txt"
 printf 'no,answer,detail,steps\n1,ask,16:4069000000000000:4000000000000000,8\n2,ask,0:3ff0000000000000,8\n3,bad,3,0\n4,bad,5,0\n5,\033[31m\n0,refused,6:root,0\n' > "$try/escape/output"
 { printf '\7\13\0\1\0\0\0\0\0\0\0\0\0\0\0\0'; for i in $(seq 256); do printf "$symbol"; done; } > "$try/long"
 sent large '' 'a:p\n'
+sent deep '' 'a:p\n'
+{ for i in $(seq 1100); do printf '\3\1\1\0\0\0\0\0\0\0\0\0\0\0\0\0'; done; printf "$symbol"; } > "$try/deep/formula.bin"
 mv "$try/long" "$try/large/formula.bin"
-for name in empty cut kind more names refused unnamed escape large; do
+for name in empty cut kind more names refused unnamed escape large deep; do
     ok "show-$name" show "$try/$name"
 done
 

@@ -1,5 +1,5 @@
 //! `show FOLDER`: what an operator sent, as text, with decimals beside the bits.
-use crate::bytes;
+use crate::bytes::{self, Malformed};
 use crate::explain;
 use crate::files::{read, Failure, Output, LARGEST, REFUSED};
 use crate::names::Names;
@@ -18,8 +18,8 @@ const LINES: u64 = 1 << 30;
 pub fn show(folder: &str) -> Result<Output, Failure> {
     let file = |name: &str| Path::new(folder).join(name).display().to_string();
     let formula = read(&file("formula.bin"), LARGEST)?;
-    let tree = bytes::decode(&formula).map_err(|malformed| Failure {
-        text: format!("{}: refused (2): the bytes are no formula: at byte {}, {}\n", file("formula.bin"), malformed.at, malformed.why),
+    let tree = bytes::decode(&formula).map_err(|Malformed { refusal, at, why }| Failure {
+        text: format!("{}: refused ({refusal}): at byte {at}, {why}\n", file("formula.bin")),
         status: REFUSED,
     })?;
     let mut output = Output::default();
