@@ -4,10 +4,9 @@ use crate::tree::{Head, Tree, BINARY, BOOLEAN, CALLS, COMPARE, LEVELS, UNARY};
 /// Bytes of a node.
 pub const NODE: usize = 16;
 
-/// Why no tree is read from bytes: the refusal (2 for bytes that are no formula, 4 for too many levels), at which byte, and why.
+/// Why no tree is read from bytes, and at which byte: they are no formula, or one with too many levels.
 #[derive(Debug, PartialEq, Eq)]
 pub struct Malformed {
-    pub refusal: u8,
     pub at: usize,
     pub why: String,
 }
@@ -43,19 +42,19 @@ pub fn decode(bytes: &[u8]) -> Result<Tree, Malformed> {
     let mut at = 0;
     let tree = take(bytes, &mut at, 1)?;
     if at < bytes.len() {
-        return Err(Malformed { refusal: 2, at, why: format!("the formula ends here, but {} more bytes follow", bytes.len() - at) });
+        return Err(Malformed { at, why: format!("the formula ends here, but {} more bytes follow", bytes.len() - at) });
     }
     Ok(tree)
 }
 
 fn take(bytes: &[u8], at: &mut usize, level: usize) -> Result<Tree, Malformed> {
     let here = *at;
-    let fail = |why: String| Malformed { refusal: 2, at: here, why };
+    let fail = |why: String| Malformed { at: here, why };
     let Some(node) = bytes.get(here..here + NODE) else {
         return Err(fail(format!("a node of {NODE} bytes is missing; {} bytes are left", bytes.len() - here)));
     };
     if level > LEVELS {
-        return Err(Malformed { refusal: 4, at: here, why: format!("there are more than {LEVELS} levels, too many to be shown") });
+        return Err(fail(format!("there are more than {LEVELS} levels, too many to be shown")));
     }
     let (head, count) = head_of(node).map_err(fail)?;
     *at += NODE;

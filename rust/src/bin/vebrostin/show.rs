@@ -18,13 +18,13 @@ const LINES: u64 = 1 << 30;
 pub fn show(folder: &str) -> Result<Output, Failure> {
     let file = |name: &str| Path::new(folder).join(name).display().to_string();
     let formula = read(&file("formula.bin"), LARGEST)?;
-    let tree = bytes::decode(&formula).map_err(|Malformed { refusal, at, why }| Failure {
-        text: format!("{}: refused ({refusal}): at byte {at}, {why}\n", file("formula.bin")),
-        status: REFUSED,
-    })?;
-    let mut output = Output::default();
     let input = lines_of(&file("input"));
     let name_line = input.first().map_or(&[][..], Vec::as_slice);
+    let tree = bytes::decode(&formula).map_err(|Malformed { at, why }| {
+        let refusal = Program::compile(&formula, name_line).map_or_else(|error| error.to_string(), |_| "it can't be shown".into());
+        Failure { text: format!("{}: {refusal}; at byte {at}, {why}\n", file("formula.bin")), status: REFUSED }
+    })?;
+    let mut output = Output::default();
     let well_formed = Names::from_line(name_line);
     if let Err(why) = &well_formed {
         complain(&mut output, format!("{}:1: refused (3): the name line is not well formed: {}", file("input"), plain(why)));
