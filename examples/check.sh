@@ -1,5 +1,6 @@
 #!/bin/sh
-# Makes each example again, runs `legs` on it and compares with what stands beside it. LEGS names the program.
+# Makes each example again, runs `legs` on it and compares with what stands beside it. LEGS names the program, and
+# tools/library/build.sh builds the command that makes them.
 set -e
 cd "$(dirname "$0")/.."
 mkdir -p target/examples
@@ -7,9 +8,10 @@ tools/library/runner.sh "${LEGS:-target/bin/legs}" target/examples/legs
 legs=$(realpath target/examples/legs)
 for text in examples/*.txt; do
     name=$(basename "$text" .txt)
-    python3 examples/make.py "$text" "target/examples/$name"
-    cmp "examples/$name/formula.bin" "target/examples/$name/formula.bin"
-    cmp "examples/$name/input" "target/examples/$name/input"
+    target/library/vebrostin pack "$text" "examples/$name.csv" "target/examples/$name" > target/examples/packed
+    for file in formula.bin input counts.txt; do
+        cmp "examples/$name/$file" "target/examples/$name/$file"
+    done
     (cd "target/examples/$name" && "$legs" < input) | diff "examples/$name/output" -
 done
 echo "examples agree"

@@ -1,4 +1,4 @@
-//! Fuel and fuel per mile of the trip formula: fuel_per_mile FOLDER SYMBOL VALUE.., FOLDER made by examples/make.py.
+//! Fuel and fuel per mile of the trip formula: fuel_per_mile FOLDER SYMBOL VALUE.., FOLDER made by `vebrostin pack`.
 use std::error::Error;
 use vebrostin::Program;
 
