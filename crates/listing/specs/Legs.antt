@@ -49,7 +49,7 @@ question-text (power a b) = ascii "16" ++ colon ++ bits-text a ++ colon ++ bits-
 abbrev pub bad : ℕ → Line
 bad n = record { answer = ascii "bad"; detail = decimal n; steps = 0 }
 
--- a run whose budget is all of the code is never spent (`never-spent` in proofs/Answers), so no line shows the third
+-- a run whose budget is all of the code is never spent: `never-spent` in proofs/Answers
 abbrev pub line-of : Answer → ℕ → Line
 line-of (gives v) count = record { answer = ascii "value"; detail = bits-text v; steps = count }
 line-of (asks q) count = record { answer = ascii "ask"; detail = question-text q; steps = count }
