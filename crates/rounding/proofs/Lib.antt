@@ -11,3 +11,5 @@ pub mod Whole
 pub mod NearestRoot
 pub mod RootDigits
 pub mod Remainder
+pub mod Widths
+pub mod Formats

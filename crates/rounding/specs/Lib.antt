@@ -4,3 +4,5 @@ pub mod Exact
 pub mod Whole
 pub mod NearestRoot
 pub mod Modulo
+pub mod Widths
+pub mod Formats
