@@ -3,15 +3,15 @@ use mathlib.Core.Path.{_≡_, refl, sym, ap, ap₂, _∙_, subst}
 use mathlib.Core.Logic.{inl, inr}
 use mathlib.Core.Bool.{Bool, true, false, not, cond, true≢false}
 use Prim.Native.Nat.{ℕ, zero, suc, _+_, _-_, _*_, _/_, _%_, _^_, _≤_, _<_}
-use native.Mathlib.Nat.{le-refl, le-trans, le-of-eq, lt-of-lt-of-le, lt-of-le-of-lt, eq-or-lt-of-le, mul-assoc, pow-suc, pow-succ', mul-le-mul-right, mul-lt-mul-of-pos-right, mul-div-cancel, add-comm, zero-add, mod-eq-of-lt, lt-of-not-le, suc-add}
+use native.Mathlib.Nat.{le-refl, le-trans, le-of-eq, lt-of-lt-of-le, eq-or-lt-of-le, mul-assoc, pow-succ', mul-le-mul-right, mul-lt-mul-of-pos-right, mul-div-cancel, add-comm, zero-add, mod-eq-of-lt, lt-of-not-le, suc-add}
 use native.Mathlib.Omega.{arith}
 use native.Mathlib.Decide.{decLe}
-use borrow.Author.Tests.{lt-leb, lt-ltb, ne-eqb, le-leb}
+use borrow.Author.Tests.{lt-leb, ne-eqb, le-leb}
 use lib.Dec.{T, leb, eqb, eqb·suc-zero, lit<}
 use lib.Pow.{pow-pos, pow-add}
 use lib.IntN.{ℤ}
-use lib.Ieee.{Float, nan, inf, fin, Format, binary64, prec, emax, low, hid, top, up, down, size, odd, units, fits, ofBits, toBits, ofFields}
-use lib.Ieee.Fits.{down-pos, odd-fits}
+use lib.Ieee.{Float, nan, inf, fin, Format, binary64, prec, low, hid, top, up, down, size, odd, units, fits, ofBits, toBits, ofFields}
+use lib.Ieee.Fits.{down-pos}
 use lib.Ieee.Exact.{HasValue, odd-sign, units-val}
 use lib.Ieee.Bits.{ofBits-toBits, toBits-lt}
 use Rattle.floats.specs.Fields.{significand, magnitude, infinity-bits}

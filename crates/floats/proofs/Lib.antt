@@ -3,3 +3,4 @@ pub mod Fold
 mod Truncate
 mod Bits
 mod RootSteps
+pub mod Values

@@ -1,12 +1,11 @@
 -- Both formats conform.
-use mathlib.Core.Path.{_≡_, refl, sym}
-use mathlib.Core.Bool.{Bool, true, false, true≢false}
+use mathlib.Core.Path.{_≡_, refl}
+use mathlib.Core.Bool.{true, false}
 use Prim.Native.Nat.{ℕ, zero, suc, _+_, _*_, _≤_}
 use native.Mathlib.Nat.{zero-mul}
 use native.Mathlib.Omega.{arith}
-use lib.Dec.{T, ltb, ltb→lt}
-use lib.IntN.{ℤ}
-use lib.Ieee.{Float, nan, inf, fin, Format, binary32, binary64, up, down, rem, add, lt, fits}
+use lib.Dec.{T, ltb→lt}
+use lib.Ieee.{Float, nan, inf, fin, Format, binary32, binary64, up, down, rem, lt, fits}
 use lib.Ieee.Fits.{add-fits, sub-fits, mul-fits, div-fits}
 use lib.Ieee.Positive.{num, den, positive}
 use Rattle.arithmetic.specs.Width.{width}

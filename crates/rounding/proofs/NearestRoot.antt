@@ -6,7 +6,7 @@ use mathlib.Core.Path.{_≡_, refl, sym, ap, ap₂, _∙_, subst}
 use mathlib.Core.Logic.{_⊎_, inl, inr}
 use mathlib.Core.Bool.{Bool, true, false, not, cond}
 use Prim.Native.Nat.{ℕ, zero-le, zero, suc, _+_, _-_, _*_, _/_, _^_, _≤_, _<_, compare}
-use native.Mathlib.Nat.{mul-le-mul-left, eq-of-mul-eq-mul-right, mul-lt-mul-of-pos-left, le-trans, le-of-eq, le-of-lt, lt-of-lt-of-le, lt-of-le-of-lt, lt-of-not-le, not-le-of-lt, eq-or-lt-of-le, one-mul, mul-pos, mul-one, mul-assoc, mul-comm, mul-left-comm, add-mul, mul-le-mul, mul-le-mul-right, mul-lt-mul-of-pos-right, le-div-iff-mul-le, div-lt-iff-lt-mul, lt-of-mul-lt-mul-right, suc-mul, zero-lt-suc, add-comm, pow-succ'}
+use native.Mathlib.Nat.{mul-le-mul-left, eq-of-mul-eq-mul-right, mul-lt-mul-of-pos-left, le-trans, le-of-eq, le-of-lt, lt-of-lt-of-le, lt-of-le-of-lt, lt-of-not-le, not-le-of-lt, mul-pos, mul-one, mul-assoc, mul-comm, mul-left-comm, add-mul, mul-le-mul, mul-le-mul-right, mul-lt-mul-of-pos-right, le-div-iff-mul-le, div-lt-iff-lt-mul, suc-mul, zero-lt-suc, add-comm, pow-succ'}
 use native.Mathlib.Decide.{decLe}
 use native.Mathlib.Numerals.{add-one}
 use native.Mathlib.Omega.{arith}
@@ -14,10 +14,10 @@ use borrow.Author.Tests.{lt-leb}
 use lib.Arith.{lt-of-le-ne}
 use lib.Dec.{T, lit≤}
 use lib.IntN.{ℤ}
-use lib.Pow.{pow-pos, pow-add, pow-mono, pow-lt}
-use lib.Ieee.{Float, nan, inf, fin, Format, binary32, binary64, prec, emax, low, up, down, size, nearest, odd, fits, isNan}
+use lib.Pow.{pow-pos, pow-add, pow-mono}
+use lib.Ieee.{Float, nan, inf, fin, Format, binary32, binary64, up, down, size, nearest, odd, fits, isNan}
 use lib.Ieee.Digits.{size-lt, size-reaches}
-use lib.Ieee.Exact.{HasValue, odd-sign}
+use lib.Ieee.Exact.{odd-sign}
 use lib.Ieee.Fits.{down-pos, nearest-le, nan-fits, inf-fits}
 use Rattle.arithmetic.specs.Width.{Width, width, digits, least, past, of-units}
 use Rattle.arithmetic.specs.Root.{root, nearest-root, sqrt-at, sqrt}

@@ -1,7 +1,7 @@
 -- "Each operation rounds once": Add, Subtract, Multiply and Divide of finite values are the exact result, rounded once. Nothing is fused: a product that is then
 -- added to is `add F (mul F x y) z`, two operations and two roundings.
 use mathlib.Core.Path.{_≡_, refl, sym, ap, ap₂, _∙_, subst}
-use mathlib.Core.Bool.{Bool, true, false, not, _&&_, Bool·beq, cond}
+use mathlib.Core.Bool.{Bool, true, false, not, _&&_, cond}
 use Prim.Native.Nat.{ℕ, zero, suc, _+_, _-_, _*_, _^_, _≤_, _<_, zero-le}
 use native.Mathlib.Nat.{mul-pos, zero-mul, le-trans, le-of-lt, lt-of-not-le, lt-irrefl, lt-of-lt-of-le, le-of-eq}
 use native.Mathlib.Decide.{decLe}

@@ -82,8 +82,7 @@ fits-parts F s m e t =
     let p = eqb (suc m % 2) 1 in
     let q = ltb (suc m) (2 ^ prec F) in
     let r = leb (down e) (2 ^ low F) in
-    let w = ltb (suc m * up e) (2 ^ suc (emax F) * down e) in
-    (
+    let w = ltb (suc m * up e) (2 ^ suc (emax F) * down e) in (
       ltb→lt (suc m) (2 ^ prec F) (and-r p q (and-l (p && q) r (and-l (p && q && r) w t))),
       leb→le (down e) (2 ^ low F) (and-r (p && q) r (and-l (p && q && r) w t)),
       ltb→lt (suc m * up e) (2 ^ suc (emax F) * down e) (and-r (p && q && r) w t),

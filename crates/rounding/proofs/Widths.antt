@@ -1,5 +1,5 @@
 -- Every width is sound.
-use Prim.Native.Nat.{ℕ, suc, _≤_, _<_}
+use Prim.Native.Nat.{_≤_, _<_}
 use native.Mathlib.Omega.{arith}
 use Rattle.arithmetic.specs.Width.{Width}
 use Rattle.rounding.specs.Widths.{Sound}

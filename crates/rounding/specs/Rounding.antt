@@ -54,13 +54,15 @@ pub record IsRounded (W : Width) (s : Bool) (a c : ℕ) (y : Float) : Type 0 whe
   pub closest : (j : ℕ) → Size W j → off W a c units ≤ off W a c j
   pub even : (j : ℕ) → Size W j → (j ≡ units → ⊥) → off W a c units ≡ off W a c j → (half : ℕ) × (units ≡ 2 * half * distance units j)
 
--- One that is: numbers near a / c are multiples of 2 ^ k units, and it lies from q to q + 1 such multiples. It becomes the nearer one, as twice it compares with
--- 2 q + 1 of them; half way between the two, the even one.
+-- of q and q + 1 times u the nearer to n, as 2 n compares with 2 q + 1 times u; half way between the two, the even one
+abbrev pub nearer : ℕ → ℕ → ℕ → ℕ
+nearer n u q = nearest q (compare (2 * n) ((2 * q + 1) * u))
+
+-- One that is: there are n / c units. Numbers near that are multiples of 2 ^ k units, and it lies from q to q + 1 such multiples; the nearer one is kept.
 unfoldable pub round-at : Width → Bool → ℕ → ℕ → Float
 unfolding size of-units
 round-at W s a c =
     let n = a * 2 ^ least W in
     let k = size (n / c) - digits W in
     let u = c * 2 ^ k in
-    let q = n / u in
-    of-units W s (nearest q (compare (2 * n) ((2 * q + 1) * u))) k
+    of-units W s (nearer n u (n / u)) k
