@@ -1,18 +1,21 @@
 -- What the promises of this crate's functions say of f64 values. r is what a function gives, by its contract; every f64 fits binary64.
 -- The operators +, -, * and / of the code are `add`, `sub`, `mul` and `div` of binary64: `f64-conforms` has them, beside these.
 use mathlib.Core.Path.{_≡_, sym, _∙_, subst}
-use mathlib.Core.Bool.{Bool, true, false}
+use mathlib.Core.Bool.{Bool, true, false, not}
+use Prim.Native.Nat.{ℕ}
 use lib.Dec.{T}
 use lib.IntN.{pos}
-use lib.Ieee.{Float, nan, inf, fin, binary64, lt, fits}
+use lib.Ieee.{Float, nan, inf, fin, binary64, lt, fits, isNan}
 use lib.Ieee.Positive.{num, den, positive}
 use Rattle.arithmetic.specs.Width.{Width, width}
 use Rattle.arithmetic.specs.Value.{finite, 0f}
 use Rattle.arithmetic.specs.Round.{floor, ceil}
 use Rattle.arithmetic.specs.Root.{sqrt}
 use Rattle.arithmetic.specs.Modulo.{modulo}
+use Rattle.rounding.specs.Rounding.{Counts}
+use Rattle.rounding.specs.Exact.{sign}
 use Rattle.rounding.specs.Whole.{IsFloor, IsCeil}
-use Rattle.rounding.specs.NearestRoot.{IsNearestRoot}
+use Rattle.rounding.specs.NearestRoot.{NearerRoot, IsNearestRoot}
 use Rattle.rounding.specs.Modulo.{IsModulo}
 use Rattle.rounding.proofs.Formats.{f64-conforms}
 
@@ -23,6 +26,14 @@ f64 = width binary64
 -- `root::sqrt`: the nearest f64 to the root; of a zero that zero, and below zero a NaN
 pub sqrt-is-nearest : (x r : Float) → T (fits binary64 x) → T (positive x) → r ≡ sqrt binary64 x → IsNearestRoot f64 (num x) (den x) r
 sqrt-is-nearest x r t h e = subst (λ (y : Float). IsNearestRoot f64 (num x) (den x) y) (sym e) (f64-conforms .roots x t h)
+
+-- r is nearer to the root than any other f64 y
+pub sqrt-is-nearer : (x r y : Float) → T (fits binary64 x) → T (positive x) → r ≡ sqrt binary64 x → T (fits binary64 y) → T (not (isNan y))
+    → (v j : ℕ) × Counts f64 r false v × Counts f64 y (sign y) j × NearerRoot f64 (num x) (den x) v j
+sqrt-is-nearer x r y t h e u k =
+    let n = sqrt-is-nearest x r t h e in
+    let z = f64-conforms .sizes y u k in
+    (n .units, z .0, n .counts, z .1, n .nearer (z .0) (z .2))
 
 pub sqrt-of-zero : (s : Bool) (r : Float) → r ≡ sqrt binary64 (fin s 0 (pos 0)) → r ≡ fin s 0 (pos 0)
 sqrt-of-zero s r e = e ∙ f64-conforms .root-of-zero s

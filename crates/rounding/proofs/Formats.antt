@@ -16,7 +16,7 @@ use Rattle.rounding.specs.NearestRoot.{IsNearestRoot}
 use Rattle.rounding.specs.Modulo.{IsModulo}
 use Rattle.rounding.specs.Formats.{Conforms}
 use Rattle.rounding.proofs.Rounded.{round-rounded}
-use Rattle.rounding.proofs.Value.{rounded-is}
+use Rattle.rounding.proofs.Value.{fits-size, size-fits, one-value, rounded-is}
 use Rattle.rounding.proofs.Once.{add-rounds, sub-rounds, mul-rounds, div-rounds}
 use Rattle.rounding.proofs.Whole.{floor-is, ceil-is, floor-fits, ceil-fits}
 use Rattle.rounding.proofs.NearestRoot.{sqrt-nearest, sqrt-zero, sqrt-fits}
@@ -66,6 +66,9 @@ kept-infinity F (fin s m e) h k = rw k
 
 pub conforms : (F : Format) → Conforms F
 conforms F = record {
+  sizes = fits-size F;
+  values = size-fits F;
+  one = one-value F;
   rounding = round-rounded F;
   single = rounded-is F;
   plus = add-rounds F;

@@ -6,6 +6,7 @@ pub mod Square
 pub mod Digits
 pub mod Neighbours
 pub mod Nearest
+pub mod LastDigit
 pub mod Rounded
 pub mod Value
 pub mod Sign

@@ -4,6 +4,8 @@ use native.Mathlib.Omega.{arith}
 use Rattle.arithmetic.specs.Width.{Width}
 use Rattle.rounding.specs.Widths.{Sound}
 use Rattle.rounding.proofs.Nearest.{round-at-rounded}
+use Rattle.rounding.proofs.LastDigit.{last-digit}
+use Rattle.rounding.proofs.Once.{no-nearer}
 use Rattle.rounding.proofs.Rounded.{rounded-once, rounded-number, infinite-from}
 use Rattle.rounding.proofs.Whole.{floor-at-is, ceil-at-is}
 use Rattle.rounding.proofs.NearestRoot.{sqrt-at-nearest}
@@ -16,6 +18,8 @@ sound W some wide =
     record {
       rounding = round-at-rounded W;
       single = rounded-once W;
+      nearest = no-nearer W;
+      last-digit = last-digit W some;
       itself = rounded-number W;
       infinite = λ s a c y C. infinite-from W s a c y C above;
       floors = floor-at-is W reach;

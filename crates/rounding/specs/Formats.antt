@@ -4,20 +4,24 @@ use mathlib.Core.Bool.{Bool, true, false, not, _&&_}
 use Prim.Native.Nat.{ℕ, _*_, _<_}
 use lib.Dec.{T}
 use lib.IntN.{pos, _+ℤ_, _-ℤ_}
-use lib.Ieee.{Float, nan, inf, fin, Format, unlike, round, add, sub, mul, div, lt, fits}
+use lib.Ieee.{Float, nan, inf, fin, Format, unlike, round, add, sub, mul, div, lt, fits, isNan}
 use lib.Ieee.Positive.{num, den, positive}
 use Rattle.arithmetic.specs.Width.{width}
 use Rattle.arithmetic.specs.Value.{finite, 0f}
 use Rattle.arithmetic.specs.Round.{floor, ceil}
 use Rattle.arithmetic.specs.Root.{sqrt}
 use Rattle.arithmetic.specs.Modulo.{modulo}
-use Rattle.rounding.specs.Rounding.{IsRounded}
+use Rattle.rounding.specs.Rounding.{Size, Counts, IsRounded}
 use Rattle.rounding.specs.Exact.{sign, signed, RoundsTo}
 use Rattle.rounding.specs.Whole.{IsFloor, IsCeil}
 use Rattle.rounding.specs.NearestRoot.{IsNearestRoot}
 use Rattle.rounding.specs.Modulo.{IsModulo}
 
 pub record Conforms (F : Format) : Type 0 where
+  -- what the format holds, but for a NaN, has a sign and a size of the width; every sign and size is held, and as one value only
+  pub sizes : (x : Float) → T (fits F x) → T (not (isNan x)) → (j : ℕ) × Counts (width F) x (sign x) j × Size (width F) j
+  pub values : (s : Bool) (j : ℕ) → Size (width F) j → (x : Float) × T (fits F x) × Counts (width F) x s j
+  pub one : (x y : Float) (s : Bool) (j : ℕ) → T (fits F x) → T (fits F y) → Counts (width F) x s j → Counts (width F) y s j → x ≡ y
   -- `round` is to the nearest, ties to even, and nothing else is
   pub rounding : (s : Bool) (a c : ℕ) → 0 < c → IsRounded (width F) s a c (round F s a c)
   pub single : (s : Bool) (a c : ℕ) (y : Float) → 0 < c → T (fits F y) → IsRounded (width F) s a c y → y ≡ round F s a c
