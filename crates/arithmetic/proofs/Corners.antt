@@ -1,8 +1,8 @@
 -- Values at the places that document 01 names: Modulo's corners, Sqrt 2, Ceil -0.5, a tie of zeros.
 use mathlib.Core.Path.{_≡_, refl}
-use mathlib.Core.List.{List, [], _∷_}
+use mathlib.Core.List.{[], _∷_}
 use Prim.Native.Nat.{ℕ}
-use lib.Ieee.{Float, binary64, add, sub, mul, div, rem, neg, lt, le, eq, ofBits, toBits, round}
+use lib.Ieee.{Float, binary64, add, sub, mul, div, rem, neg, lt, le, eq, ofBits, round}
 use Rattle.arithmetic.specs.Round.{floor, ceil}
 use Rattle.arithmetic.specs.Root.{sqrt, sqrt-at}
 use Rattle.arithmetic.specs.Modulo.{modulo}

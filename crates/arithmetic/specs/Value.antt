@@ -1,5 +1,5 @@
 -- Values: IEEE 754 numbers as `lib.Ieee` has them, and the tests that document 01 puts to them.
-use mathlib.Core.Bool.{Bool, true, false, cond}
+use mathlib.Core.Bool.{Bool, false, cond}
 use Prim.Native.Nat.{_*_, _%_}
 use lib.IntN.{pos, negsuc}
 use lib.Dec.{eqb}

@@ -3,19 +3,20 @@ use mathlib.Core.Path.{_≡_, refl, sym, ap, ap₂, _∙_, subst}
 use mathlib.Core.Logic.{inl, inr}
 use mathlib.Core.Bool.{Bool, true, false, not, cond, true≢false}
 use Prim.Native.Nat.{ℕ, zero, suc, _+_, _-_, _*_, _/_, _%_, _^_, _≤_, _<_}
-use native.Mathlib.Nat.{le-refl, le-trans, le-of-eq, lt-of-lt-of-le, lt-of-le-of-lt, eq-or-lt-of-le, mul-assoc, pow-suc, pow-succ', mul-le-mul-right, mul-lt-mul-of-pos-right, mul-div-cancel, add-comm, zero-add, mod-eq-of-lt, lt-of-not-le, suc-add}
+use native.Mathlib.Nat.{le-refl, le-trans, le-of-eq, lt-of-lt-of-le, eq-or-lt-of-le, mul-assoc, pow-succ', mul-le-mul-right, mul-lt-mul-of-pos-right, mul-div-cancel, add-comm, zero-add, mod-eq-of-lt, lt-of-not-le, suc-add}
 use native.Mathlib.Omega.{arith}
 use native.Mathlib.Decide.{decLe}
-use borrow.Author.Tests.{lt-leb, lt-ltb, ne-eqb, le-leb}
+use borrow.Author.Tests.{lt-leb, ne-eqb, le-leb}
 use lib.Dec.{T, leb, eqb, eqb·suc-zero, lit<}
 use lib.Pow.{pow-pos, pow-add}
 use lib.IntN.{ℤ}
-use lib.Ieee.{Float, nan, inf, fin, Format, binary64, prec, emax, low, hid, top, up, down, size, odd, units, fits, ofBits, toBits, ofFields}
-use lib.Ieee.Fits.{down-pos, odd-fits}
+use lib.Ieee.{Float, nan, inf, fin, Format, binary64, prec, low, hid, top, up, down, size, odd, units, fits, ofBits, toBits, ofFields}
+use lib.Ieee.Fits.{down-pos}
 use lib.Ieee.Exact.{HasValue, odd-sign, units-val}
 use lib.Ieee.Bits.{ofBits-toBits, toBits-lt}
 use Rattle.floats.specs.Fields.{significand, magnitude, infinity-bits}
 use Rattle.rounding.proofs.Digits.{size-of}
+use Rattle.rounding.proofs.Value.{units-fits}
 
 -- ---- the pattern of q * 2 ^ k units, q having all the digits that the format keeps
 module _ (f : Format) (p : ℕ) (is : prec f ≡ suc p) (q k : ℕ) (lo : 2 ^ p ≤ q) (hi : q < 2 ^ suc p) where
@@ -39,16 +40,6 @@ module _ (f : Format) (p : ℕ) (is : prec f ≡ suc p) (q k : ℕ) (lo : 2 ^ p 
   pattern (inf s) v = absurd v
   pattern (fin true m e) v = absurd (true≢false (v .0))
   pattern (fin false m e) v = pattern-at (m * up e * 2 ^ low f / down e) (ap (λ (x : ℕ). x / down e) (v .1) ∙ mul-div-cancel (q * 2 ^ k) (down-pos e))
-
--- ---- `units` fits
-pub units-fits : (f : Format) (q k : ℕ) → q ≤ 2 ^ prec f → q * 2 ^ k < 2 ^ (low f + suc (emax f)) → T (fits f (units f false q k))
-unfolding units
-units-fits f q k a b =
-    subst (λ (t : Bool). T (fits f (cond t (odd (suc (prec f)) false q k (low f)) (inf false)))) (sym (lt-ltb (q * 2 ^ k) (2 ^ (low f + suc (emax f))) b))
-    (odd-fits f (suc (prec f)) false q k (lt-of-le-of-lt a (lt-pow (prec f))) a b)
-  where
-    lt-pow : (p : ℕ) → 2 ^ p < 2 ^ suc p
-    lt-pow p = let e = pow-suc 2 p in let z = pow-pos p in omega arith
 
 -- the value of a pattern of k * 2 ^ 52 + q, q up to 2 ^ 53
 pub of-pattern : (q k : ℕ) → 2 ^ 52 ≤ q → q ≤ 2 ^ 53 → q * 2 ^ k < 2 ^ 2098 → ofBits binary64 (k * 2 ^ 52 + q) ≡ units binary64 false q k

@@ -2,3 +2,4 @@ mod Zero
 mod Truncate
 mod Bits
 mod RootSteps
+pub mod Values

@@ -3,7 +3,7 @@ use mathlib.Core.Path.{_≡_, refl, sym, ap, _∙_, subst}
 use mathlib.Core.Logic.{_⊎_, inl, inr}
 use mathlib.Core.Bool.{Bool, true, false, cond}
 use Prim.Native.Nat.{ℕ, suc, _+_, _-_, _*_, _/_, _%_, _^_, _≤_, _<_, compare, Ordering}
-use native.Mathlib.Nat.{le-trans, le-of-eq, le-of-lt, lt-of-lt-of-le, lt-of-not-le, not-le-of-lt, zero-lt-suc, mul-pos, mul-assoc, mul-comm, mul-right-comm, one-mul, mul-le-mul-right, le-of-mul-le-mul-right, eq-of-mul-eq-mul-right, le-div-iff-mul-le, div-lt-iff-lt-mul, div-mul-le-self, div-div-eq-div-mul, add-mul}
+use native.Mathlib.Nat.{le-trans, le-of-eq, le-of-lt, lt-of-lt-of-le, lt-of-not-le, zero-lt-suc, mul-pos, mul-assoc, mul-comm, one-mul, mul-le-mul-right, eq-of-mul-eq-mul-right, le-div-iff-mul-le, div-lt-iff-lt-mul, div-mul-le-self, div-div-eq-div-mul, add-mul}
 use native.Mathlib.Decide.{decLe}
 use native.Mathlib.Numerals.{add-one}
 use native.Mathlib.Omega.{arith}
@@ -15,7 +15,7 @@ use lib.Ieee.Digits.{size-reaches}
 use lib.Ieee.Exact.{HasValue, odd-sign}
 use lib.Ieee.Fits.{kept-lt}
 use Rattle.arithmetic.specs.Width.{Width, digits, least, past, of-units}
-use Rattle.rounding.specs.Rounding.{Short, Size, Counts, distance, off, IsRounded, round-at}
+use Rattle.rounding.specs.Rounding.{Short, Size, Counts, distance, IsRounded, nearer, round-at}
 use Rattle.rounding.proofs.Digits.{same, nearest-cases}
 use Rattle.rounding.proofs.Neighbours.{next, multiples-short}
 
@@ -58,6 +58,13 @@ even-high q w v j z a b = ((q + 1) / 2, a ∙ ap (λ (x : ℕ). x * w) halves �
     between : w ≡ distance v j
     between = let g = gap q w in omega arith
 
+-- ---- q or q + 1, as a compares with b
+pick : (q a b n x : ℕ) → (a ≤ b → 2 * n ≤ x) → (b ≤ a → x ≤ 2 * n) → ((nearest q (compare a b) ≡ q) × (2 * n ≤ x)) ⊎ ((nearest q (compare a b) ≡ q + 1) × (x ≤ 2 * n))
+pick q a b n x f g = elim (nearest-cases q a b) [ inl d ↦ inl (d .0, f (d .1)) | inr d ↦ inr (d .0 ∙ sym (add-one q), g (d .1)) ]
+
+level : (q a b : ℕ) → a ≡ b → nearest q (compare a b) ≡ q + q % 2
+level q a b e = ap (λ (o : Ordering). nearest q o) (same a b e)
+
 -- ---- n / c units, to p digits
 module _ (p n c : ℕ) (P : 0 < p) (C : 0 < c) where
   abbrev k : ℕ
@@ -73,7 +80,7 @@ module _ (p n c : ℕ) (P : 0 < p) (C : 0 < c) where
   q = n / u
 
   abbrev Q : ℕ
-  Q = nearest q (compare (2 * n) ((2 * q + 1) * u))
+  Q = nearer n u q
 
   abbrev v : ℕ
   v = Q * w
@@ -120,10 +127,7 @@ module _ (p n c : ℕ) (P : 0 < p) (C : 0 < c) where
 
   -- which of the two, and that it is the nearer one
   picked : ((Q ≡ q) × (2 * n ≤ q * w * c + (q + 1) * w * c)) ⊎ ((Q ≡ q + 1) × (q * w * c + (q + 1) * w * c ≤ 2 * n))
-  picked = elim (nearest-cases q (2 * n) ((2 * q + 1) * u)) [
-    | inl d ↦ inl (d .0, le-trans (d .1) (le-of-eq middle))
-    | inr d ↦ inr (d .0 ∙ sym (add-one q), le-trans (le-of-eq (sym middle)) (d .1))
-  ]
+  picked = let e = middle in pick q (2 * n) ((2 * q + 1) * u) n (q * w * c + (q + 1) * w * c) (λ h. le-trans h (le-of-eq e)) (λ h. le-trans (le-of-eq (sym e)) h)
 
   kept-le : Q ≤ 2 ^ p
   kept-le = let f = few in elim picked [ inl d ↦ le-trans (le-of-eq (d .0)) (le-of-lt f) | inr d ↦ le-trans (le-of-eq (d .0 ∙ add-one q)) f ]
@@ -139,7 +143,7 @@ module _ (p n c : ℕ) (P : 0 < p) (C : 0 < c) where
 
   -- half way between the two
   at-tie : 2 * n ≡ q * w * c + (q + 1) * w * c → Q ≡ q + q % 2
-  at-tie e = ap (λ (o : Ordering). nearest q o) (same (2 * n) ((2 * q + 1) * u) (e ∙ sym middle))
+  at-tie e = level q (2 * n) ((2 * q + 1) * u) (e ∙ sym middle)
 
   even : (j : ℕ) → Short p j → (j ≡ v → ⊥) → distance (v * c) n ≡ distance (j * c) n → (half : ℕ) × (v ≡ 2 * half * distance v j)
   even j s d e = elim picked [

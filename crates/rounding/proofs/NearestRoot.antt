@@ -5,8 +5,8 @@
 use mathlib.Core.Path.{_≡_, refl, sym, ap, ap₂, _∙_, subst}
 use mathlib.Core.Logic.{_⊎_, inl, inr}
 use mathlib.Core.Bool.{Bool, true, false, not, cond}
-use Prim.Native.Nat.{ℕ, zero-le, suc, _+_, _-_, _*_, _/_, _^_, _≤_, _<_, compare}
-use native.Mathlib.Nat.{mul-le-mul-left, eq-of-mul-eq-mul-right, mul-lt-mul-of-pos-left, le-trans, le-of-eq, le-of-lt, lt-of-lt-of-le, lt-of-le-of-lt, lt-of-not-le, not-le-of-lt, eq-or-lt-of-le, one-mul, mul-pos, mul-one, mul-assoc, mul-comm, mul-left-comm, add-mul, mul-le-mul, mul-le-mul-right, mul-lt-mul-of-pos-right, le-div-iff-mul-le, div-lt-iff-lt-mul, lt-of-mul-lt-mul-right, suc-mul, zero-lt-suc, add-comm, pow-succ'}
+use Prim.Native.Nat.{ℕ, zero-le, zero, suc, _+_, _-_, _*_, _/_, _^_, _≤_, _<_, compare}
+use native.Mathlib.Nat.{mul-le-mul-left, eq-of-mul-eq-mul-right, mul-lt-mul-of-pos-left, le-trans, le-of-eq, le-of-lt, lt-of-lt-of-le, lt-of-le-of-lt, lt-of-not-le, not-le-of-lt, mul-pos, mul-one, mul-assoc, mul-comm, mul-left-comm, add-mul, mul-le-mul, mul-le-mul-right, mul-lt-mul-of-pos-right, le-div-iff-mul-le, div-lt-iff-lt-mul, suc-mul, zero-lt-suc, add-comm, pow-succ'}
 use native.Mathlib.Decide.{decLe}
 use native.Mathlib.Numerals.{add-one}
 use native.Mathlib.Omega.{arith}
@@ -14,11 +14,11 @@ use borrow.Author.Tests.{lt-leb}
 use lib.Arith.{lt-of-le-ne}
 use lib.Dec.{T, lit≤}
 use lib.IntN.{ℤ}
-use lib.Pow.{pow-pos, pow-add, pow-mono, pow-lt}
-use lib.Ieee.{Float, nan, inf, fin, Format, binary32, binary64, prec, emax, low, up, down, size, nearest, odd, fits, isNan}
+use lib.Pow.{pow-pos, pow-add, pow-mono}
+use lib.Ieee.{Float, nan, inf, fin, Format, binary32, binary64, up, down, size, nearest, odd, fits, isNan}
 use lib.Ieee.Digits.{size-lt, size-reaches}
-use lib.Ieee.Exact.{HasValue, odd-sign}
-use lib.Ieee.Fits.{down-pos, nearest-le}
+use lib.Ieee.Exact.{odd-sign}
+use lib.Ieee.Fits.{down-pos, nearest-le, nan-fits, inf-fits}
 use Rattle.arithmetic.specs.Width.{Width, width, digits, least, past, of-units}
 use Rattle.arithmetic.specs.Root.{root, nearest-root, sqrt-at, sqrt}
 use Rattle.rounding.proofs.Square.{square-more, square-twice, root-is, root-ge, root-lt}
@@ -27,8 +27,9 @@ use Rattle.rounding.specs.Rounding.{Short, Held, Counts}
 use Rattle.rounding.specs.Exact.{sign}
 use Rattle.rounding.specs.NearestRoot.{squared-units, NearerRoot, IsNearestRoot}
 use Rattle.rounding.proofs.Nearest.{counted}
+use Rattle.rounding.proofs.Rounded.{units-are}
 use Rattle.rounding.proofs.Neighbours.{next, multiples-short}
-use Rattle.rounding.proofs.Value.{held-units, fits-says, fits-size}
+use Rattle.rounding.proofs.Value.{held-units, fits-says, fits-size, units-fits}
 
 -- the digits at the end of the root that no value of its size has, and the root without them
 abbrev pub dropped : ℕ → ℕ → ℕ → ℕ
@@ -313,17 +314,38 @@ pub sqrt-at-nearest : (W : Width) → 1 ≤ W .power → (m : ℕ) (e : ℤ) →
 unfolding sqrt-at
 sqrt-at-nearest W E m e h = let u = held-units W (suc m) e h in nearest-root-nearest W (suc m * up e) (down e) (u .units) E (down-pos e) (h .range) (u .short) (u .same)
 
+some-power : (F : Format) → 1 ≤ width F .power
+some-power binary32 = lit≤ tt
+some-power binary64 = lit≤ tt
+
 pub sqrt-nearest : (F : Format) (m : ℕ) (e : ℤ) → T (fits F (fin false (suc m) e)) → IsNearestRoot (width F) (suc m * up e) (down e) (sqrt F (fin false (suc m) e))
-sqrt-nearest F m e t = sqrt-at-nearest (width F) (some F) m e (fits-says F false m e t)
-  where
-    some : (F : Format) → 1 ≤ width F .power
-    some binary32 = lit≤ tt
-    some binary64 = lit≤ tt
+sqrt-nearest F m e t = sqrt-at-nearest (width F) (some-power F) m e (fits-says F false m e t)
 
 -- against every value that the format holds
 pub sqrt-nearer : (F : Format) (m : ℕ) (e : ℤ) (t : T (fits F (fin false (suc m) e))) (y : Float) → T (fits F y) → T (not (isNan y))
     → (j : ℕ) × Counts (width F) y (sign y) j × NearerRoot (width F) (suc m * up e) (down e) (sqrt-nearest F m e t .units) j
 sqrt-nearer F m e t y h k = let z = fits-size F y h k in (z .0, z .1, sqrt-nearest F m e t .nearer (z .0) (z .2))
+
+-- the format holds it
+sized-fits : (F : Format) (q k : ℕ) → q ≤ 2 ^ digits (width F) → q * 2 ^ k < past (width F) → T (fits F (of-units (width F) false q k))
+sized-fits binary32 q k a b = subst (λ (y : Float). T (fits binary32 y)) (sym (units-are binary32 false q k)) (units-fits binary32 q k a b)
+sized-fits binary64 q k a b = subst (λ (y : Float). T (fits binary64 y)) (sym (units-are binary64 false q k)) (units-fits binary64 q k a b)
+
+pub sqrt-fits : (F : Format) (x : Float) → T (fits F x) → T (fits F (sqrt F x))
+unfolding sqrt-at
+sqrt-fits F nan t = nan-fits F
+sqrt-fits F (inf true) t = nan-fits F
+sqrt-fits F (inf false) t = inf-fits F false
+sqrt-fits F (fin s zero e) t = t
+sqrt-fits F (fin true (suc m) e) t = nan-fits F
+sqrt-fits F (fin false (suc m) e) t =
+    let W = width F in
+    let p = digits W in
+    let P = zero-lt-suc (W .fraction) in
+    let n = squared-units W (suc m * up e) in
+    let k = dropped p n (down e) in
+    subst (λ (y : Float). T (fits F y)) (sym (nearest-root-is W (suc m * up e) (down e)))
+    (sized-fits F (kept n (down e) k) k (kept-le p n (down e) P (down-pos e)) (root-in-range W (suc m * up e) (down e) (down-pos e) (some-power F) (fits-says F false m e t .range)))
 
 -- "of -0 it is -0": a zero is its own root, and below zero there is none
 pub sqrt-zero : (W : Width) (s : Bool) (e : ℤ) → sqrt-at W (fin s 0 e) ≡ fin s 0 e

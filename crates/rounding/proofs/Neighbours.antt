@@ -8,16 +8,10 @@ use native.Mathlib.Omega.{arith}
 use lib.Pow.{pow-add, pow-mono, pow-lt}
 use Rattle.rounding.specs.Rounding.{Short}
 
--- no such number lies between q and q + 1 multiples, where q has all of p digits
-pub next : (p q k : ℕ) → 0 < p → (k ≡ 0) ⊎ (2 ^ (p - 1) ≤ q) → (j : ℕ) → Short p j → q * 2 ^ k < j → (q + 1) * 2 ^ k ≤ j
-next p q k P full j s l = elim full [ inl z ↦ unit (2 ^ k) (ap (λ (x : ℕ). 2 ^ x) z) l | inr g ↦ multiple g ]
+-- above q multiples, where q has all of p digits, such a number is a whole number of multiples
+pub above-multiple : (p q k : ℕ) → 0 < p → (k ≡ 0) ⊎ (2 ^ (p - 1) ≤ q) → (j : ℕ) → Short p j → q * 2 ^ k < j → (t : ℕ) × (j ≡ t * 2 ^ k)
+above-multiple p q k P full j s l = elim full [ inl z ↦ (j, sym (ap (λ (x : ℕ). j * 2 ^ x) z ∙ mul-one j)) | inr g ↦ multiple g ]
   where
-    unit : (w : ℕ) → w ≡ 1 → q * w < j → (q + 1) * w ≤ j
-    unit w e l =
-        let a : q * w ≡ q = ap (λ (x : ℕ). q * x) e ∙ mul-one q in
-        let b : (q + 1) * w ≡ q + 1 = ap (λ (x : ℕ). (q + 1) * x) e ∙ mul-one (q + 1) in
-        omega arith
-
     coarse : (i : ℕ) → i ≡ s .zeros → 2 ^ (p - 1) ≤ q → k ≤ i
     coarse i z g = le-of-not-lt (λ (f : i < k). not-le-of-lt l
         (le-trans (le-of-eq (s .same ∙ ap (λ (x : ℕ). s .digits * 2 ^ x) (sym z))) (le-trans (mul-le-mul-right (2 ^ i) (le-of-lt (s .few))) (le-trans (le-of-eq (sym (pow-add 2 p i)))
@@ -26,15 +20,19 @@ next p q k P full j s l = elim full [ inl z ↦ unit (2 ^ k) (ap (λ (x : ℕ). 
         le-of-not-lt : (i < k → ⊥) → k ≤ i
         le-of-not-lt f = omega arith
 
-    multiple : 2 ^ (p - 1) ≤ q → (q + 1) * 2 ^ k ≤ j
+    multiple : 2 ^ (p - 1) ≤ q → (t : ℕ) × (j ≡ t * 2 ^ k)
     multiple g =
         let h = s .digits in
         let i = s .zeros in
         let e : i ≡ i - k + k = let x = coarse i refl g in omega arith in
-        let m : j ≡ h * 2 ^ (i - k) * 2 ^ k =
-        s .same ∙ ap (λ (x : ℕ). h * 2 ^ x) e ∙ ap (λ (x : ℕ). h * x) (pow-add 2 (i - k) k) ∙ sym (mul-assoc h (2 ^ (i - k)) (2 ^ k)) in
-        let a : q < h * 2 ^ (i - k) = lt-of-mul-lt-mul-right (2 ^ k) (lt-of-lt-of-le l (le-of-eq m)) in
-        le-trans (mul-le-mul-right (2 ^ k) (le-trans (le-of-eq (add-one q)) a)) (le-of-eq (sym m))
+        (h * 2 ^ (i - k), s .same ∙ ap (λ (x : ℕ). h * 2 ^ x) e ∙ ap (λ (x : ℕ). h * x) (pow-add 2 (i - k) k) ∙ sym (mul-assoc h (2 ^ (i - k)) (2 ^ k)))
+
+-- so none lies between q and q + 1 multiples
+pub next : (p q k : ℕ) → 0 < p → (k ≡ 0) ⊎ (2 ^ (p - 1) ≤ q) → (j : ℕ) → Short p j → q * 2 ^ k < j → (q + 1) * 2 ^ k ≤ j
+next p q k P full j s l =
+    let t = above-multiple p q k P full j s l in
+    let a : q < t .0 = lt-of-mul-lt-mul-right (2 ^ k) (lt-of-lt-of-le l (le-of-eq (t .1))) in
+    le-trans (mul-le-mul-right (2 ^ k) (le-trans (le-of-eq (add-one q)) a)) (le-of-eq (sym (t .1)))
 
 -- q multiples are such a number, for a q up to 2 ^ p
 pub multiples-short : (p q k : ℕ) → 0 < p → q ≤ 2 ^ p → Short p (q * 2 ^ k)

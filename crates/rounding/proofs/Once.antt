@@ -1,20 +1,22 @@
 -- "Each operation rounds once": Add, Subtract, Multiply and Divide of finite values are the exact result, rounded once. Nothing is fused: a product that is then
 -- added to is `add F (mul F x y) z`, two operations and two roundings.
 use mathlib.Core.Path.{_≡_, refl, sym, ap, ap₂, _∙_, subst}
-use mathlib.Core.Bool.{Bool, true, false, not, _&&_, Bool·beq, cond}
-use Prim.Native.Nat.{ℕ, zero, suc, _+_, _-_, _*_, _≤_, _<_}
-use native.Mathlib.Nat.{mul-pos, zero-mul, le-of-lt, lt-irrefl, lt-of-lt-of-le, le-of-eq}
+use mathlib.Core.Bool.{Bool, true, false, not, _&&_, cond}
+use Prim.Native.Nat.{ℕ, zero, suc, _+_, _-_, _*_, _^_, _≤_, _<_, zero-le}
+use native.Mathlib.Nat.{mul-pos, zero-mul, le-trans, le-of-lt, lt-of-not-le, lt-irrefl, lt-of-lt-of-le, le-of-eq}
+use native.Mathlib.Decide.{decLe}
 use native.Mathlib.Omega.{arith}
 use borrow.Author.Tests.{ltb-true, ltb-false}
 use lib.Dec.{T, ltb, eqb·suc-zero}
-use lib.IntN.{ℤ, pos, negℤ, natAbs, negℤ-negℤ, _+ℤ_, _-ℤ_, pos-+ℤ-pos, negℤ-+ℤ, +ℤ-comm, +ℤ-negℤ-cancel}
+use lib.IntN.{ℤ, pos, negsuc, negℤ, natAbs, negℤ-negℤ, _+ℤ_, _-ℤ_, pos-+ℤ-pos, negℤ-+ℤ, +ℤ-comm, +ℤ-negℤ-cancel}
+use lib.Pow.{pow-pos}
 use lib.Ieee.{Float, nan, inf, fin, Format, up, down, unlike, round, neg, sum, add, sub, mul, div}
 use lib.Ieee.Scale.{finite}
 use lib.Ieee.Fits.{down-pos}
 use lib.Ieee.Positive.{num, den, den-pos}
-use Rattle.arithmetic.specs.Width.{width}
-use Rattle.rounding.specs.Rounding.{IsRounded}
-use Rattle.rounding.specs.Exact.{sign, signed, sign-of, RoundsTo}
+use Rattle.arithmetic.specs.Width.{Width, width, digits, least}
+use Rattle.rounding.specs.Rounding.{Size, distance, off, IsRounded}
+use Rattle.rounding.specs.Exact.{sign, signed, sign-of, RoundsTo, off±}
 use Rattle.rounding.proofs.Rounded.{round-rounded}
 
 -- ---- a sign and a size, as a whole number
@@ -50,6 +52,46 @@ opposite a b h =
     ∙ ap (λ (x : ℤ). negℤ (pos b) +ℤ x) (sym (negℤ-negℤ (pos a)))
     ∙ sym (negℤ-+ℤ (pos b) (negℤ (pos a)))
     ∙ ap negℤ (difference b a h)
+
+-- ---- the distance of numbers with signs
+apart : (x y : ℕ) → natAbs (pos x +ℤ negℤ (pos y)) ≡ distance x y
+apart x y = go (decLe y x)
+  where
+    go : Dec (y ≤ x) → natAbs (pos x +ℤ negℤ (pos y)) ≡ distance x y
+    go (yes h) = ap natAbs (difference x y h) ∙ omega arith
+    go (no f) = let l = le-of-lt (lt-of-not-le f) in ap natAbs (opposite x y l) ∙ size-back true (y - x) ∙ omega arith
+
+turned : (z : ℤ) → natAbs (negℤ z) ≡ natAbs z
+turned (pos zero) = refl
+turned (pos (suc n)) = refl
+turned (negsuc n) = refl
+
+pub apart-like : (s : Bool) (x y : ℕ) → natAbs (signed s x -ℤ signed s y) ≡ distance x y
+apart-like false x y = apart x y
+apart-like true x y = ap natAbs (sym (negℤ-+ℤ (pos x) (negℤ (pos y)))) ∙ turned (pos x +ℤ negℤ (pos y)) ∙ apart x y
+
+pub apart-unlike : (s : Bool) (x y : ℕ) → natAbs (signed (not s) x -ℤ signed s y) ≡ x + y
+apart-unlike false x y = ap natAbs (sym (negℤ-+ℤ (pos x) (pos y))) ∙ size-back true (x + y)
+apart-unlike true x y = ap (λ (z : ℤ). natAbs (pos x +ℤ z)) (negℤ-negℤ (pos y))
+
+-- no number of the width is nearer, whatever its sign
+pub no-nearer : (W : Width) (s : Bool) (a c : ℕ) (y : Float) (r : IsRounded W s a c y) (t : Bool) (j : ℕ) → Size W j → off± W s a c s (r .units) ≤ off± W s a c t j
+no-nearer W s a c y r t j z = le-trans (le-of-eq (apart-like s (r .units * c) n)) (go s t)
+  where
+    n : ℕ
+    n = a * 2 ^ least W
+
+    none : Size W 0
+    none = record { short = record { digits = 0; zeros = 0; few = pow-pos (digits W); same = refl }; within = zero-le }
+
+    far : (u : ℕ) → u ≤ distance (0 * c) (a * 2 ^ least W) → u ≤ j * c + a * 2 ^ least W
+    far u h = let e = zero-mul c in omega arith
+
+    go : (s t : Bool) → off W a c (r .units) ≤ natAbs (signed t (j * c) -ℤ signed s (a * 2 ^ least W))
+    go false false = le-trans (r .closest j z) (le-of-eq (sym (apart-like false (j * c) (a * 2 ^ least W))))
+    go true true = le-trans (r .closest j z) (le-of-eq (sym (apart-like true (j * c) (a * 2 ^ least W))))
+    go false true = le-trans (far (off W a c (r .units)) (r .closest 0 none)) (le-of-eq (sym (apart-unlike false (j * c) (a * 2 ^ least W))))
+    go true false = le-trans (far (off W a c (r .units)) (r .closest 0 none)) (le-of-eq (sym (apart-unlike true (j * c) (a * 2 ^ least W))))
 
 no-zero : (a b : ℕ) (s t : Bool) → a < b → b - a ≡ 0 → s ≡ t
 no-zero a b s t l e = absurd (lt-irrefl 0 (some a b l e))

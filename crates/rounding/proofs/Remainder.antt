@@ -3,15 +3,15 @@ use mathlib.Core.Path.{_≡_, refl, sym, ap, ap₂, _∙_, subst, subst₂}
 use mathlib.Core.Logic.{_⊎_, inl, inr}
 use mathlib.Core.Bool.{Bool, true, false, _&&_, cond, true≢false, false≢true}
 use Prim.Native.Nat.{ℕ, zero, suc, _+_, _-_, _*_, _/_, _%_, _^_, _≤_, _<_, zero-le}
-use native.Mathlib.Nat.{le-trans, le-of-eq, le-of-lt, lt-of-lt-of-le, lt-of-le-of-lt, lt-of-not-le, not-le-of-lt, lt-irrefl, zero-lt-suc, mul-pos, zero-mul, mul-comm, mul-assoc, mul-left-comm, mul-right-comm, mul-sub, mul-le-mul-right, le-of-mul-le-mul-right, mul-lt-mul-of-pos-right, lt-of-mul-lt-mul-right, add-mul, add-comm, div-add-mod', mod-lt, mod-le}
+use native.Mathlib.Nat.{le-trans, le-of-eq, le-of-lt, lt-of-lt-of-le, lt-of-le-of-lt, lt-of-not-le, lt-irrefl, zero-lt-suc, mul-pos, zero-mul, mul-comm, mul-assoc, mul-left-comm, mul-right-comm, mul-sub, mul-le-mul-right, le-of-mul-le-mul-right, mul-lt-mul-of-pos-right, lt-of-mul-lt-mul-right, add-mul, add-comm, div-add-mod', mod-lt, mod-le}
 use native.Mathlib.Decide.{decLe}
 use native.Mathlib.Omega.{arith}
-use borrow.Author.Tests.{ltb-true, ltb-false, lt-ltb}
+use borrow.Author.Tests.{ltb-true, ltb-false}
 use lib.Arith.{digits-mod}
 use lib.Dec.{T, leb, ltb, eqb·suc-zero, lt→ltb}
 use lib.IntN.{ℤ, pos, negℤ, natAbs, _+ℤ_, +ℤ-comm}
 use lib.Pow.{pow-pos, pow-add}
-use lib.Ieee.{Float, nan, inf, fin, Format, up, down, odd, round, add, rem, lt, le, fits}
+use lib.Ieee.{Float, nan, inf, fin, Format, up, down, odd, add, rem, lt, le, fits}
 use lib.Ieee.Fits.{up-pos, down-pos, rem-fits, add-fits, cond-fits}
 use lib.Ieee.Scale.{finite}
 use lib.Ieee.Exact.{HasValue}
@@ -19,13 +19,13 @@ use lib.Ieee.Positive.{num, den}
 use Rattle.arithmetic.specs.Width.{Width, width, digits, least, past, of-units}
 use Rattle.arithmetic.specs.Value.{0f}
 use Rattle.arithmetic.specs.Modulo.{wrapped, modulo}
-use Rattle.rounding.specs.Rounding.{Short, Size, Held, Counts, distance, IsRounded, round-at}
+use Rattle.rounding.specs.Rounding.{Short, Held, Counts, distance, IsRounded, round-at}
 use Rattle.rounding.specs.Exact.{sign, signed, sign-of}
 use Rattle.rounding.specs.Modulo.{IsModulo, rem-at, add-at, modulo-at}
 use Rattle.rounding.proofs.Nearest.{round-at-rounded}
 use Rattle.rounding.proofs.Rounded.{rounded-number, rescaled, round-is-at}
-use Rattle.rounding.proofs.Value.{Placed, placed, held-units, from-units, exact-at, holds, zero-exponent}
-use Rattle.rounding.proofs.Once.{sign-back, size-back, difference, add-is}
+use Rattle.rounding.proofs.Value.{Placed, placed, held-units, from-units, exact-at, holds}
+use Rattle.rounding.proofs.Once.{sign-back, difference, add-is}
 use Rattle.rounding.proofs.Order.{le-shows, le-of-values±, zero-left}
 
 -- ---- remainders of multiples

@@ -4,13 +4,13 @@ use mathlib.Core.Path.{_≡_, refl, sym, ap, ap₂, _∙_, subst}
 use mathlib.Core.Logic.{_⊎_, inl, inr, _↔_}
 use mathlib.Core.Bool.{Bool, cond}
 use Prim.Native.Nat.{ℕ, suc, _+_, _-_, _*_, _/_, _%_, _^_, _≤_, _<_, compare, Ordering}
-use native.Mathlib.Nat.{le-trans, le-of-eq, le-of-lt, le-antisymm, lt-of-lt-of-le, lt-of-le-of-lt, lt-of-not-le, not-le-of-lt, zero-lt-suc, lt-irrefl, mul-assoc, mul-comm, mul-right-comm, mul-sub, mul-le-mul-right, le-of-mul-le-mul-right, mul-lt-mul-of-pos-right, eq-of-mul-eq-mul-right, add-mul, one-mul, div-add-mod', pow-succ', eq-or-lt-of-le}
+use native.Mathlib.Nat.{le-trans, le-of-eq, le-antisymm, lt-of-lt-of-le, lt-of-not-le, not-le-of-lt, zero-lt-suc, lt-irrefl, mul-assoc, mul-comm, mul-right-comm, mul-sub, mul-le-mul-right, le-of-mul-le-mul-right, mul-lt-mul-of-pos-right, eq-of-mul-eq-mul-right, add-mul, one-mul, div-add-mod', pow-succ', eq-or-lt-of-le}
 use native.Mathlib.Decide.{decLe, ℕ-discrete}
 use native.Mathlib.Omega.{arith}
 use borrow.Author.Tests.{le-leb, lt-leb, le-ltb, lt-ltb}
-use lib.Dec.{leb, ltb, lit≤}
+use lib.Dec.{leb, ltb}
 use lib.Pow.{pow-pos, pow-add}
-use lib.Ieee.{Float, nan, inf, fin, Format, binary32, binary64, prec, low, size, nearest, odd, units, round}
+use lib.Ieee.{Float, nan, inf, fin, Format, binary32, binary64, size, nearest, odd, units, round}
 use lib.Ieee.Fits.{core, round-is}
 use Rattle.arithmetic.specs.Width.{Width, width, digits, least, past, of-units}
 use Rattle.rounding.specs.Rounding.{Short, Size, largest, Counts, distance, off, IsRounded, round-at}

@@ -1,21 +1,23 @@
 -- What a format holds: values as fractions, whole numbers among them, and the sign.
-use mathlib.Core.Path.{_≡_, refl, sym, ap, _∙_, subst}
-use mathlib.Core.Bool.{Bool, not, _&&_}
-use Prim.Native.Nat.{ℕ, zero, suc, _+_, _-_, _*_, _%_, _^_, _≤_, _<_}
-use native.Mathlib.Nat.{lt-of-not-le, not-le-of-lt, le-of-eq, le-of-lt, lt-of-lt-of-le, lt-of-le-of-lt, lt-irrefl, zero-lt-suc, mul-one, one-mul, zero-mul, mul-assoc, mul-right-comm, mul-lt-mul-of-pos-right, lt-of-mul-lt-mul-right, eq-of-mul-eq-mul-right, add-comm}
+use mathlib.Core.Path.{_≡_, refl, sym, ap, ap₂, _∙_, subst}
+use mathlib.Core.Bool.{Bool, false, not, _&&_, cond}
+use Prim.Native.Nat.{ℕ, zero, suc, _+_, _-_, _*_, _/_, _%_, _^_, _≤_, _<_}
+use native.Mathlib.Nat.{lt-of-not-le, not-le-of-lt, le-of-eq, le-of-lt, lt-of-lt-of-le, lt-of-le-of-lt, lt-irrefl, zero-lt-suc, mul-one, one-mul, zero-mul, mul-assoc, mul-right-comm, mul-lt-mul-of-pos-right, lt-of-mul-lt-mul-right, eq-of-mul-eq-mul-right, mul-div-cancel, add-comm, pow-suc}
 use native.Mathlib.Omega.{arith}
+use borrow.Author.Tests.{lt-ltb}
 use lib.Dec.{T, ltb, leb, eqb, ltb→lt, leb→le}
 use lib.IntN.{ℤ, pos, negsuc}
 use lib.Pow.{pow-pos, pow-add, pow-lt}
-use lib.Ieee.{Float, nan, inf, fin, Format, binary32, binary64, prec, emax, low, up, down, round, fits, isNan}
-use lib.Ieee.Fits.{and-l, and-r, round-fits}
+use lib.Ieee.{Float, nan, inf, fin, Format, binary32, binary64, prec, emax, low, hid, top, up, down, size, odd, units, round, fits, isNan, ofBits, toBits}
+use lib.Ieee.Fits.{and-l, and-r, down-pos, odd-fits, round-fits}
+use lib.Ieee.Bits.{ofBits-toBits}
 use lib.Ieee.Exact.{HasValue}
 use lib.Ieee.Back.{whole-unique}
 use Rattle.arithmetic.specs.Width.{Width, width, digits, least, past}
-use Rattle.rounding.specs.Rounding.{Short, Size, Held, Counts, round-at}
+use Rattle.rounding.specs.Rounding.{Short, Size, Held, Counts, IsRounded, round-at}
 use Rattle.rounding.specs.Exact.{sign}
 use Rattle.rounding.proofs.Nearest.{past-short, round-at-rounded}
-use Rattle.rounding.proofs.Rounded.{rounded-number, round-is-at, round-rounded}
+use Rattle.rounding.proofs.Rounded.{rounded-once, rounded-number, round-is-at, round-rounded}
 
 -- ---- a value in units of the format's smallest: m * 2 ^ exponent
 pub record Placed (l : ℕ) (e : ℤ) : Type 0 where
@@ -80,8 +82,7 @@ fits-parts F s m e t =
     let p = eqb (suc m % 2) 1 in
     let q = ltb (suc m) (2 ^ prec F) in
     let r = leb (down e) (2 ^ low F) in
-    let w = ltb (suc m * up e) (2 ^ suc (emax F) * down e) in
-    (
+    let w = ltb (suc m * up e) (2 ^ suc (emax F) * down e) in (
       ltb→lt (suc m) (2 ^ prec F) (and-r p q (and-l (p && q) r (and-l (p && q && r) w t))),
       leb→le (down e) (2 ^ low F) (and-r (p && q) r (and-l (p && q && r) w t)),
       ltb→lt (suc m * up e) (2 ^ suc (emax F) * down e) (and-r (p && q && r) w t),
@@ -126,6 +127,45 @@ size-fits F s j z =
     let x = round F s j c in
     let r = round-rounded F s j c (pow-pos (least (width F))) in
     (x, round-fits F s j c, subst (λ (k : ℕ). Counts (width F) x s k) (rounded-number (width F) s j c j x r (pow-pos (least (width F))) z refl) (r .counts))
+
+-- ---- `units` fits
+pub units-fits : (f : Format) (q k : ℕ) → q ≤ 2 ^ prec f → q * 2 ^ k < 2 ^ (low f + suc (emax f)) → T (fits f (units f false q k))
+unfolding units
+units-fits f q k a b =
+    subst (λ (t : Bool). T (fits f (cond t (odd (suc (prec f)) false q k (low f)) (inf false)))) (sym (lt-ltb (q * 2 ^ k) (2 ^ (low f + suc (emax f))) b))
+    (odd-fits f (suc (prec f)) false q k (lt-of-le-of-lt a (lt-pow (prec f))) a b)
+  where
+    lt-pow : (p : ℕ) → 2 ^ p < 2 ^ suc p
+    lt-pow p = let e = pow-suc 2 p in let z = pow-pos p in omega arith
+
+-- ---- a sign and a size make one value
+-- its bits, by sign and units
+abbrev bits-at : Format → Bool → ℕ → ℕ
+bits-at F s j = cond s (top F) 0 + (size j - prec F) * hid F + j / 2 ^ (size j - prec F)
+
+bits-count : (F : Format) (t s : Bool) (m : ℕ) (e : ℤ) (j : ℕ) → Counts (width F) (fin t m e) s j → toBits F (fin t m e) ≡ bits-at F s j
+unfolding toBits
+bits-count F t s m e j h = ap₂ (λ (u : Bool) (n : ℕ). bits-at F u n) (h .0) (ap (λ (z : ℕ). z / down e) (ap (λ (l : ℕ). m * up e * 2 ^ l) (sym (least-is F)) ∙ h .1) ∙ mul-div-cancel j (down-pos e))
+  where
+    least-is : (F : Format) → least (width F) ≡ low F
+    least-is binary32 = refl
+    least-is binary64 = refl
+
+pub one-value : (F : Format) (x y : Float) (s : Bool) (j : ℕ) → T (fits F x) → T (fits F y) → Counts (width F) x s j → Counts (width F) y s j → x ≡ y
+one-value F nan y s j t u h k = absurd h
+one-value F (inf a) nan s j t u h k = absurd k
+one-value F (inf a) (inf b) s j t u h k = ap inf (h .0 ∙ sym (k .0))
+one-value F (inf a) (fin b n d) s j t u h k = absurd (lt-irrefl j (lt-of-lt-of-le (k .2) (le-of-eq (sym (h .1)))))
+one-value F (fin a m e) nan s j t u h k = absurd k
+one-value F (fin a m e) (inf b) s j t u h k = absurd (lt-irrefl j (lt-of-lt-of-le (h .2) (le-of-eq (sym (k .1)))))
+one-value F (fin a m e) (fin b n d) s j t u h k =
+    sym (ofBits-toBits F (fin a m e) t) ∙ ap (ofBits F) (bits-count F a s m e j h ∙ sym (bits-count F b s n d j k)) ∙ ofBits-toBits F (fin b n d) u
+
+-- so what a fraction rounds to is one value
+pub rounded-is : (F : Format) (s : Bool) (a c : ℕ) (y : Float) → 0 < c → T (fits F y) → IsRounded (width F) s a c y → y ≡ round F s a c
+rounded-is F s a c y C t r =
+    let q = round-rounded F s a c C in
+    one-value F y (round F s a c) s (q .units) t (round-fits F s a c) (subst (λ (j : ℕ). Counts (width F) y s j) (rounded-once (width F) s s a c y (round F s a c) r q) (r .counts)) (q .counts)
 
 -- ---- whole numbers
 -- a whole value is what `round` gives at its number

@@ -2,20 +2,20 @@
 use mathlib.Core.Path.{_≡_, refl, sym, ap, _∙_, subst}
 use mathlib.Core.Bool.{Bool, true, false, not, cond, true≢false}
 use Prim.Native.Nat.{ℕ, suc, _+_, _*_, _/_, _%_, _^_, _≤_, _<_}
-use native.Mathlib.Nat.{le-trans, le-of-eq, le-of-lt, lt-of-lt-of-le, lt-of-le-of-lt, zero-lt-suc, zero-mul, mul-one, mul-le-mul-right, mul-le-mul-left, le-of-mul-le-mul-right, lt-of-mul-lt-mul-right, div-mul-le-self, div-one, mod-one, le-div-iff-mul-le, div-add-mod', suc-mul, mod-lt, mul-mod-left, pow-succ'}
+use native.Mathlib.Nat.{le-trans, le-of-eq, le-of-lt, lt-of-lt-of-le, lt-of-le-of-lt, zero-lt-suc, zero-mul, mul-one, mul-le-mul-right, le-of-mul-le-mul-right, lt-of-mul-lt-mul-right, div-mul-le-self, div-one, mod-one, le-div-iff-mul-le, div-add-mod', suc-mul, mod-lt, mul-mod-left}
 use native.Mathlib.Omega.{arith}
 use borrow.Author.Tests.{eqb-true, eqb-false, eq-eqb, ne-eqb}
 use lib.Dec.{T, eqb, lit≤}
 use lib.Arith.{le-zero}
 use lib.Pow.{pow-pos, pow-add, pow-mono, pow-lt}
 use lib.IntN.{ℤ, pos, negsuc}
-use lib.Ieee.{Float, nan, inf, fin, Format, binary32, binary64, up, down, eq, le, neg, fits, round}
-use lib.Ieee.Fits.{up-pos, down-pos, nan-fits, inf-fits, round-fits}
+use lib.Ieee.{Float, nan, inf, fin, Format, binary32, binary64, up, down, eq, le, neg, fits}
+use lib.Ieee.Fits.{down-pos, nan-fits, inf-fits, round-fits}
 use lib.Ieee.Exact.{HasValue}
-use Rattle.arithmetic.specs.Width.{Width, width, digits, least, past}
+use Rattle.arithmetic.specs.Width.{Width, width, digits, least}
 use Rattle.arithmetic.specs.Value.{finite, whole}
 use Rattle.arithmetic.specs.Round.{floor-div, ceil-div, floor-by, ceil-by, floor, ceil}
-use Rattle.rounding.specs.Rounding.{Short, Size, Held, Counts, round-at}
+use Rattle.rounding.specs.Rounding.{Held, Counts, round-at}
 use Rattle.rounding.specs.Exact.{sign}
 use Rattle.rounding.specs.Whole.{IsFloor, IsCeil, floor-at, ceil-at}
 use Rattle.rounding.proofs.Neighbours.{multiples-short}

@@ -1,6 +1,5 @@
--- What rounding to a width means. IEEE 754, roundTiesToEven: "the floating-point number nearest to the infinitely precise result shall be delivered; if the
--- two nearest floating-point numbers bracketing an unrepresentable infinitely precise result are equally near, the one with an even least significant digit
--- shall be delivered". An infinity counts as 2 ^ (power + 1), and so it is delivered exactly from half way between the largest number and that on.
+-- What rounding to a width means, by IEEE 754's roundTiesToEven: the number that is nearest to the exact result, and of two that are equally near the one with an
+-- even last digit. An infinity counts as 2 ^ (power + 1), so it is the result exactly from half way between the largest number and that on.
 -- Sizes are whole numbers of units (the least positive value). A fraction a / c is a * 2 ^ least W / c units; what is compared is times c, so whole too.
 use mathlib.Core.Path.{_≡_}
 use mathlib.Core.Bool.{Bool}
@@ -45,8 +44,8 @@ distance a b = (a - b) + (b - a)
 abbrev pub off : Width → ℕ → ℕ → ℕ → ℕ
 off W a c j = distance (j * c) (a * 2 ^ least W)
 
--- y is ±a / c, rounded once: it has the sign, a zero too, no number is nearer, and of two that are equally near it is the even one. (Two that are equally near
--- are neighbours; the even one is an even number of times the gap between them.)
+-- y is ±a / c, rounded once: it has the sign, a zero too, no number is nearer, and of two that are equally near it is the even one. Two that are equally near
+-- are neighbours, and the even one is an even number of times the gap between them; that its last digit is 0 is `last-digit` in `Widths`.
 pub record IsRounded (W : Width) (s : Bool) (a c : ℕ) (y : Float) : Type 0 where
   pub units : ℕ
   pub counts : Counts W y s units
@@ -54,13 +53,15 @@ pub record IsRounded (W : Width) (s : Bool) (a c : ℕ) (y : Float) : Type 0 whe
   pub closest : (j : ℕ) → Size W j → off W a c units ≤ off W a c j
   pub even : (j : ℕ) → Size W j → (j ≡ units → ⊥) → off W a c units ≡ off W a c j → (half : ℕ) × (units ≡ 2 * half * distance units j)
 
--- One that is: numbers near a / c are multiples of 2 ^ k units, and it lies from q to q + 1 such multiples. It becomes the nearer one, as twice it compares with
--- 2 q + 1 of them; half way between the two, the even one.
+-- of q and q + 1 times u the nearer to n, as 2 n compares with 2 q + 1 times u; half way between the two, the even one
+abbrev pub nearer : ℕ → ℕ → ℕ → ℕ
+nearer n u q = nearest q (compare (2 * n) ((2 * q + 1) * u))
+
+-- One that is: there are n / c units. Numbers near that are multiples of 2 ^ k units, and it lies from q to q + 1 such multiples; the nearer one is kept.
 unfoldable pub round-at : Width → Bool → ℕ → ℕ → Float
 unfolding size of-units
 round-at W s a c =
     let n = a * 2 ^ least W in
     let k = size (n / c) - digits W in
     let u = c * 2 ^ k in
-    let q = n / u in
-    of-units W s (nearest q (compare (2 * n) ((2 * q + 1) * u))) k
+    of-units W s (nearer n u (n / u)) k
