@@ -13,14 +13,14 @@ use Rattle.arithmetic.specs.Value.{finite, 0f}
 use Rattle.arithmetic.specs.Root.{sqrt, sqrt-at}
 use Rattle.arithmetic.specs.Modulo.{modulo}
 use Rattle.rounding.specs.NearestRoot.{IsNearestRoot}
-use Rattle.rounding.specs.Modulo.{IsModulo}
-use Rattle.rounding.specs.Formats.{Conforms}
-use Rattle.rounding.proofs.Rounded.{round-rounded}
+use Rattle.rounding.specs.Modulo.{IsModulo, modulo-at}
+use Rattle.rounding.specs.Formats.{AtWidth, Conforms}
+use Rattle.rounding.proofs.Rounded.{round-is-at, round-rounded}
 use Rattle.rounding.proofs.Value.{fits-size, size-fits, one-value, rounded-is}
 use Rattle.rounding.proofs.Once.{add-rounds, sub-rounds, mul-rounds, div-rounds}
-use Rattle.rounding.proofs.Whole.{floor-is, ceil-is, floor-fits, ceil-fits}
+use Rattle.rounding.proofs.Whole.{floor-is-at, ceil-is-at, floor-is, ceil-is, floor-fits, ceil-fits}
 use Rattle.rounding.proofs.NearestRoot.{sqrt-nearest, sqrt-zero, sqrt-fits}
-use Rattle.rounding.proofs.Remainder.{modulo-is, modulo-infinite, modulo-fits}
+use Rattle.rounding.proofs.Remainder.{modulo-is-at, modulo-is, modulo-infinite, modulo-fits}
 
 root-of : (F : Format) (x : Float) → T (fits F x) → T (positive x) → IsNearestRoot (width F) (num x) (den x) (sqrt F x)
 root-of F nan t h = absurd h
@@ -52,6 +52,18 @@ modulo-of F (fin s m e) (inf r) t u h k = absurd k
 modulo-of F (fin s m e) (fin true n d) t u h k = absurd k
 modulo-of F (fin s m e) (fin false zero d) t u h k = absurd k
 modulo-of F (fin s m e) (fin false (suc n) d) t u h k = modulo-is F s m e n d t u
+
+modulo-at-of : (F : Format) (a b : Float) → T (fits F a) → T (fits F b) → T (finite a) → T (positive b) → modulo F a b ≡ modulo-at (width F) a b
+modulo-at-of F nan b t u h k = absurd h
+modulo-at-of F (inf s) b t u h k = absurd h
+modulo-at-of F (fin s m e) nan t u h k = absurd k
+modulo-at-of F (fin s m e) (inf r) t u h k = absurd k
+modulo-at-of F (fin s m e) (fin true n d) t u h k = absurd k
+modulo-at-of F (fin s m e) (fin false zero d) t u h k = absurd k
+modulo-at-of F (fin s m e) (fin false (suc n) d) t u h k = modulo-is-at F s m e n d t u
+
+pub at-width : (F : Format) → AtWidth F
+at-width F = record { rounds = round-is-at F; floors = floor-is-at F; ceils = ceil-is-at F; roots = λ x. refl; modulos = modulo-at-of F }
 
 below-infinity : (F : Format) (a : Float) → T (finite a) → lt a 0f ≡ true → modulo F a (inf false) ≡ 0f
 below-infinity F nan h k = absurd h

@@ -15,7 +15,7 @@ use lib.Ieee.Digits.{size-reaches}
 use lib.Ieee.Exact.{HasValue, odd-sign}
 use lib.Ieee.Fits.{kept-lt}
 use Rattle.arithmetic.specs.Width.{Width, digits, least, past, of-units}
-use Rattle.rounding.specs.Rounding.{Short, Size, Counts, distance, IsRounded, nearer, round-at}
+use Rattle.rounding.specs.Rounding.{Short, Size, Counts, distance, IsRounded, twice, half-way, nearer, round-at}
 use Rattle.rounding.proofs.Digits.{same, nearest-cases}
 use Rattle.rounding.proofs.Neighbours.{next, multiples-short}
 
@@ -127,7 +127,7 @@ module _ (p n c : ℕ) (P : 0 < p) (C : 0 < c) where
 
   -- which of the two, and that it is the nearer one
   picked : ((Q ≡ q) × (2 * n ≤ q * w * c + (q + 1) * w * c)) ⊎ ((Q ≡ q + 1) × (q * w * c + (q + 1) * w * c ≤ 2 * n))
-  picked = let e = middle in pick q (2 * n) ((2 * q + 1) * u) n (q * w * c + (q + 1) * w * c) (λ h. le-trans h (le-of-eq e)) (λ h. le-trans (le-of-eq (sym e)) h)
+  picked = let e = middle in pick q (twice n) (half-way u q) n (q * w * c + (q + 1) * w * c) (λ (h : twice n ≤ half-way u q). omega arith) (λ (h : half-way u q ≤ twice n). omega arith)
 
   kept-le : Q ≤ 2 ^ p
   kept-le = let f = few in elim picked [ inl d ↦ le-trans (le-of-eq (d .0)) (le-of-lt f) | inr d ↦ le-trans (le-of-eq (d .0 ∙ add-one q)) f ]
@@ -143,7 +143,7 @@ module _ (p n c : ℕ) (P : 0 < p) (C : 0 < c) where
 
   -- half way between the two
   at-tie : 2 * n ≡ q * w * c + (q + 1) * w * c → Q ≡ q + q % 2
-  at-tie e = level q (2 * n) ((2 * q + 1) * u) (e ∙ sym middle)
+  at-tie e = let m = middle in level q (twice n) (half-way u q) (omega arith)
 
   even : (j : ℕ) → Short p j → (j ≡ v → ⊥) → distance (v * c) n ≡ distance (j * c) n → (half : ℕ) × (v ≡ 2 * half * distance v j)
   even j s d e = elim picked [

@@ -1,7 +1,9 @@
 -- Every width is sound.
 use Prim.Native.Nat.{_≤_, _<_}
 use native.Mathlib.Omega.{arith}
-use Rattle.arithmetic.specs.Width.{Width}
+use lib.Dec.{lit≤, lit<}
+use lib.Ieee.{binary32, binary64}
+use Rattle.arithmetic.specs.Width.{Width, width}
 use Rattle.rounding.specs.Widths.{Sound}
 use Rattle.rounding.proofs.Nearest.{round-at-rounded}
 use Rattle.rounding.proofs.LastDigit.{last-digit}
@@ -27,3 +29,9 @@ sound W some wide =
       roots = sqrt-at-nearest W above;
       modulos = modulo-at-is W;
     }
+
+pub f64-sound : Sound (width binary64)
+f64-sound = sound (width binary64) (lit≤ tt) (lit< tt)
+
+pub f32-sound : Sound (width binary32)
+f32-sound = sound (width binary32) (lit≤ tt) (lit< tt)

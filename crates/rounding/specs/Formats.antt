@@ -9,13 +9,21 @@ use lib.Ieee.Positive.{num, den, positive}
 use Rattle.arithmetic.specs.Width.{width}
 use Rattle.arithmetic.specs.Value.{finite, 0f}
 use Rattle.arithmetic.specs.Round.{floor, ceil}
-use Rattle.arithmetic.specs.Root.{sqrt}
+use Rattle.arithmetic.specs.Root.{sqrt-at, sqrt}
 use Rattle.arithmetic.specs.Modulo.{modulo}
-use Rattle.rounding.specs.Rounding.{Size, Counts, IsRounded}
+use Rattle.rounding.specs.Rounding.{Size, Counts, IsRounded, round-at}
 use Rattle.rounding.specs.Exact.{sign, signed, RoundsTo}
-use Rattle.rounding.specs.Whole.{IsFloor, IsCeil}
+use Rattle.rounding.specs.Whole.{IsFloor, IsCeil, floor-at, ceil-at}
 use Rattle.rounding.specs.NearestRoot.{IsNearestRoot}
-use Rattle.rounding.specs.Modulo.{IsModulo}
+use Rattle.rounding.specs.Modulo.{IsModulo, modulo-at}
+
+-- the operations of the format are those of its width; Sqrt is by definition
+pub record AtWidth (F : Format) : Type 0 where
+  pub rounds : (s : Bool) (a c : ℕ) → round F s a c ≡ round-at (width F) s a c
+  pub floors : (x : Float) → floor F x ≡ floor-at (width F) x
+  pub ceils : (x : Float) → ceil F x ≡ ceil-at (width F) x
+  pub roots : (x : Float) → sqrt F x ≡ sqrt-at (width F) x
+  pub modulos : (a b : Float) → T (fits F a) → T (fits F b) → T (finite a) → T (positive b) → modulo F a b ≡ modulo-at (width F) a b
 
 pub record Conforms (F : Format) : Type 0 where
   -- what the format holds, but for a NaN, has a sign and a size of the width; every sign and size is held, and as one value only

@@ -53,9 +53,16 @@ pub record IsRounded (W : Width) (s : Bool) (a c : ℕ) (y : Float) : Type 0 whe
   pub closest : (j : ℕ) → Size W j → off W a c units ≤ off W a c j
   pub even : (j : ℕ) → Size W j → (j ≡ units → ⊥) → off W a c units ≡ off W a c j → (half : ℕ) × (units ≡ 2 * half * distance units j)
 
--- of q and q + 1 times u the nearer to n, as 2 n compares with 2 q + 1 times u; half way between the two, the even one
+-- twice n, and twice what is half way between q and q + 1 times u
+abbrev pub twice : ℕ → ℕ
+twice n = 2 * n
+
+abbrev pub half-way : ℕ → ℕ → ℕ
+half-way u q = (2 * q + 1) * u
+
+-- of q and q + 1 times u the nearer to n; half way between the two, the even one
 abbrev pub nearer : ℕ → ℕ → ℕ → ℕ
-nearer n u q = nearest q (compare (2 * n) ((2 * q + 1) * u))
+nearer n u q = nearest q (compare (twice n) (half-way u q))
 
 -- One that is: there are n / c units. Numbers near that are multiples of 2 ^ k units, and it lies from q to q + 1 such multiples; the nearer one is kept.
 unfoldable pub round-at : Width → Bool → ℕ → ℕ → Float
