@@ -36,11 +36,11 @@ enum-told c = search needs
 
 slice-read-t15 : tie.Need-slice-read-t15
 slice-read-t15 c =
-    let args2 = c .before .before .before .before .before .before .before .before .before .before .before .before .before .before .args in
-    let pre2 = c .before .before .before .before .before .before .before .before .before .before .before .before .before .before .pre in
-    let write2 = c .before .before .before .before .before .before .before .write in
-    let args = args2 in let pre = pre2 in let write = write2 in kind-inside (args .formula .now) (args .kinds .now) (pre .2 .0) (pre .2 .1)
-    (pre .2 .2) (write .last .1 .0) (args .own .now) (write .kept .1 .0) (pre .0)
+    let args = c .before .before .before .before .before .before .before .before .before .before .before .before .before .before .args in
+    let pre = c .before .before .before .before .before .before .before .before .before .before .before .before .before .before .pre in
+    let write = c .before .before .before .before .before .before .before .write in
+    kind-inside (args .formula .now) (args .kinds .now) (pre .2 .0) (pre .2 .1) (pre .2 .2) (write .last .1 .0) (args .own .now) (write .kept .1 .0)
+    (pre .0)
 
 enum-known-a : tie.Need-enum-known-a
 enum-known-a c = search needs

@@ -30,40 +30,46 @@ enum-known-reading-2 c = search needs
 
 within-requires : tie.Need-within-requires
 within-requires c κs =
-    let args2 = c .before .before .before .before .before .before .before .before .before .before .args in
-    let args = args2 in let prepare = c .before .before .before .before .prepare in let n = c .before .before .reading2 .given .0 .0 in let S =
-    source-of (args .formula .now) (args .names .now) (length (args .path .now)) (length (args .program .now)) (prepare .result) (prepare .ensures) n
-    (c .before .before .reading2 .given .1) in omega (arith, S .places)
+    let args = c .before .before .before .before .before .before .before .before .before .before .args in
+    let prepare = c .before .before .before .before .prepare in
+    let n = c .before .before .reading2 .given .0 .0 in
+    let S = source-of (args .formula .now) (args .names .now) (length (args .path .now)) (length (args .program .now)) (prepare .result)
+    (prepare .ensures) n (c .before .before .reading2 .given .1) in
+    omega (arith, S .places)
 
 array-share-prefix-kinds : tie.Need-array-share-prefix-kinds
 array-share-prefix-kinds c =
-    let args2 = c .before .before .before .before .before .before .before .before .before .before .before .before .before .before .before .args in
-    let prepare2 = c .before .before .before .before .before .before .before .before .before .prepare in
+    let args = c .before .before .before .before .before .before .before .before .before .before .before .before .before .before .before .args in
+    let prepare = c .before .before .before .before .before .before .before .before .before .prepare in
     let reading2 = c .before .before .before .before .before .before .before .reading2 in
-    let args = args2 in let prepare = prepare2 in let n = reading2 .given .0 .0 in let S = source-of (args .formula .now) (args .names .now)
-    (length (args .path .now)) (length (args .program .now)) (prepare .result) (prepare .ensures) n (reading2 .given .1) in within-table n
-    (prepare .result .kinds) (S .symbols) (S .count) (S .kinds-are)
+    let n = reading2 .given .0 .0 in
+    let S = source-of (args .formula .now) (args .names .now) (length (args .path .now)) (length (args .program .now)) (prepare .result)
+    (prepare .ensures) n (reading2 .given .1) in
+    within-table n (prepare .result .kinds) (S .symbols) (S .count) (S .kinds-are)
 
 slice-aggregate-derive-formula : tie.Need-slice-aggregate-derive-formula
 slice-aggregate-derive-formula c =
-    let args2 = c .before .before .before .before .before .before .before .before .before .before .before .before .before .before .before .before .args in
-    let prepare2 = c .before .before .before .before .before .before .before .before .before .before .prepare in
+    let args = c .before .before .before .before .before .before .before .before .before .before .before .before .before .before .before .before .args in
+    let prepare = c .before .before .before .before .before .before .before .before .before .before .prepare in
     let reading2 = c .before .before .before .before .before .before .before .before .reading2 in
-    let args = args2 in let prepare = prepare2 in let n = reading2 .given .0 .0 in let S = source-of (args .formula .now) (args .names .now)
-    (length (args .path .now)) (length (args .program .now)) (prepare .result) (prepare .ensures) n (reading2 .given .1) in prefix-long n
-    (prepare .result .kinds) (S .symbols) (S .count) (S .kinds-are)
+    let n = reading2 .given .0 .0 in
+    let S = source-of (args .formula .now) (args .names .now) (length (args .path .now)) (length (args .program .now)) (prepare .result)
+    (prepare .ensures) n (reading2 .given .1) in
+    prefix-long n (prepare .result .kinds) (S .symbols) (S .count) (S .kinds-are)
 
 derive-formula-requires : tie.Need-derive-formula-requires
 derive-formula-requires c κs =
-    let args2 = c .before .before .before .before .before .before .before .before .before .before .before .before .before .before .before .before .before .before .before .args in
-    let prepare2 = c .before .before .before .before .before .before .before .before .before .before .before .before .before .prepare in
+    let args = c .before .before .before .before .before .before .before .before .before .before .before .before .before .before .before .before .before .before .before .args in
+    let prepare = c .before .before .before .before .before .before .before .before .before .before .before .before .before .prepare in
     let reading2 = c .before .before .before .before .before .before .before .before .before .before .before .reading2 in
-    let within2 = c .before .before .before .before .before .before .before .before .within in
+    let within = c .before .before .before .before .before .before .before .before .within in
     let if1 = c .before .before .before .before .before .if1 in
-    let args = args2 in let prepare = prepare2 in let n = reading2 .given .0 .0 in let S = source-of (args .formula .now) (args .names .now)
-    (length (args .path .now)) (length (args .program .now)) (prepare .result) (prepare .ensures) n (reading2 .given .1) in let within = within2 in
-    let limit = limit-of S (within .result) (within .ensures .0) (if1 .taken) in let kept = path-kept (args .path .now) (within .last .1 .0)
-    (within .result) (within .ensures .1) (if1 .taken) in let listed = prefix n (prepare .result .kinds) (S .symbols) (S .count) (S .kinds-are) in
+    let n = reading2 .given .0 .0 in
+    let S = source-of (args .formula .now) (args .names .now) (length (args .path .now)) (length (args .program .now)) (prepare .result)
+    (prepare .ensures) n (reading2 .given .1) in
+    let limit = limit-of S (within .result) (within .ensures .0) (if1 .taken) in
+    let kept = path-kept (args .path .now) (within .last .1 .0) (within .result) (within .ensures .1) (if1 .taken) in
+    let listed = prefix n (prepare .result .kinds) (S .symbols) (S .count) (S .kinds-are) in
     (omega (arith, S .places, ap length kept), (S .f, S .symbols, record { formed = S .formed; limit = limit; listed = listed }))
 
 same-length : tie.Need-same-length
@@ -77,44 +83,52 @@ same-length-3 c = search needs
 
 returns : tie.Need-returns
 returns c =
-    let args2 = c .before .before .before .before .before .before .before .before .before .before .before .before .before .before .before .before .before .before .before .before .before .before .before .before .before .before .args in
-    let prepare2 = c .before .before .before .before .before .before .before .before .before .before .before .before .before .before .before .before .before .before .before .before .prepare in
+    let args = c .before .before .before .before .before .before .before .before .before .before .before .before .before .before .before .before .before .before .before .before .before .before .before .before .before .before .args in
+    let prepare = c .before .before .before .before .before .before .before .before .before .before .before .before .before .before .before .before .before .before .before .before .prepare in
     let reading2 = c .before .before .before .before .before .before .before .before .before .before .before .before .before .before .before .before .before .before .reading2 in
-    let within2 = c .before .before .before .before .before .before .before .before .before .before .before .before .before .before .before .within in
+    let within = c .before .before .before .before .before .before .before .before .before .before .before .before .before .before .before .within in
     let if1 = c .before .before .before .before .before .before .before .before .before .before .before .before .if1 in
-    let derive-formula = c .before .before .before .before .before .before .derive-formula in
-    let args = args2 in let prepare = prepare2 in let n = reading2 .given .0 .0 in let S = source-of (args .formula .now) (args .names .now)
-    (length (args .path .now)) (length (args .program .now)) (prepare .result) (prepare .ensures) n (reading2 .given .1) in let within = within2 in
-    let limit = limit-of S (within .result) (within .ensures .0) (if1 .taken) in let kept = path-kept (args .path .now) (within .last .1 .0)
-    (within .result) (within .ensures .1) (if1 .taken) in let listed = prefix n (prepare .result .kinds) (S .symbols) (S .count) (S .kinds-are) in let
-    q = args .path .now in let tree = args .tree .now in let program = args .program .now in let formula = derive-formula in leaves _ _ _ q
-    (formula .last .1 .1 .1 .0) tree (formula .last .1 .1 .1 .1 .0) program (formula .last .1 .1 .1 .1 .1 .0) (goes-on (args .formula .now)
-    (args .names .now) (args .symbol) q q (length tree) (length program) _ (faults-left S (within .result) (within .ensures .0) (if1 .taken)))
-    (from-path (continued (length tree) (length program) (args .symbol)
+    let formula = c .before .before .before .before .before .before .derive-formula in
+    let n = reading2 .given .0 .0 in
+    let S = source-of (args .formula .now) (args .names .now) (length (args .path .now)) (length (args .program .now)) (prepare .result)
+    (prepare .ensures) n (reading2 .given .1) in
+    let limit = limit-of S (within .result) (within .ensures .0) (if1 .taken) in
+    let kept = path-kept (args .path .now) (within .last .1 .0) (within .result) (within .ensures .1) (if1 .taken) in
+    let listed = prefix n (prepare .result .kinds) (S .symbols) (S .count) (S .kinds-are) in
+    let q = args .path .now in
+    let tree = args .tree .now in
+    let program = args .program .now in
+    leaves _ _ _ q (formula .last .1 .1 .1 .0) tree (formula .last .1 .1 .1 .1 .0) program (formula .last .1 .1 .1 .1 .1 .0) (goes-on
+    (args .formula .now) (args .names .now) (args .symbol) q q (length tree) (length program) _
+    (faults-left S (within .result) (within .ensures .0) (if1 .taken))) (from-path (continued (length tree) (length program) (args .symbol)
     (lowered-or (S .f) (S .symbols) (fault (own-context (S .symbols)) (term (S .f)) root))) (formula .result) q (within .last .1 .0)
     (formula .last .1 .1 .1 .0) tree (formula .last .1 .1 .1 .1 .0) program (formula .last .1 .1 .1 .1 .1 .0) kept
     (formula .ensures (S .f) (S .symbols) (record { formed = S .formed; limit = limit; listed = listed })))
 
 returns-2 : tie.Need-returns-2
 returns-2 c =
-    let args2 = c .before .before .before .before .before .before .before .before .before .args in
-    let args = args2 in let prepare = c .before .before .before .prepare in let n = c .before .reading .given .0 .0 in let R = refusal-of
-    (args .formula .now) (args .names .now) (length (args .path .now)) (length (args .program .now)) (prepare .result) (prepare .ensures) n
-    (c .before .reading .given .1) in refused-first (args .formula .now) (args .names .now) (args .symbol) (args .path .now) (args .path .now)
-    (length (args .tree .now)) (length (args .program .now)) n none (args .tree .now) (args .program .now) (R .0) refl
+    let args = c .before .before .before .before .before .before .before .before .before .args in
+    let prepare = c .before .before .before .prepare in
+    let n = c .before .reading .given .0 .0 in
+    let R = refusal-of (args .formula .now) (args .names .now) (length (args .path .now)) (length (args .program .now)) (prepare .result)
+    (prepare .ensures) n (c .before .reading .given .1) in
+    refused-first (args .formula .now) (args .names .now) (args .symbol) (args .path .now) (args .path .now) (length (args .tree .now))
+    (length (args .program .now)) n none (args .tree .now) (args .program .now) (R .0) refl
 
 same-length-4 : tie.Need-same-length-4
 same-length-4 c = search needs
 
 returns-3 : tie.Need-returns-3
 returns-3 c =
-    let args2 = c .before .before .before .before .before .before .before .before .before .before .before .before .before .before .args in
-    let prepare2 = c .before .before .before .before .before .before .before .before .prepare in
+    let args = c .before .before .before .before .before .before .before .before .before .before .before .before .before .before .args in
+    let prepare = c .before .before .before .before .before .before .before .before .prepare in
     let reading2 = c .before .before .before .before .before .before .reading2 in
-    let args = args2 in let prepare = prepare2 in let n = reading2 .given .0 .0 in let S = source-of (args .formula .now) (args .names .now)
-    (length (args .path .now)) (length (args .program .now)) (prepare .result) (prepare .ensures) n (reading2 .given .1) in let within =
-    c .before .before .before .within in refused-first (args .formula .now) (args .names .now) (args .symbol) (args .path .now) (within .last .1 .0)
-    (length (args .tree .now)) (length (args .program .now)) 4 (some root) (args .tree .now) (args .program .now)
+    let n = reading2 .given .0 .0 in
+    let S = source-of (args .formula .now) (args .names .now) (length (args .path .now)) (length (args .program .now)) (prepare .result)
+    (prepare .ensures) n (reading2 .given .1) in
+    let within = c .before .before .before .within in
+    refused-first (args .formula .now) (args .names .now) (args .symbol) (args .path .now) (within .last .1 .0) (length (args .tree .now))
+    (length (args .program .now)) 4 (some root) (args .tree .now) (args .program .now)
     (above-limit S (within .result) (within .ensures .0) (c .if1 .left))
     (path-rooted (args .path .now) (within .last .1 .0) (within .result) (within .ensures .1) (c .if1 .left))
 

@@ -38,14 +38,20 @@ same-length-2 c = search needs
 
 returns : tie.Need-returns
 returns c =
-    let args2 = c .before .before .before .before .before .before .before .before .before .before .before .before .before .before .before .before .before .before .before .before .args in
-    let lower-own2 = c .before .before .before .before .before .before .before .before .before .before .before .before .before .lower-own in
-    let lowered2 = c .before .before .before .before .before .before .before .before .before .lowered2 in
+    let args = c .before .before .before .before .before .before .before .before .before .before .before .before .before .before .before .before .before .before .before .before .args in
+    let lower-own = c .before .before .before .before .before .before .before .before .before .before .before .before .before .lower-own in
+    let lowered = c .before .before .before .before .before .before .before .before .before .lowered2 in
     let if1 = c .before .before .before .before .before .before .before .if1 in
-    let args = args2 in let lower-own = lower-own2 in let lowered = lowered2 in let q = args .path .now in let q₁ = lower-own .last .1 .1 .0 in let
-    tree = args .tree .now in let program = args .program .now in let root-refused = c .before .before .before .before .refuse-at-root in λ f ss F.
-    let E = lower-own .ensures f ss F in let N = faultless (length tree) (length program) (args .symbol) f ss (lower-own .result) q q₁
-    (lowered .given .0 .0) (E .0) (E .1) (lowered .given .1) in leaves _ _ _ q (root-refused .last .0) tree (root-refused .last .1 .0) program program
+    let q = args .path .now in
+    let q₁ = lower-own .last .1 .1 .0 in
+    let tree = args .tree .now in
+    let program = args .program .now in
+    let root-refused = c .before .before .before .before .refuse-at-root in
+    λ f ss F.
+    let E = lower-own .ensures f ss F in
+    let N = faultless (length tree) (length program) (args .symbol) f ss (lower-own .result) q q₁ (lowered .given .0 .0) (E .0) (E .1)
+    (lowered .given .1) in
+    leaves _ _ _ q (root-refused .last .0) tree (root-refused .last .1 .0) program program
     (boolean-root (length tree) (length program) (args .symbol) f ss (N .0) (sym (N .1) ∙ if1 .taken))
     (refl, root-refused .ensures .0 ∙ ap (placed (some root)) (N .2), root-refused .ensures .1, refl)
 
@@ -60,17 +66,22 @@ same-length-4 c = search needs
 
 returns-2 : tie.Need-returns-2
 returns-2 c =
-    let args2 = c .before .before .before .before .before .before .before .before .before .before .before .before .before .before .before .before .before .before .before .before .before .args in
-    let lower-own2 = c .before .before .before .before .before .before .before .before .before .before .before .before .before .before .lower-own in
-    let lowered2 = c .before .before .before .before .before .before .before .before .before .before .lowered2 in
+    let args = c .before .before .before .before .before .before .before .before .before .before .before .before .before .before .before .before .before .before .before .before .before .args in
+    let lower-own = c .before .before .before .before .before .before .before .before .before .before .before .before .before .before .lower-own in
+    let lowered = c .before .before .before .before .before .before .before .before .before .before .lowered2 in
     let if1 = c .before .before .before .before .before .before .before .before .if1 in
     let if2 = c .before .before .before .before .before .before .before .if2 in
-    let args = args2 in let lower-own = lower-own2 in let lowered = lowered2 in let q = args .path .now in let q₁ = lower-own .last .1 .1 .0 in let
-    tree = args .tree .now in let program = args .program .now in let root-refused = c .before .before .before .before .refuse-at-root2 in λ f ss F.
-    let E = lower-own .ensures f ss F in let N = faultless (length tree) (length program) (args .symbol) f ss (lower-own .result) q q₁
-    (lowered .given .0 .0) (E .0) (E .1) (lowered .given .1) in leaves _ _ _ q (root-refused .last .0) tree (root-refused .last .1 .0) program program
-    (unknown-symbol (length tree) (length program) (args .symbol) f ss (N .0) (sym (N .1) ∙ if1 .left)
-    (omega (arith, if2 .taken, kinds-length (args .kinds .now) ss (F .listed))))
+    let q = args .path .now in
+    let q₁ = lower-own .last .1 .1 .0 in
+    let tree = args .tree .now in
+    let program = args .program .now in
+    let root-refused = c .before .before .before .before .refuse-at-root2 in
+    λ f ss F.
+    let E = lower-own .ensures f ss F in
+    let N = faultless (length tree) (length program) (args .symbol) f ss (lower-own .result) q q₁ (lowered .given .0 .0) (E .0) (E .1)
+    (lowered .given .1) in
+    leaves _ _ _ q (root-refused .last .0) tree (root-refused .last .1 .0) program program (unknown-symbol (length tree) (length program)
+    (args .symbol) f ss (N .0) (sym (N .1) ∙ if1 .left) (omega (arith, if2 .taken, kinds-length (args .kinds .now) ss (F .listed))))
     (refl, root-refused .ensures .0 ∙ ap (placed (some root)) (N .2), root-refused .ensures .1, refl)
 
 shared-slice-read-if3 : tie.Need-shared-slice-read-if3
@@ -81,20 +92,25 @@ slice-aggregate-derive-number c = search needs
 
 derive-number-requires : tie.Need-derive-number-requires
 derive-number-requires c κs =
-    let args2 = c .before .before .before .before .before .before .before .before .before .before .before .before .before .before .before .before .before .before .before .before .args in
+    let args = c .before .before .before .before .before .before .before .before .before .before .before .before .before .before .before .before .before .before .before .before .args in
     let pre = c .before .before .before .before .before .before .before .before .before .before .before .before .before .before .before .before .before .before .before .before .pre in
-    let lower-own2 = c .before .before .before .before .before .before .before .before .before .before .before .before .before .lower-own in
-    let lowered2 = c .before .before .before .before .before .before .before .before .before .lowered2 in
+    let lower-own = c .before .before .before .before .before .before .before .before .before .before .before .before .before .lower-own in
+    let lowered = c .before .before .before .before .before .before .before .before .before .lowered2 in
     let if1 = c .before .before .before .before .before .before .before .if1 in
     let if2 = c .before .before .before .before .before .before .if2 in
-    let args = args2 in let lower-own = lower-own2 in let lowered = lowered2 in let q = args .path .now in let q₁ = lower-own .last .1 .1 .0 in let
-    tree = args .tree .now in let program = args .program .now in let f = pre .1 .0 in let ss = pre .1 .1 in let F = pre .1 .2 in let E =
-    lower-own .ensures f ss F in let N = faultless (length tree) (length program) (args .symbol) f ss (lower-own .result) q q₁ (lowered .given .0 .0)
-    (E .0) (E .1) (lowered .given .1) in let known : args .symbol < length ss = omega
-    (arith, if2 .left, kinds-length (args .kinds .now) ss (F .listed)) in (
+    let q = args .path .now in
+    let q₁ = lower-own .last .1 .1 .0 in
+    let tree = args .tree .now in
+    let program = args .program .now in
+    let f = pre .1 .0 in
+    let ss = pre .1 .1 in
+    let F = pre .1 .2 in
+    let E = lower-own .ensures f ss F in
+    let N = faultless (length tree) (length program) (args .symbol) f ss (lower-own .result) q q₁ (lowered .given .0 .0) (E .0) (E .1)
+    (lowered .given .1) in
+    let known : args .symbol < length ss = omega (arith, if2 .left, kinds-length (args .kinds .now) ss (F .listed)) in (
       omega (arith, c .before .before .before .before .if3 .taken),
-      omega
-          (arith, pre .0, ap length (N .2)),
+      omega (arith, pre .0, ap length (N .2)),
       (
         f,
         ss,
@@ -114,17 +130,22 @@ same-length-7 c = search needs
 
 returns-3 : tie.Need-returns-3
 returns-3 c =
-    let args2 = c .before .before .before .before .before .before .before .before .before .before .before .before .before .before .before .before .before .before .before .before .before .before .before .before .before .before .before .before .args in
-    let lower-own2 = c .before .before .before .before .before .before .before .before .before .before .before .before .before .before .before .before .before .before .before .before .before .lower-own in
-    let lowered2 = c .before .before .before .before .before .before .before .before .before .before .before .before .before .before .before .before .before .lowered2 in
+    let args = c .before .before .before .before .before .before .before .before .before .before .before .before .before .before .before .before .before .before .before .before .before .before .before .before .before .before .before .before .args in
+    let lower-own = c .before .before .before .before .before .before .before .before .before .before .before .before .before .before .before .before .before .before .before .before .before .lower-own in
+    let lowered = c .before .before .before .before .before .before .before .before .before .before .before .before .before .before .before .before .before .lowered2 in
     let if1 = c .before .before .before .before .before .before .before .before .before .before .before .before .before .before .before .if1 in
     let if2 = c .before .before .before .before .before .before .before .before .before .before .before .before .before .before .if2 in
-    let derive-number = c .before .before .before .before .before .before .before .derive-number in
-    let args = args2 in let lower-own = lower-own2 in let lowered = lowered2 in let q = args .path .now in let q₁ = lower-own .last .1 .1 .0 in let
-    tree = args .tree .now in let program = args .program .now in let number = derive-number in λ f ss F. let E = lower-own .ensures f ss F in let N =
-    faultless (length tree) (length program) (args .symbol) f ss (lower-own .result) q q₁ (lowered .given .0 .0) (E .0) (E .1) (lowered .given .1) in
-    let known : args .symbol < length ss = omega (arith, if2 .left, kinds-length (args .kinds .now) ss (F .listed)) in leaves _ _ _ q
-    (number .last .1 .1 .1 .1 .0) tree (number .last .1 .1 .1 .1 .1 .0) program (number .last .1 .1 .1 .1 .1 .1 .0)
+    let number = c .before .before .before .before .before .before .before .derive-number in
+    let q = args .path .now in
+    let q₁ = lower-own .last .1 .1 .0 in
+    let tree = args .tree .now in
+    let program = args .program .now in
+    λ f ss F.
+    let E = lower-own .ensures f ss F in
+    let N = faultless (length tree) (length program) (args .symbol) f ss (lower-own .result) q q₁ (lowered .given .0 .0) (E .0) (E .1)
+    (lowered .given .1) in
+    let known : args .symbol < length ss = omega (arith, if2 .left, kinds-length (args .kinds .now) ss (F .listed)) in
+    leaves _ _ _ q (number .last .1 .1 .1 .1 .0) tree (number .last .1 .1 .1 .1 .1 .0) program (number .last .1 .1 .1 .1 .1 .1 .0)
     (known-symbol (length tree) (length program) (args .symbol) f ss (N .0) (sym (N .1) ∙ if1 .left) known) (from-path
     (fitted (length tree) (length program) ss (derivative (args .symbol) (by-state ss (args .symbol)) f)) (number .result) q q₁
     (number .last .1 .1 .1 .1 .0) tree (number .last .1 .1 .1 .1 .1 .0) program (number .last .1 .1 .1 .1 .1 .1 .0) (N .2) (number .ensures f ss
@@ -136,20 +157,25 @@ slice-aggregate-derive-number-2 c = search needs
 
 derive-number-requires-2 : tie.Need-derive-number-requires-2
 derive-number-requires-2 c κs =
-    let args2 = c .before .before .before .before .before .before .before .before .before .before .before .before .before .before .before .before .before .before .before .before .args in
+    let args = c .before .before .before .before .before .before .before .before .before .before .before .before .before .before .before .before .before .before .before .before .args in
     let pre = c .before .before .before .before .before .before .before .before .before .before .before .before .before .before .before .before .before .before .before .before .pre in
-    let lower-own2 = c .before .before .before .before .before .before .before .before .before .before .before .before .before .lower-own in
-    let lowered2 = c .before .before .before .before .before .before .before .before .before .lowered2 in
+    let lower-own = c .before .before .before .before .before .before .before .before .before .before .before .before .before .lower-own in
+    let lowered = c .before .before .before .before .before .before .before .before .before .lowered2 in
     let if1 = c .before .before .before .before .before .before .before .if1 in
     let if2 = c .before .before .before .before .before .before .if2 in
-    let args = args2 in let lower-own = lower-own2 in let lowered = lowered2 in let q = args .path .now in let q₁ = lower-own .last .1 .1 .0 in let
-    tree = args .tree .now in let program = args .program .now in let f = pre .1 .0 in let ss = pre .1 .1 in let F = pre .1 .2 in let E =
-    lower-own .ensures f ss F in let N = faultless (length tree) (length program) (args .symbol) f ss (lower-own .result) q q₁ (lowered .given .0 .0)
-    (E .0) (E .1) (lowered .given .1) in let known : args .symbol < length ss = omega
-    (arith, if2 .left, kinds-length (args .kinds .now) ss (F .listed)) in (
+    let q = args .path .now in
+    let q₁ = lower-own .last .1 .1 .0 in
+    let tree = args .tree .now in
+    let program = args .program .now in
+    let f = pre .1 .0 in
+    let ss = pre .1 .1 in
+    let F = pre .1 .2 in
+    let E = lower-own .ensures f ss F in
+    let N = faultless (length tree) (length program) (args .symbol) f ss (lower-own .result) q q₁ (lowered .given .0 .0) (E .0) (E .1)
+    (lowered .given .1) in
+    let known : args .symbol < length ss = omega (arith, if2 .left, kinds-length (args .kinds .now) ss (F .listed)) in (
       omega (arith, small (args .formula .now) (args .kinds .now) f ss F),
-      omega
-          (arith, pre .0, ap length (N .2)),
+      omega (arith, pre .0, ap length (N .2)),
       (
         f,
         ss,
@@ -163,10 +189,13 @@ same-length-8 c = search needs
 
 returns-4 : tie.Need-returns-4
 returns-4 c =
-    let args2 = c .before .before .before .before .before .before .before .before .before .before .before .before .args in
-    let args = args2 in let lower-own = c .before .before .before .before .before .lower-own in let n = c .before .lowered .given .0 .0 in λ f ss F.
-    let E = lower-own .ensures f ss F in faulty (length (args .tree .now)) (length (args .program .now)) (args .symbol) f ss (lower-own .result)
-    (args .path .now) (lower-own .last .1 .1 .0) n (args .tree .now) (args .program .now) (E .0) (E .1) (c .before .lowered .given .1)
+    let args = c .before .before .before .before .before .before .before .before .before .before .before .before .args in
+    let lower-own = c .before .before .before .before .before .lower-own in
+    let n = c .before .lowered .given .0 .0 in
+    λ f ss F.
+    let E = lower-own .ensures f ss F in
+    faulty (length (args .tree .now)) (length (args .program .now)) (args .symbol) f ss (lower-own .result) (args .path .now)
+    (lower-own .last .1 .1 .0) n (args .tree .now) (args .program .now) (E .0) (E .1) (c .before .lowered .given .1)
 
 same-length-9 : tie.Need-same-length-9
 same-length-9 c = search needs
@@ -179,17 +208,22 @@ same-length-11 c = search needs
 
 returns-5 : tie.Need-returns-5
 returns-5 c =
-    let args2 = c .before .before .before .before .before .before .before .before .before .before .before .before .before .before .before .before .before .before .before .before .before .before .before .before .before .before .before .before .args in
-    let lower-own2 = c .before .before .before .before .before .before .before .before .before .before .before .before .before .before .before .before .before .before .before .before .before .lower-own in
-    let lowered2 = c .before .before .before .before .before .before .before .before .before .before .before .before .before .before .before .before .before .lowered2 in
+    let args = c .before .before .before .before .before .before .before .before .before .before .before .before .before .before .before .before .before .before .before .before .before .before .before .before .before .before .before .before .args in
+    let lower-own = c .before .before .before .before .before .before .before .before .before .before .before .before .before .before .before .before .before .before .before .before .before .lower-own in
+    let lowered = c .before .before .before .before .before .before .before .before .before .before .before .before .before .before .before .before .before .lowered2 in
     let if1 = c .before .before .before .before .before .before .before .before .before .before .before .before .before .before .before .if1 in
     let if2 = c .before .before .before .before .before .before .before .before .before .before .before .before .before .before .if2 in
-    let derive-number2 = c .before .before .before .before .before .before .before .derive-number2 in
-    let args = args2 in let lower-own = lower-own2 in let lowered = lowered2 in let q = args .path .now in let q₁ = lower-own .last .1 .1 .0 in let
-    tree = args .tree .now in let program = args .program .now in let number = derive-number2 in λ f ss F. let E = lower-own .ensures f ss F in let N =
-    faultless (length tree) (length program) (args .symbol) f ss (lower-own .result) q q₁ (lowered .given .0 .0) (E .0) (E .1) (lowered .given .1) in
-    let known : args .symbol < length ss = omega (arith, if2 .left, kinds-length (args .kinds .now) ss (F .listed)) in leaves _ _ _ q
-    (number .last .1 .1 .1 .1 .0) tree (number .last .1 .1 .1 .1 .1 .0) program (number .last .1 .1 .1 .1 .1 .1 .0)
+    let number = c .before .before .before .before .before .before .before .derive-number2 in
+    let q = args .path .now in
+    let q₁ = lower-own .last .1 .1 .0 in
+    let tree = args .tree .now in
+    let program = args .program .now in
+    λ f ss F.
+    let E = lower-own .ensures f ss F in
+    let N = faultless (length tree) (length program) (args .symbol) f ss (lower-own .result) q q₁ (lowered .given .0 .0) (E .0) (E .1)
+    (lowered .given .1) in
+    let known : args .symbol < length ss = omega (arith, if2 .left, kinds-length (args .kinds .now) ss (F .listed)) in
+    leaves _ _ _ q (number .last .1 .1 .1 .1 .0) tree (number .last .1 .1 .1 .1 .1 .0) program (number .last .1 .1 .1 .1 .1 .1 .0)
     (known-symbol (length tree) (length program) (args .symbol) f ss (N .0) (sym (N .1) ∙ if1 .left) known) (from-path
     (fitted (length tree) (length program) ss (derivative (args .symbol) (by-state ss (args .symbol)) f)) (number .result) q q₁
     (number .last .1 .1 .1 .1 .0) tree (number .last .1 .1 .1 .1 .1 .0) program (number .last .1 .1 .1 .1 .1 .1 .0) (N .2) (number .ensures f ss

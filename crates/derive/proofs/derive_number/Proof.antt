@@ -75,10 +75,11 @@ returns-2 c =
     let if2 = c .before .before .before .before .before .before .before .if2 in
     let refuse-at-root2 = c .before .before .before .before .refuse-at-root2 in
     let program = args .program .now in
-    λ f ss D. let H = has-derivative (args .formula .now) f (D .given .formed) (D .given .limit) (args .by .symbol) (args .by .state)
-    (survey-formula .result) (survey-formula .ensures .0) (with-primal .result) (not-false (survey-formula .result .fine) (if1 .left))
-    (with-primal .ensures) in let e = sym (by-is (args .by .symbol) f (args .by .state) ss (D .is-state)) ∙ H .1 in leaves _ _ _ (args .path .now)
-    (refuse-at-root2 .last .0) (args .tree .now) (refuse-at-root2 .last .1 .0) program program
+    λ f ss D.
+    let H = has-derivative (args .formula .now) f (D .given .formed) (D .given .limit) (args .by .symbol) (args .by .state) (survey-formula .result)
+    (survey-formula .ensures .0) (with-primal .result) (not-false (survey-formula .result .fine) (if1 .left)) (with-primal .ensures) in
+    let e = sym (by-is (args .by .symbol) f (args .by .state) ss (D .is-state)) ∙ H .1 in
+    leaves _ _ _ (args .path .now) (refuse-at-root2 .last .0) (args .tree .now) (refuse-at-root2 .last .1 .0) program program
     (too-large (length (args .tree .now)) (length program) ss _ (H .0) e (too-many (with-primal .result) (H .0) (H .2) (if2 .taken)))
     (refl, refuse-at-root2 .ensures .0, refuse-at-root2 .ensures .1, refl)
 
@@ -105,10 +106,11 @@ returns-3 c =
     let if3 = c .before .before .before .before .before .before .before .if3 in
     let refuse-at-root3 = c .before .before .before .before .refuse-at-root3 in
     let program = args .program .now in
-    λ f ss D. let H = has-derivative (args .formula .now) f (D .given .formed) (D .given .limit) (args .by .symbol) (args .by .state)
-    (survey-formula .result) (survey-formula .ensures .0) (with-primal .result) (not-false (survey-formula .result .fine) (if1 .left))
-    (with-primal .ensures) in let e = sym (by-is (args .by .symbol) f (args .by .state) ss (D .is-state)) ∙ H .1 in leaves _ _ _ (args .path .now)
-    (refuse-at-root3 .last .0) (args .tree .now) (refuse-at-root3 .last .1 .0) program program
+    λ f ss D.
+    let H = has-derivative (args .formula .now) f (D .given .formed) (D .given .limit) (args .by .symbol) (args .by .state) (survey-formula .result)
+    (survey-formula .ensures .0) (with-primal .result) (not-false (survey-formula .result .fine) (if1 .left)) (with-primal .ensures) in
+    let e = sym (by-is (args .by .symbol) f (args .by .state) ss (D .is-state)) ∙ H .1 in
+    leaves _ _ _ (args .path .now) (refuse-at-root3 .last .0) (args .tree .now) (refuse-at-root3 .last .1 .0) program program
     (too-large (length (args .tree .now)) (length program) ss _ (H .0) e (too-deep (with-primal .result) (H .0) (H .2) (if3 .taken)))
     (refl, refuse-at-root3 .ensures .0, refuse-at-root3 .ensures .1, refl)
 
@@ -132,11 +134,12 @@ returns-4 c =
     let tree2 = args .tree .now in
     let program = args .program .now in
     let with-primal-gives = with-primal .result in
-    λ f ss D. let H = has-derivative (args .formula .now) f (D .given .formed) (D .given .limit) (args .by .symbol) (args .by .state)
-    (survey-formula .result) (survey-formula .ensures .0) with-primal-gives (not-false (survey-formula .result .fine) (if1 .left))
-    (with-primal .ensures) in let e = sym (by-is (args .by .symbol) f (args .by .state) ss (D .is-state)) ∙ H .1 in leaves _ _ _ (args .path .now)
-    (args .path .now) tree2 (c .before .before .zero-from .last .0) program program (tree-short (length tree2) (length program) ss _ (H .0) e
-    (within-limit with-primal-gives (H .0) (H .2) (omega (arith, if2 .left)) (omega (arith, if3 .left)))
+    λ f ss D.
+    let H = has-derivative (args .formula .now) f (D .given .formed) (D .given .limit) (args .by .symbol) (args .by .state) (survey-formula .result)
+    (survey-formula .ensures .0) with-primal-gives (not-false (survey-formula .result .fine) (if1 .left)) (with-primal .ensures) in
+    let e = sym (by-is (args .by .symbol) f (args .by .state) ss (D .is-state)) ∙ H .1 in
+    leaves _ _ _ (args .path .now) (args .path .now) tree2 (c .before .before .zero-from .last .0) program program (tree-short (length tree2)
+    (length program) ss _ (H .0) e (within-limit with-primal-gives (H .0) (H .2) (omega (arith, if2 .left)) (omega (arith, if3 .left)))
     (omega (arith, nodes-exact with-primal-gives (H .0) (H .2) (omega (arith, if2 .left)), c .before .before .before .before .if4 .taken)))
     (refl, refl, c .before .before .zero-from .ensures ∙ all-zeroed tree2, refl)
 
@@ -160,11 +163,12 @@ returns-5 c =
     let tree2 = args .tree .now in
     let program = args .program .now in
     let with-primal-gives = with-primal .result in
-    λ f ss D. let H = has-derivative (args .formula .now) f (D .given .formed) (D .given .limit) (args .by .symbol) (args .by .state)
-    (survey-formula .result) (survey-formula .ensures .0) with-primal-gives (not-false (survey-formula .result .fine) (if1 .left))
-    (with-primal .ensures) in let e = sym (by-is (args .by .symbol) f (args .by .state) ss (D .is-state)) ∙ H .1 in leaves _ _ _ (args .path .now)
-    (args .path .now) tree2 (c .before .before .zero-from2 .last .0) program program (program-short (length tree2) (length program) ss _ (H .0) e
-    (within-limit with-primal-gives (H .0) (H .2) (omega (arith, if2 .left)) (omega (arith, if3 .left)))
+    λ f ss D.
+    let H = has-derivative (args .formula .now) f (D .given .formed) (D .given .limit) (args .by .symbol) (args .by .state) (survey-formula .result)
+    (survey-formula .ensures .0) with-primal-gives (not-false (survey-formula .result .fine) (if1 .left)) (with-primal .ensures) in
+    let e = sym (by-is (args .by .symbol) f (args .by .state) ss (D .is-state)) ∙ H .1 in
+    leaves _ _ _ (args .path .now) (args .path .now) tree2 (c .before .before .zero-from2 .last .0) program program (program-short (length tree2)
+    (length program) ss _ (H .0) e (within-limit with-primal-gives (H .0) (H .2) (omega (arith, if2 .left)) (omega (arith, if3 .left)))
     (omega (arith, nodes-exact with-primal-gives (H .0) (H .2) (omega (arith, if2 .left)), c .before .before .before .before .if5 .taken)))
     (refl, refl, c .before .before .zero-from2 .ensures ∙ all-zeroed tree2, refl)
 
@@ -184,8 +188,10 @@ write-both-requires c κs =
     let with-primal-gives = with-primal .result in
     let ensures = survey-formula .ensures .0 in
     let not-false2 = not-false (survey-formula .result .fine) (if1 .left) in
-    let D = pre .2 .2 in let H = has-derivative formula (pre .2 .0) (D .given .formed) (D .given .limit) symbol state (survey-formula .result) ensures
-    with-primal-gives not-false2 (with-primal .ensures) in let e = sym (by-is symbol (pre .2 .0) state (pre .2 .1) (D .is-state)) ∙ H .1 in (
+    let D = pre .2 .2 in
+    let H = has-derivative formula (pre .2 .0) (D .given .formed) (D .given .limit) symbol state (survey-formula .result) ensures with-primal-gives
+    not-false2 (with-primal .ensures) in
+    let e = sym (by-is symbol (pre .2 .0) state (pre .2 .1) (D .is-state)) ∙ H .1 in (
       pre .1,
       job-of symbol state formula (args .table .now) _ 32
           (surveyed-room formula (pre .2 .0) (pre .2 .2 .given .formed) (pre .2 .2 .given .limit) (args .table .now) (pre .0))
@@ -224,10 +230,11 @@ returns-6 c =
     let if5 = c .before .before .before .before .before .before .before .before .before .before .before .if5 in
     let write-both = c .before .before .before .before .before .before .write-both in
     let with-primal-gives = with-primal .result in
-    λ f ss D. let H = has-derivative (args .formula .now) f (D .given .formed) (D .given .limit) (args .by .symbol) (args .by .state)
-    (survey-formula .result) (survey-formula .ensures .0) with-primal-gives (not-false (survey-formula .result .fine) (if1 .left))
-    (with-primal .ensures) in let e = sym (by-is (args .by .symbol) f (args .by .state) ss (D .is-state)) ∙ H .1 in let R = write-both .ensures f ss
-    (H .0) (record
+    λ f ss D.
+    let H = has-derivative (args .formula .now) f (D .given .formed) (D .given .limit) (args .by .symbol) (args .by .state) (survey-formula .result)
+    (survey-formula .ensures .0) with-primal-gives (not-false (survey-formula .result .fine) (if1 .left)) (with-primal .ensures) in
+    let e = sym (by-is (args .by .symbol) f (args .by .state) ss (D .is-state)) ∙ H .1 in
+    let R = write-both .ensures f ss (H .0) (record
     { given = D; derives = e; limit = (within-limit with-primal-gives (H .0) (H .2) (omega (arith, if2 .left)) (omega (arith, if3 .left))); room = omega (arith, nodes-exact with-primal-gives (H .0) (H .2) (omega (arith, if2 .left)), if5 .left) }) in
     leaves _ _ _ (args .path .now) (write-both .last .1 .1 .1 .1 .0) (args .tree .now) (write-both .last .1 .1 .1 .1 .1 .0) (args .program .now)
     (write-both .last .1 .1 .1 .1 .1 .1 .0) (long-enough (length (args .tree .now)) (length (args .program .now)) ss _ (H .0) e

@@ -92,18 +92,17 @@ returns c =
     let write-derivative-gives = write-derivative .result in
     let length2 = length (args .program .now) in
     let last = write-derivative .last .1 .1 .1 .1 .0 in
-    λ f ss d D. let R = wrote formula kinds symbol state length2 f ss d D (λ i. omega (arith, shared-slice-known .given i)) tree last zero-from-bytes
+    λ f ss d D.
+    let R = wrote formula kinds symbol state length2 f ss d D (λ i. omega (arith, shared-slice-known .given i)) tree last zero-from-bytes
     write-derivative-gives (pre .1 .room d (derives-tree formula kinds symbol state length2 f ss d D))
     (write-derivative .ensures d (derives-tree formula kinds symbol state length2 f ss d D)) zero-from-says (args .path .now) (write .last .1 .1 .0)
     (args .program .now) (write .last .1 .0) (write .ensures .1) (write .ensures .2) in (
-      nodes formula kinds symbol state length2 f ss d D
-          (λ i. omega (arith, shared-slice-known .given i)) tree last zero-from-bytes write-derivative-gives
-          (pre .1 .room d (derives-tree formula kinds symbol state length2 f ss d D))
+      nodes formula kinds symbol state length2 f ss d D (λ i. omega (arith, shared-slice-known .given i)) tree last zero-from-bytes
+          write-derivative-gives (pre .1 .room d (derives-tree formula kinds symbol state length2 f ss d D))
           (write-derivative .ensures d (derives-tree formula kinds symbol state length2 f ss d D)) zero-from-says,
       R .0,
-      tree-filled formula kinds symbol
-          state length2 f ss d D (λ i. omega (arith, shared-slice-known .given i)) tree last zero-from-bytes write-derivative-gives
-          (pre .1 .room d (derives-tree formula kinds symbol state length2 f ss d D))
+      tree-filled formula kinds symbol state length2 f ss d D (λ i. omega (arith, shared-slice-known .given i)) tree last zero-from-bytes
+          write-derivative-gives (pre .1 .room d (derives-tree formula kinds symbol state length2 f ss d D))
           (write-derivative .ensures d (derives-tree formula kinds symbol state length2 f ss d D)) zero-from-says,
       R .1,
     )

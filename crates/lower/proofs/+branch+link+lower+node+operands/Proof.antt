@@ -239,22 +239,24 @@ branch-returns-2 t c =
 
 branch-add-put-row : (t : ℕ) → branch-lts.Need-add-put-row (branch-calls t) (branch-at t) branch.Post
 branch-add-put-row t c =
-    let args2 = c .before .before .before .before .before .before .before .before .before .before .before .before .before .before .before .before .args in
-    let pre2 = c .before .before .before .before .before .before .before .before .before .before .before .before .before .before .before .before .pre in
-    let good2 = c .before .before .before .before .before .before .before .before .before .before .before .before .before .before .before .before .good in
-    let if1-2 = c .before .before .before .before .before .before .before .before .before .before .before .before .if1 in
-    let unsupported2 = c .before .before .before .before .before .before .before .before .before .before .before .unsupported in
-    let if2-2 = c .before .before .before .before .before .before .before .before .before .before .if2 in
-    let ahead2 = c .before .before .before .before .before .before .before .before .before .ahead in
-    let lower2 = c .before .before .before .before .before .before .before .lower in
-    let args = args2 in let pre = pre2 in let good = good2 in let if1 = if1-2 in let unsupported = unsupported2 in let if2 = if2-2 in let ahead =
-    ahead2 in let lower = lower2 in let a = c .before .before .before .a in let b = args .b .now in let conjunction = args .conjunction in let
-    after-yes = past b (args .d) (args .yes) (args .c .node) in omega (
+    let args = c .before .before .before .before .before .before .before .before .before .before .before .before .before .before .before .before .args in
+    let pre = c .before .before .before .before .before .before .before .before .before .before .before .before .before .before .before .before .pre in
+    let good = c .before .before .before .before .before .before .before .before .before .before .before .before .before .before .before .before .good in
+    let if1 = c .before .before .before .before .before .before .before .before .before .before .before .before .if1 in
+    let unsupported = c .before .before .before .before .before .before .before .before .before .before .before .unsupported in
+    let if2 = c .before .before .before .before .before .before .before .before .before .before .if2 in
+    let ahead = c .before .before .before .before .before .before .before .before .before .ahead in
+    let lower = c .before .before .before .before .before .before .before .lower in
+    let a = c .before .before .before .a in
+    let b = args .b .now in
+    let conjunction = args .conjunction in
+    let after-yes = past b (args .d) (args .yes) (args .c .node) in
+    omega (
       arith,
-      choices.is-code (context-of (args .kinds .now) (args .l .generated))
-          refl (arm b (args .d) conjunction (args .yes) (args .c .node)) (arm b (args .d) conjunction (args .no) after-yes) (args .v) after-yes
-          (past b (args .d) (args .no) after-yes) (pre .1 .0) (if1 .taken) (unsupported .result) (unsupported .ensures) (if2 .left) (lower .last .1 .0)
-          (a .given .0 .0) (a .given .0 .1 .0) (taken _ _ _ _ _ _ (a .given .0 .0) (a .given .0 .1 .0)
+      choices.is-code (context-of (args .kinds .now) (args .l .generated)) refl (arm b (args .d) conjunction (args .yes) (args .c .node))
+          (arm b (args .d) conjunction (args .no) after-yes) (args .v) after-yes (past b (args .d) (args .no) after-yes) (pre .1 .0) (if1 .taken)
+          (unsupported .result) (unsupported .ensures) (if2 .left) (lower .last .1 .0) (a .given .0 .0) (a .given .0 .1 .0) (taken _ _ _ _ _ _
+          (a .given .0 .0) (a .given .0 .1 .0)
           (arm-from _ _ b (args .d) conjunction (args .yes) _ _ _ _ _ _ (further (args .c) 1) (ahead .ensures) (lower .ensures)) (a .given .1)),
       good .1 .0 .0,
       (pre .1 .0) .code,
@@ -264,22 +266,23 @@ branch-add-put-row t c =
 
 branch-put-row-requires : (t : ℕ) → branch-lts.Need-put-row-requires (branch-calls t) (branch-at t) branch.Post
 branch-put-row-requires t c κs =
-    let args2 = c .before .before .before .before .before .before .before .before .before .before .before .before .before .before .before .before .args in
-    let pre2 = c .before .before .before .before .before .before .before .before .before .before .before .before .before .before .before .before .pre in
-    let if1-2 = c .before .before .before .before .before .before .before .before .before .before .before .before .if1 in
-    let unsupported2 = c .before .before .before .before .before .before .before .before .before .before .before .unsupported in
-    let if2-2 = c .before .before .before .before .before .before .before .before .before .before .if2 in
-    let ahead2 = c .before .before .before .before .before .before .before .before .before .ahead in
-    let lower2 = c .before .before .before .before .before .before .before .lower in
-    let args = args2 in let pre = pre2 in let if1 = if1-2 in let unsupported = unsupported2 in let if2 = if2-2 in let ahead = ahead2 in let lower =
-    lower2 in let a = c .before .before .before .a in let b = args .b .now in let conjunction = args .conjunction in let after-yes = past b (args .d)
-    (args .yes) (args .c .node) in (
+    let args = c .before .before .before .before .before .before .before .before .before .before .before .before .before .before .before .before .args in
+    let pre = c .before .before .before .before .before .before .before .before .before .before .before .before .before .before .before .before .pre in
+    let if1 = c .before .before .before .before .before .before .before .before .before .before .before .before .if1 in
+    let unsupported = c .before .before .before .before .before .before .before .before .before .before .before .unsupported in
+    let if2 = c .before .before .before .before .before .before .before .before .before .before .if2 in
+    let ahead = c .before .before .before .before .before .before .before .before .before .ahead in
+    let lower = c .before .before .before .before .before .before .before .lower in
+    let a = c .before .before .before .a in
+    let b = args .b .now in
+    let conjunction = args .conjunction in
+    let after-yes = past b (args .d) (args .yes) (args .c .node) in (
       omega (
         arith,
-        choices.n₁′ (context-of (args .kinds .now) (args .l .generated)) refl
-            (arm b (args .d) conjunction (args .yes) (args .c .node)) (arm b (args .d) conjunction (args .no) after-yes) (args .v) after-yes
-            (past b (args .d) (args .no) after-yes) (pre .1 .0) (if1 .taken) (unsupported .result) (unsupported .ensures) (if2 .left) (lower .last .1 .0)
-            (a .given .0 .0) (a .given .0 .1 .0) (taken _ _ _ _ _ _ (a .given .0 .0) (a .given .0 .1 .0)
+        choices.n₁′ (context-of (args .kinds .now) (args .l .generated)) refl (arm b (args .d) conjunction (args .yes) (args .c .node))
+            (arm b (args .d) conjunction (args .no) after-yes) (args .v) after-yes (past b (args .d) (args .no) after-yes) (pre .1 .0) (if1 .taken)
+            (unsupported .result) (unsupported .ensures) (if2 .left) (lower .last .1 .0) (a .given .0 .0) (a .given .0 .1 .0) (taken _ _ _ _ _ _
+            (a .given .0 .0) (a .given .0 .1 .0)
             (arm-from _ _ b (args .d) conjunction (args .yes) _ _ _ _ _ _ (further (args .c) 1) (ahead .ensures) (lower .ensures)) (a .given .1)),
         (pre .1 .0) .code,
         (pre .1 .0) .records,
@@ -290,28 +293,32 @@ branch-put-row-requires t c κs =
 
 branch-put-row-requires-2 : (t : ℕ) → branch-lts.Need-put-row-requires-2 (branch-calls t) (branch-at t) branch.Post
 branch-put-row-requires-2 t c κs =
-    let args2 = c .before .before .before .before .before .before .before .before .before .before .before .before .before .before .before .before .before .before .before .before .args in
-    let pre2 = c .before .before .before .before .before .before .before .before .before .before .before .before .before .before .before .before .before .before .before .before .pre in
-    let if1-2 = c .before .before .before .before .before .before .before .before .before .before .before .before .before .before .before .before .if1 in
-    let unsupported2 = c .before .before .before .before .before .before .before .before .before .before .before .before .before .before .before .unsupported in
-    let if2-2 = c .before .before .before .before .before .before .before .before .before .before .before .before .before .before .if2 in
-    let ahead2 = c .before .before .before .before .before .before .before .before .before .before .before .before .before .ahead in
-    let lower2 = c .before .before .before .before .before .before .before .before .before .before .before .lower in
-    let a2 = c .before .before .before .before .before .before .before .a in
-    let args = args2 in let pre = pre2 in let if1 = if1-2 in let unsupported = unsupported2 in let if2 = if2-2 in let ahead = ahead2 in let lower =
-    lower2 in let a = a2 in let b = args .b .now in let conjunction = args .conjunction in let a-next = a .given .0 .1 .0 in let context = context-of
-    (args .kinds .now) (args .l .generated) in let after-yes = past b (args .d) (args .yes) (args .c .node) in let yes-arm = arm b (args .d)
-    conjunction (args .yes) (args .c .node) in let after-no = past b (args .d) (args .no) after-yes in let no-arm = arm b (args .d) conjunction
-    (args .no) after-yes in let is-taken = taken _ _ _ _ _ _ (a .given .0 .0) a-next
+    let args = c .before .before .before .before .before .before .before .before .before .before .before .before .before .before .before .before .before .before .before .before .args in
+    let pre = c .before .before .before .before .before .before .before .before .before .before .before .before .before .before .before .before .before .before .before .before .pre in
+    let if1 = c .before .before .before .before .before .before .before .before .before .before .before .before .before .before .before .before .if1 in
+    let unsupported = c .before .before .before .before .before .before .before .before .before .before .before .before .before .before .before .unsupported in
+    let if2 = c .before .before .before .before .before .before .before .before .before .before .before .before .before .before .if2 in
+    let ahead = c .before .before .before .before .before .before .before .before .before .before .before .before .before .ahead in
+    let lower = c .before .before .before .before .before .before .before .before .before .before .before .lower in
+    let a = c .before .before .before .before .before .before .before .a in
+    let b = args .b .now in
+    let conjunction = args .conjunction in
+    let a-next = a .given .0 .1 .0 in
+    let context = context-of (args .kinds .now) (args .l .generated) in
+    let after-yes = past b (args .d) (args .yes) (args .c .node) in
+    let yes-arm = arm b (args .d) conjunction (args .yes) (args .c .node) in
+    let after-no = past b (args .d) (args .no) after-yes in
+    let no-arm = arm b (args .d) conjunction (args .no) after-yes in
+    let is-taken = taken _ _ _ _ _ _ (a .given .0 .0) a-next
     (arm-from _ _ b (args .d) conjunction (args .yes) _ _ _ _ _ _ (further (args .c) 1) (ahead .ensures) (lower .ensures)) (a .given .1) in (
       omega (
         arith,
         c .before .before .before .put-row .kept .0,
-        choices.n₁′ context refl yes-arm no-arm (args .v) after-yes after-no (pre .1 .0) (if1 .taken)
-            (unsupported .result) (unsupported .ensures) (if2 .left) (lower .last .1 .0) (a .given .0 .0) a-next is-taken,
-        choices.is-code context refl
-            yes-arm no-arm (args .v) after-yes after-no (pre .1 .0) (if1 .taken) (unsupported .result) (unsupported .ensures) (if2 .left) (lower .last .1 .0)
-            (a .given .0 .0) a-next is-taken,
+        choices.n₁′ context refl yes-arm no-arm (args .v) after-yes after-no (pre .1 .0)
+            (if1 .taken) (unsupported .result) (unsupported .ensures) (if2 .left) (lower .last .1 .0) (a .given .0 .0) a-next is-taken,
+        choices.is-code
+            context refl yes-arm no-arm (args .v) after-yes after-no (pre .1 .0) (if1 .taken) (unsupported .result) (unsupported .ensures) (if2 .left)
+            (lower .last .1 .0) (a .given .0 .0) a-next is-taken,
         (pre .1 .0) .code,
         (pre .1 .0) .records,
         (pre .1 .0) .lists,
@@ -321,28 +328,36 @@ branch-put-row-requires-2 t c κs =
 
 branch-ahead-requires-2 : (t : ℕ) → branch-lts.Need-ahead-requires-2 (branch-calls t) (branch-at t) branch.Post
 branch-ahead-requires-2 t c κs =
-    let args2 = c .before .before .before .before .before .before .before .before .before .before .before .before .before .before .before .before .before .before .before .before .before .before .before .args in
-    let pre2 = c .before .before .before .before .before .before .before .before .before .before .before .before .before .before .before .before .before .before .before .before .before .before .before .pre in
-    let good2 = c .before .before .before .before .before .before .before .before .before .before .before .before .before .before .before .before .before .before .before .before .before .before .before .good in
-    let if1-2 = c .before .before .before .before .before .before .before .before .before .before .before .before .before .before .before .before .before .before .before .if1 in
-    let unsupported2 = c .before .before .before .before .before .before .before .before .before .before .before .before .before .before .before .before .before .before .unsupported in
-    let if2-2 = c .before .before .before .before .before .before .before .before .before .before .before .before .before .before .before .before .before .if2 in
-    let ahead2 = c .before .before .before .before .before .before .before .before .before .before .before .before .before .before .before .before .ahead in
-    let lower2 = c .before .before .before .before .before .before .before .before .before .before .before .before .before .before .lower in
-    let a2 = c .before .before .before .before .before .before .before .before .before .before .a in
-    let args = args2 in let pre = pre2 in let good = good2 in let if1 = if1-2 in let unsupported = unsupported2 in let if2 = if2-2 in let ahead =
-    ahead2 in let lower = lower2 in let a = a2 in let ready = pre .1 .0 in let b = args .b .now in let a-value = a .given .0 .0 in let conjunction =
-    args .conjunction in let a-next = a .given .0 .1 .0 in let lower-bytes = lower .last .1 .0 in let unsupported-gives = unsupported .result in let
-    unsupported-says = unsupported .ensures in let context = context-of (args .kinds .now) (args .l .generated) in let after-yes = past b (args .d)
-    (args .yes) (args .c .node) in let yes-arm = arm b (args .d) conjunction (args .yes) (args .c .node) in let after-no = past b (args .d) (args .no)
-    after-yes in let no-arm = arm b (args .d) conjunction (args .no) after-yes in let is-taken = taken _ _ _ _ _ _ a-value a-next
+    let args = c .before .before .before .before .before .before .before .before .before .before .before .before .before .before .before .before .before .before .before .before .before .before .before .args in
+    let pre = c .before .before .before .before .before .before .before .before .before .before .before .before .before .before .before .before .before .before .before .before .before .before .before .pre in
+    let good = c .before .before .before .before .before .before .before .before .before .before .before .before .before .before .before .before .before .before .before .before .before .before .before .good in
+    let if1 = c .before .before .before .before .before .before .before .before .before .before .before .before .before .before .before .before .before .before .before .if1 in
+    let unsupported = c .before .before .before .before .before .before .before .before .before .before .before .before .before .before .before .before .before .before .unsupported in
+    let if2 = c .before .before .before .before .before .before .before .before .before .before .before .before .before .before .before .before .before .if2 in
+    let ahead = c .before .before .before .before .before .before .before .before .before .before .before .before .before .before .before .before .ahead in
+    let lower = c .before .before .before .before .before .before .before .before .before .before .before .before .before .before .lower in
+    let a = c .before .before .before .before .before .before .before .before .before .before .a in
+    let ready = pre .1 .0 in
+    let b = args .b .now in
+    let a-value = a .given .0 .0 in
+    let conjunction = args .conjunction in
+    let a-next = a .given .0 .1 .0 in
+    let lower-bytes = lower .last .1 .0 in
+    let unsupported-gives = unsupported .result in
+    let unsupported-says = unsupported .ensures in
+    let context = context-of (args .kinds .now) (args .l .generated) in
+    let after-yes = past b (args .d) (args .yes) (args .c .node) in
+    let yes-arm = arm b (args .d) conjunction (args .yes) (args .c .node) in
+    let after-no = past b (args .d) (args .no) after-yes in
+    let no-arm = arm b (args .d) conjunction (args .no) after-yes in
+    let is-taken = taken _ _ _ _ _ _ a-value a-next
     (arm-from _ _ b (args .d) conjunction (args .yes) _ _ _ _ _ _ (further (args .c) 1) (ahead .ensures) (lower .ensures)) (a .given .1) in (
       omega (
         arith,
-        choices.is-code context refl yes-arm no-arm (args .v) after-yes after-no ready (if1 .taken) unsupported-gives unsupported-says (if2 .left)
-            lower-bytes a-value a-next is-taken,
-        choices.is-reg context refl yes-arm no-arm (args .v) after-yes after-no ready (if1 .taken) unsupported-gives
-            unsupported-says (if2 .left) lower-bytes a-value a-next is-taken,
+        choices.is-code context refl yes-arm no-arm (args .v) after-yes after-no ready (if1 .taken) unsupported-gives unsupported-says
+            (if2 .left) lower-bytes a-value a-next is-taken,
+        choices.is-reg context refl yes-arm no-arm (args .v) after-yes after-no ready (if1 .taken)
+            unsupported-gives unsupported-says (if2 .left) lower-bytes a-value a-next is-taken,
         fewer-registers yes-arm,
         ready .registers,
         good .1 .0 .0,
@@ -352,10 +367,10 @@ branch-ahead-requires-2 t c κs =
       ),
       omega (
         arith,
-        choices.is-code context refl yes-arm no-arm (args .v) after-yes after-no ready (if1 .taken)
+        choices.is-code context refl yes-arm no-arm (args .v) after-yes after-no ready (if1 .taken) unsupported-gives unsupported-says
+            (if2 .left) lower-bytes a-value a-next is-taken,
+        choices.is-reg context refl yes-arm no-arm (args .v) after-yes after-no ready (if1 .taken)
             unsupported-gives unsupported-says (if2 .left) lower-bytes a-value a-next is-taken,
-        choices.is-reg context refl yes-arm no-arm (args .v) after-yes
-            after-no ready (if1 .taken) unsupported-gives unsupported-says (if2 .left) lower-bytes a-value a-next is-taken,
         fewer-registers yes-arm,
         ready .registers,
         good .1 .0 .0,
@@ -367,33 +382,38 @@ branch-ahead-requires-2 t c κs =
 
 branch-lower-requires-2 : (t : ℕ) → branch-lts.Need-lower-requires-2 (branch-calls t) (branch-at t) branch.Post
 branch-lower-requires-2 t c κs =
-    let pre2 = c .before .before .before .before .before .before .before .before .before .before .before .before .before .before .before .before .before .before .before .before .before .before .before .before .before .pre in
-    let args2 = c .before .before .before .before .before .before .before .before .before .before .before .before .before .before .before .before .before .before .before .before .before .before .before .before .before .args in
-    let if1-2 = c .before .before .before .before .before .before .before .before .before .before .before .before .before .before .before .before .before .before .before .before .before .if1 in
-    let unsupported2 = c .before .before .before .before .before .before .before .before .before .before .before .before .before .before .before .before .before .before .before .before .unsupported in
-    let if2-2 = c .before .before .before .before .before .before .before .before .before .before .before .before .before .before .before .before .before .before .before .if2 in
-    let ahead2 = c .before .before .before .before .before .before .before .before .before .before .before .before .before .before .before .before .before .before .ahead in
-    let lower2 = c .before .before .before .before .before .before .before .before .before .before .before .before .before .before .before .before .lower in
-    let a2 = c .before .before .before .before .before .before .before .before .before .before .before .before .a in
-    let put-row3 = c .before .before .before .before .before .before .before .before .put-row in
-    let pre = pre2 in let args = args2 in let if1 = if1-2 in let unsupported = unsupported2 in let if2 = if2-2 in let ahead = ahead2 in let lower =
-    lower2 in let a = a2 in let put-row = put-row3 in let put-row2 = c .before .before .before .before .put-row2 in let b = args .b .now in let a-next =
-    a .given .0 .1 .0 in let conjunction = args .conjunction in let ensures = c .before .ahead2 .ensures in let further2 = further a-next 2 in let
-    context = context-of (args .kinds .now) (args .l .generated) in let after-yes = past b (args .d) (args .yes) (args .c .node) in let yes-arm = arm
-    b (args .d) conjunction (args .yes) (args .c .node) in let after-no = past b (args .d) (args .no) after-yes in let no-arm = arm b (args .d)
-    conjunction (args .no) after-yes in let is-taken = taken _ _ _ _ _ _ (a .given .0 .0) a-next
-    (arm-from _ _ b (args .d) conjunction (args .yes) _ _ _ _ _ _ (further (args .c) 1) (ahead .ensures) (lower .ensures)) (a .given .1) in let sym2 =
-    sym (choices.is-node context refl yes-arm no-arm (args .v) after-yes after-no (pre .1 .0) (if1 .taken) (unsupported .result)
+    let pre = c .before .before .before .before .before .before .before .before .before .before .before .before .before .before .before .before .before .before .before .before .before .before .before .before .before .pre in
+    let args = c .before .before .before .before .before .before .before .before .before .before .before .before .before .before .before .before .before .before .before .before .before .before .before .before .before .args in
+    let if1 = c .before .before .before .before .before .before .before .before .before .before .before .before .before .before .before .before .before .before .before .before .before .if1 in
+    let unsupported = c .before .before .before .before .before .before .before .before .before .before .before .before .before .before .before .before .before .before .before .before .unsupported in
+    let if2 = c .before .before .before .before .before .before .before .before .before .before .before .before .before .before .before .before .before .before .before .if2 in
+    let ahead = c .before .before .before .before .before .before .before .before .before .before .before .before .before .before .before .before .before .before .ahead in
+    let lower = c .before .before .before .before .before .before .before .before .before .before .before .before .before .before .before .before .lower in
+    let a = c .before .before .before .before .before .before .before .before .before .before .before .before .a in
+    let put-row = c .before .before .before .before .before .before .before .before .put-row in
+    let put-row2 = c .before .before .before .before .put-row2 in
+    let b = args .b .now in
+    let a-next = a .given .0 .1 .0 in
+    let conjunction = args .conjunction in
+    let ensures = c .before .ahead2 .ensures in
+    let further2 = further a-next 2 in
+    let context = context-of (args .kinds .now) (args .l .generated) in
+    let after-yes = past b (args .d) (args .yes) (args .c .node) in
+    let yes-arm = arm b (args .d) conjunction (args .yes) (args .c .node) in
+    let after-no = past b (args .d) (args .no) after-yes in
+    let no-arm = arm b (args .d) conjunction (args .no) after-yes in
+    let is-taken = taken _ _ _ _ _ _ (a .given .0 .0) a-next
+    (arm-from _ _ b (args .d) conjunction (args .yes) _ _ _ _ _ _ (further (args .c) 1) (ahead .ensures) (lower .ensures)) (a .given .1) in
+    let sym2 = sym (choices.is-node context refl yes-arm no-arm (args .v) after-yes after-no (pre .1 .0) (if1 .taken) (unsupported .result)
     (unsupported .ensures) (if2 .left) (lower .last .1 .0) (a .given .0 .0) a-next is-taken) in (
       omega (arith, pre .0),
       (
-        ready-to b (args .d)
-            conjunction (args .no) _ further2 ensures (arm-ready b (args .d) conjunction (args .no) _ _ sym2 (choices.ready-arm context refl yes-arm no-arm
-            (args .v) after-yes after-no (pre .1 .0) (if1 .taken) (unsupported .result) (unsupported .ensures) (if2 .left) (lower .last .1 .0)
-            (a .given .0 .0) a-next is-taken (put-row .last .0) (put-row2 .last .0) (put-row .ensures) (put-row2 .ensures))),
+        ready-to b (args .d) conjunction (args .no) _ further2 ensures (arm-ready b (args .d) conjunction (args .no) _ _ sym2 (choices.ready-arm
+            context refl yes-arm no-arm (args .v) after-yes after-no (pre .1 .0) (if1 .taken) (unsupported .result) (unsupported .ensures) (if2 .left)
+            (lower .last .1 .0) (a .given .0 .0) a-next is-taken (put-row .last .0) (put-row2 .last .0) (put-row .ensures) (put-row2 .ensures))),
         (
-          well-to b (args .d) (args .no)
-              _ further2 ensures (subst (λ (x : ℕ). all-well-formed (kids b (args .d) (args .no) x) ≡ true) sym2 (pre .1 .1 .1)),
+          well-to b (args .d) (args .no) _ further2 ensures
+              (subst (λ (x : ℕ). all-well-formed (kids b (args .d) (args .no) x) ≡ true) sym2 (pre .1 .1 .1)),
           omega arith,
           pre .1 .1 .3,
         ),
@@ -408,32 +428,37 @@ branch-enum-told-2 t c = search needs
 
 branch-same-length-2 : (t : ℕ) → branch-lts.Need-same-length-2 (branch-calls t) (branch-at t) branch.Post
 branch-same-length-2 t c =
-    let lower2 = c .before .before .before .before .before .before .before .before .before .before .before .before .before .before .before .before .before .before .before .before .before .lower in
-    let put-row3 = c .before .before .before .before .before .before .before .before .before .before .before .before .before .put-row in
-    let put-row2-2 = c .before .before .before .before .before .before .before .before .before .put-row2 in
-    let lower = lower2 in let put-row = put-row3 in let put-row2 = put-row2-2 in omega
-    (arith, c .before .before .before .before .lower2 .kept .1 .0, put-row2 .kept .0, put-row .kept .0, lower .kept .1 .0)
+    let lower = c .before .before .before .before .before .before .before .before .before .before .before .before .before .before .before .before .before .before .before .before .before .lower in
+    let put-row = c .before .before .before .before .before .before .before .before .before .before .before .before .before .put-row in
+    let put-row2 = c .before .before .before .before .before .before .before .before .before .put-row2 in
+    omega (arith, c .before .before .before .before .lower2 .kept .1 .0, put-row2 .kept .0, put-row .kept .0, lower .kept .1 .0)
 
 branch-returns-3 : (t : ℕ) → branch-lts.Need-returns-3 (branch-calls t) (branch-at t) branch.Post
 branch-returns-3 t c =
-    let args2 = c .before .before .before .before .before .before .before .before .before .before .before .before .before .before .before .before .before .before .before .before .before .before .before .before .before .before .before .before .before .before .args in
-    let pre2 = c .before .before .before .before .before .before .before .before .before .before .before .before .before .before .before .before .before .before .before .before .before .before .before .before .before .before .before .before .before .before .pre in
-    let if1-2 = c .before .before .before .before .before .before .before .before .before .before .before .before .before .before .before .before .before .before .before .before .before .before .before .before .before .before .if1 in
-    let unsupported2 = c .before .before .before .before .before .before .before .before .before .before .before .before .before .before .before .before .before .before .before .before .before .before .before .before .before .unsupported in
-    let if2-2 = c .before .before .before .before .before .before .before .before .before .before .before .before .before .before .before .before .before .before .before .before .before .before .before .before .if2 in
-    let ahead3 = c .before .before .before .before .before .before .before .before .before .before .before .before .before .before .before .before .before .before .before .before .before .before .before .ahead in
-    let lower3 = c .before .before .before .before .before .before .before .before .before .before .before .before .before .before .before .before .before .before .before .before .before .lower in
-    let a2 = c .before .before .before .before .before .before .before .before .before .before .before .before .before .before .before .before .before .a in
-    let put-row3 = c .before .before .before .before .before .before .before .before .before .before .before .before .before .put-row in
-    let put-row2-2 = c .before .before .before .before .before .before .before .before .before .put-row2 in
-    let ahead2-2 = c .before .before .before .before .before .before .ahead2 in
-    let args = args2 in let pre = pre2 in let if1 = if1-2 in let unsupported = unsupported2 in let if2 = if2-2 in let ahead = ahead3 in let lower =
-    lower3 in let a = a2 in let put-row = put-row3 in let put-row2 = put-row2-2 in let ahead2 = ahead2-2 in let lower2 =
-    c .before .before .before .before .lower2 in let b = args .b .now in let conjunction = args .conjunction in let a-next = a .given .0 .1 .0 in let
-    given4 = c .enum-told2 .given .1 in let given3 = c .enum-told2 .given .0 .0 in let given2 = c .enum-told2 .given .0 .1 .0 in let context =
-    context-of (args .kinds .now) (args .l .generated) in let after-yes = past b (args .d) (args .yes) (args .c .node) in let yes-arm = arm b
-    (args .d) conjunction (args .yes) (args .c .node) in let after-no = past b (args .d) (args .no) after-yes in let no-arm = arm b (args .d)
-    conjunction (args .no) after-yes in let is-taken = taken _ _ _ _ _ _ (a .given .0 .0) a-next
+    let args = c .before .before .before .before .before .before .before .before .before .before .before .before .before .before .before .before .before .before .before .before .before .before .before .before .before .before .before .before .before .before .args in
+    let pre = c .before .before .before .before .before .before .before .before .before .before .before .before .before .before .before .before .before .before .before .before .before .before .before .before .before .before .before .before .before .before .pre in
+    let if1 = c .before .before .before .before .before .before .before .before .before .before .before .before .before .before .before .before .before .before .before .before .before .before .before .before .before .before .if1 in
+    let unsupported = c .before .before .before .before .before .before .before .before .before .before .before .before .before .before .before .before .before .before .before .before .before .before .before .before .before .unsupported in
+    let if2 = c .before .before .before .before .before .before .before .before .before .before .before .before .before .before .before .before .before .before .before .before .before .before .before .before .if2 in
+    let ahead = c .before .before .before .before .before .before .before .before .before .before .before .before .before .before .before .before .before .before .before .before .before .before .before .ahead in
+    let lower = c .before .before .before .before .before .before .before .before .before .before .before .before .before .before .before .before .before .before .before .before .before .lower in
+    let a = c .before .before .before .before .before .before .before .before .before .before .before .before .before .before .before .before .before .a in
+    let put-row = c .before .before .before .before .before .before .before .before .before .before .before .before .before .put-row in
+    let put-row2 = c .before .before .before .before .before .before .before .before .before .put-row2 in
+    let ahead2 = c .before .before .before .before .before .before .ahead2 in
+    let lower2 = c .before .before .before .before .lower2 in
+    let b = args .b .now in
+    let conjunction = args .conjunction in
+    let a-next = a .given .0 .1 .0 in
+    let given4 = c .enum-told2 .given .1 in
+    let given3 = c .enum-told2 .given .0 .0 in
+    let given2 = c .enum-told2 .given .0 .1 .0 in
+    let context = context-of (args .kinds .now) (args .l .generated) in
+    let after-yes = past b (args .d) (args .yes) (args .c .node) in
+    let yes-arm = arm b (args .d) conjunction (args .yes) (args .c .node) in
+    let after-no = past b (args .d) (args .no) after-yes in
+    let no-arm = arm b (args .d) conjunction (args .no) after-yes in
+    let is-taken = taken _ _ _ _ _ _ (a .given .0 .0) a-next
     (arm-from _ _ b (args .d) conjunction (args .yes) _ _ _ _ _ _ (further (args .c) 1) (ahead .ensures) (lower .ensures)) (a .given .1) in
     choices.second-refused context refl yes-arm no-arm (args .v) after-yes after-no (pre .1 .0) (if1 .taken) (unsupported .result)
     (unsupported .ensures) (if2 .left) (lower .last .1 .0) (a .given .0 .0) a-next is-taken (put-row .last .0) (put-row2 .last .0) (put-row .ensures)
@@ -444,63 +469,76 @@ branch-returns-3 t c =
 
 branch-join-requires : (t : ℕ) → branch-lts.Need-join-requires (branch-calls t) (branch-at t) branch.Post
 branch-join-requires t c κs =
-    let args2 = c .before .before .before .before .before .before .before .before .before .before .before .before .before .before .before .before .before .before .before .before .before .before .before .before .before .before .before .before .before .before .before .before .args in
-    let pre2 = c .before .before .before .before .before .before .before .before .before .before .before .before .before .before .before .before .before .before .before .before .before .before .before .before .before .before .before .before .before .before .before .before .pre in
-    let good2 = c .before .before .before .before .before .before .before .before .before .before .before .before .before .before .before .before .before .before .before .before .before .before .before .before .before .before .before .before .before .before .before .before .good in
-    let if1-2 = c .before .before .before .before .before .before .before .before .before .before .before .before .before .before .before .before .before .before .before .before .before .before .before .before .before .before .before .before .if1 in
-    let unsupported2 = c .before .before .before .before .before .before .before .before .before .before .before .before .before .before .before .before .before .before .before .before .before .before .before .before .before .before .before .unsupported in
-    let if2-2 = c .before .before .before .before .before .before .before .before .before .before .before .before .before .before .before .before .before .before .before .before .before .before .before .before .before .before .if2 in
-    let ahead3 = c .before .before .before .before .before .before .before .before .before .before .before .before .before .before .before .before .before .before .before .before .before .before .before .before .before .ahead in
-    let lower3 = c .before .before .before .before .before .before .before .before .before .before .before .before .before .before .before .before .before .before .before .before .before .before .before .lower in
-    let a2 = c .before .before .before .before .before .before .before .before .before .before .before .before .before .before .before .before .before .before .before .a in
-    let put-row3 = c .before .before .before .before .before .before .before .before .before .before .before .before .before .before .before .put-row in
-    let put-row2-2 = c .before .before .before .before .before .before .before .before .before .before .before .put-row2 in
-    let ahead2-2 = c .before .before .before .before .before .before .before .before .ahead2 in
-    let lower2-2 = c .before .before .before .before .before .before .lower2 in
-    let args = args2 in let pre = pre2 in let good = good2 in let if1 = if1-2 in let unsupported = unsupported2 in let if2 = if2-2 in let ahead =
-    ahead3 in let lower = lower3 in let a = a2 in let put-row = put-row3 in let put-row2 = put-row2-2 in let ahead2 = ahead2-2 in let lower2 =
-    lower2-2 in let o = c .before .before .o in let left = if2 .left in let ready = pre .1 .0 in let taken2 = if1 .taken in let b = args .b .now in
-    let o-value = o .given .0 .0 in let a-value = a .given .0 .0 in let put-row-says = put-row .ensures in let put-row-bytes = put-row .last .0 in let
-    conjunction = args .conjunction in let o-next = o .given .0 .1 .0 in let put-row2-says = put-row2 .ensures in let put-row2-bytes =
-    put-row2 .last .0 in let a-next = a .given .0 .1 .0 in let lower-bytes = lower .last .1 .0 in let lower2-bytes = lower2 .last .1 .0 in let
-    unsupported-gives = unsupported .result in let unsupported-says = unsupported .ensures in let context = context-of (args .kinds .now)
-    (args .l .generated) in let after-yes = past b (args .d) (args .yes) (args .c .node) in let yes-arm = arm b (args .d) conjunction (args .yes)
-    (args .c .node) in let after-no = past b (args .d) (args .no) after-yes in let no-arm = arm b (args .d) conjunction (args .no) after-yes in let
-    is-taken2 = taken _ _ _ _ _ _ a-value a-next
-    (arm-from _ _ b (args .d) conjunction (args .yes) _ _ _ _ _ _ (further (args .c) 1) (ahead .ensures) (lower .ensures)) (a .given .1) in let
-    is-taken = taken _ _ _ _ _ _ o-value o-next (arm-at _ _ b (args .d) conjunction (args .no) _ _ _ _ _ _ (a-next .node) after-yes (choices.is-node
-    context refl yes-arm no-arm (args .v) after-yes after-no ready taken2 unsupported-gives unsupported-says left lower-bytes a-value a-next
-    is-taken2) (arm-from _ _ b (args .d) conjunction (args .no) _ _ _ _ _ _ (further a-next 2) (ahead2 .ensures) (lower2 .ensures))) (o .given .1) in (
+    let args = c .before .before .before .before .before .before .before .before .before .before .before .before .before .before .before .before .before .before .before .before .before .before .before .before .before .before .before .before .before .before .before .before .args in
+    let pre = c .before .before .before .before .before .before .before .before .before .before .before .before .before .before .before .before .before .before .before .before .before .before .before .before .before .before .before .before .before .before .before .before .pre in
+    let good = c .before .before .before .before .before .before .before .before .before .before .before .before .before .before .before .before .before .before .before .before .before .before .before .before .before .before .before .before .before .before .before .before .good in
+    let if1 = c .before .before .before .before .before .before .before .before .before .before .before .before .before .before .before .before .before .before .before .before .before .before .before .before .before .before .before .before .if1 in
+    let unsupported = c .before .before .before .before .before .before .before .before .before .before .before .before .before .before .before .before .before .before .before .before .before .before .before .before .before .before .before .unsupported in
+    let if2 = c .before .before .before .before .before .before .before .before .before .before .before .before .before .before .before .before .before .before .before .before .before .before .before .before .before .before .if2 in
+    let ahead = c .before .before .before .before .before .before .before .before .before .before .before .before .before .before .before .before .before .before .before .before .before .before .before .before .before .ahead in
+    let lower = c .before .before .before .before .before .before .before .before .before .before .before .before .before .before .before .before .before .before .before .before .before .before .before .lower in
+    let a = c .before .before .before .before .before .before .before .before .before .before .before .before .before .before .before .before .before .before .before .a in
+    let put-row = c .before .before .before .before .before .before .before .before .before .before .before .before .before .before .before .put-row in
+    let put-row2 = c .before .before .before .before .before .before .before .before .before .before .before .put-row2 in
+    let ahead2 = c .before .before .before .before .before .before .before .before .ahead2 in
+    let lower2 = c .before .before .before .before .before .before .lower2 in
+    let o = c .before .before .o in
+    let left = if2 .left in
+    let ready = pre .1 .0 in
+    let taken2 = if1 .taken in
+    let b = args .b .now in
+    let o-value = o .given .0 .0 in
+    let a-value = a .given .0 .0 in
+    let put-row-says = put-row .ensures in
+    let put-row-bytes = put-row .last .0 in
+    let conjunction = args .conjunction in
+    let o-next = o .given .0 .1 .0 in
+    let put-row2-says = put-row2 .ensures in
+    let put-row2-bytes = put-row2 .last .0 in
+    let a-next = a .given .0 .1 .0 in
+    let lower-bytes = lower .last .1 .0 in
+    let lower2-bytes = lower2 .last .1 .0 in
+    let unsupported-gives = unsupported .result in
+    let unsupported-says = unsupported .ensures in
+    let context = context-of (args .kinds .now) (args .l .generated) in
+    let after-yes = past b (args .d) (args .yes) (args .c .node) in
+    let yes-arm = arm b (args .d) conjunction (args .yes) (args .c .node) in
+    let after-no = past b (args .d) (args .no) after-yes in
+    let no-arm = arm b (args .d) conjunction (args .no) after-yes in
+    let is-taken2 = taken _ _ _ _ _ _ a-value a-next
+    (arm-from _ _ b (args .d) conjunction (args .yes) _ _ _ _ _ _ (further (args .c) 1) (ahead .ensures) (lower .ensures)) (a .given .1) in
+    let is-taken = taken _ _ _ _ _ _ o-value o-next (arm-at _ _ b (args .d) conjunction (args .no) _ _ _ _ _ _ (a-next .node) after-yes
+    (choices.is-node context refl yes-arm no-arm (args .v) after-yes after-no ready taken2 unsupported-gives unsupported-says left lower-bytes a-value
+    a-next is-taken2) (arm-from _ _ b (args .d) conjunction (args .no) _ _ _ _ _ _ (further a-next 2) (ahead2 .ensures) (lower2 .ensures)))
+    (o .given .1) in (
       omega (
         arith,
         choices.n₄′ context refl yes-arm no-arm (args .v) after-yes after-no ready taken2 unsupported-gives unsupported-says left
             lower-bytes a-value a-next is-taken2 put-row-bytes put-row2-bytes put-row-says put-row2-says lower2-bytes o-value o-next is-taken _ refl,
-        choices.is-code context refl yes-arm no-arm (args .v) after-yes after-no ready taken2 unsupported-gives unsupported-says left lower-bytes a-value
-            a-next is-taken2,
+        choices.is-code context refl yes-arm no-arm (args .v) after-yes after-no ready taken2 unsupported-gives unsupported-says left lower-bytes
+            a-value a-next is-taken2,
         ready .code,
         ready .records,
         ready .lists,
       ),
       omega (
         arith,
-        choices.n₄′ context refl yes-arm no-arm (args .v) after-yes after-no
-            ready taken2 unsupported-gives unsupported-says left lower-bytes a-value a-next is-taken2 put-row-bytes put-row2-bytes put-row-says put-row2-says
-            lower2-bytes o-value o-next is-taken _ refl,
-        choices.z-code context refl yes-arm no-arm (args .v) after-yes after-no ready taken2
-            unsupported-gives unsupported-says left lower-bytes a-value a-next is-taken2 put-row-bytes put-row2-bytes put-row-says put-row2-says lower2-bytes
-            o-value o-next is-taken _ refl,
-        choices.is-code context refl yes-arm no-arm (args .v) after-yes after-no ready taken2 unsupported-gives
-            unsupported-says left lower-bytes a-value a-next is-taken2,
-        ready .code,
-        ready .records,
-        ready .lists,
-      ),
-      omega (
-        arith,
+        choices.n₄′ context refl yes-arm no-arm (args .v) after-yes after-no ready taken2 unsupported-gives unsupported-says left
+            lower-bytes a-value a-next is-taken2 put-row-bytes put-row2-bytes put-row-says put-row2-says lower2-bytes o-value o-next is-taken _ refl,
+        choices.z-code context refl yes-arm no-arm (args .v) after-yes after-no ready taken2 unsupported-gives unsupported-says left lower-bytes a-value
+            a-next is-taken2 put-row-bytes put-row2-bytes put-row-says put-row2-says lower2-bytes o-value o-next is-taken _ refl,
         choices.is-code context
             refl yes-arm no-arm (args .v) after-yes after-no ready taken2 unsupported-gives unsupported-says left lower-bytes a-value a-next is-taken2,
-        choices.is-reg context refl yes-arm no-arm (args .v) after-yes after-no ready taken2 unsupported-gives unsupported-says left lower-bytes a-value
-            a-next is-taken2,
+        ready .code,
+        ready .records,
+        ready .lists,
+      ),
+      omega (
+        arith,
+        choices.is-code context refl yes-arm no-arm (args .v) after-yes after-no ready taken2 unsupported-gives unsupported-says left
+            lower-bytes a-value a-next is-taken2,
+        choices.is-reg context refl yes-arm no-arm (args .v) after-yes after-no ready taken2 unsupported-gives
+            unsupported-says left lower-bytes a-value a-next is-taken2,
         fewer-registers yes-arm,
         ready .registers,
         good .1 .0 .0,
@@ -512,33 +550,37 @@ branch-join-requires t c κs =
 
 branch-same-length-3 : (t : ℕ) → branch-lts.Need-same-length-3 (branch-calls t) (branch-at t) branch.Post
 branch-same-length-3 t c =
-    let lower3 = c .before .before .before .before .before .before .before .before .before .before .before .before .before .before .before .before .before .before .before .before .before .before .before .before .before .before .lower in
-    let put-row3 = c .before .before .before .before .before .before .before .before .before .before .before .before .before .before .before .before .before .before .put-row in
-    let put-row2-2 = c .before .before .before .before .before .before .before .before .before .before .before .before .before .before .put-row2 in
-    let lower2-2 = c .before .before .before .before .before .before .before .before .before .lower2 in
-    let lower = lower3 in let put-row = put-row3 in let put-row2 = put-row2-2 in let lower2 = lower2-2 in omega
-    (arith, c .before .before .join .kept .0, lower2 .kept .1 .0, put-row2 .kept .0, put-row .kept .0, lower .kept .1 .0)
+    let lower = c .before .before .before .before .before .before .before .before .before .before .before .before .before .before .before .before .before .before .before .before .before .before .before .before .before .before .lower in
+    let put-row = c .before .before .before .before .before .before .before .before .before .before .before .before .before .before .before .before .before .before .put-row in
+    let put-row2 = c .before .before .before .before .before .before .before .before .before .before .before .before .before .before .put-row2 in
+    let lower2 = c .before .before .before .before .before .before .before .before .before .lower2 in
+    omega (arith, c .before .before .join .kept .0, lower2 .kept .1 .0, put-row2 .kept .0, put-row .kept .0, lower .kept .1 .0)
 
 branch-returns-4 : (t : ℕ) → branch-lts.Need-returns-4 (branch-calls t) (branch-at t) branch.Post
 branch-returns-4 t c =
-    let args2 = c .before .before .before .before .before .before .before .before .before .before .before .before .before .before .before .before .before .before .before .before .before .before .before .before .before .before .before .before .before .before .before .before .before .before .before .args in
-    let pre2 = c .before .before .before .before .before .before .before .before .before .before .before .before .before .before .before .before .before .before .before .before .before .before .before .before .before .before .before .before .before .before .before .before .before .before .before .pre in
-    let if1-2 = c .before .before .before .before .before .before .before .before .before .before .before .before .before .before .before .before .before .before .before .before .before .before .before .before .before .before .before .before .before .before .before .if1 in
-    let unsupported2 = c .before .before .before .before .before .before .before .before .before .before .before .before .before .before .before .before .before .before .before .before .before .before .before .before .before .before .before .before .before .before .unsupported in
-    let if2-2 = c .before .before .before .before .before .before .before .before .before .before .before .before .before .before .before .before .before .before .before .before .before .before .before .before .before .before .before .before .before .if2 in
-    let ahead3 = c .before .before .before .before .before .before .before .before .before .before .before .before .before .before .before .before .before .before .before .before .before .before .before .before .before .before .before .before .ahead in
-    let lower3 = c .before .before .before .before .before .before .before .before .before .before .before .before .before .before .before .before .before .before .before .before .before .before .before .before .before .before .lower in
-    let a2 = c .before .before .before .before .before .before .before .before .before .before .before .before .before .before .before .before .before .before .before .before .before .before .a in
-    let put-row3 = c .before .before .before .before .before .before .before .before .before .before .before .before .before .before .before .before .before .before .put-row in
-    let put-row2-2 = c .before .before .before .before .before .before .before .before .before .before .before .before .before .before .put-row2 in
-    let ahead2-2 = c .before .before .before .before .before .before .before .before .before .before .before .ahead2 in
-    let lower2-2 = c .before .before .before .before .before .before .before .before .before .lower2 in
-    let args = args2 in let pre = pre2 in let if1 = if1-2 in let unsupported = unsupported2 in let if2 = if2-2 in let ahead = ahead3 in let lower =
-    lower3 in let a = a2 in let put-row = put-row3 in let put-row2 = put-row2-2 in let ahead2 = ahead2-2 in let lower2 = lower2-2 in let o =
-    c .before .before .before .before .before .o in let join = c .before .before .join in let b = args .b .now in let conjunction = args .conjunction in
-    let a-next = a .given .0 .1 .0 in let context = context-of (args .kinds .now) (args .l .generated) in let after-yes = past b (args .d) (args .yes)
-    (args .c .node) in let yes-arm = arm b (args .d) conjunction (args .yes) (args .c .node) in let after-no = past b (args .d) (args .no) after-yes in
-    let no-arm = arm b (args .d) conjunction (args .no) after-yes in let is-taken = taken _ _ _ _ _ _ (a .given .0 .0) a-next
+    let args = c .before .before .before .before .before .before .before .before .before .before .before .before .before .before .before .before .before .before .before .before .before .before .before .before .before .before .before .before .before .before .before .before .before .before .before .args in
+    let pre = c .before .before .before .before .before .before .before .before .before .before .before .before .before .before .before .before .before .before .before .before .before .before .before .before .before .before .before .before .before .before .before .before .before .before .before .pre in
+    let if1 = c .before .before .before .before .before .before .before .before .before .before .before .before .before .before .before .before .before .before .before .before .before .before .before .before .before .before .before .before .before .before .before .if1 in
+    let unsupported = c .before .before .before .before .before .before .before .before .before .before .before .before .before .before .before .before .before .before .before .before .before .before .before .before .before .before .before .before .before .before .unsupported in
+    let if2 = c .before .before .before .before .before .before .before .before .before .before .before .before .before .before .before .before .before .before .before .before .before .before .before .before .before .before .before .before .before .if2 in
+    let ahead = c .before .before .before .before .before .before .before .before .before .before .before .before .before .before .before .before .before .before .before .before .before .before .before .before .before .before .before .before .ahead in
+    let lower = c .before .before .before .before .before .before .before .before .before .before .before .before .before .before .before .before .before .before .before .before .before .before .before .before .before .before .lower in
+    let a = c .before .before .before .before .before .before .before .before .before .before .before .before .before .before .before .before .before .before .before .before .before .before .a in
+    let put-row = c .before .before .before .before .before .before .before .before .before .before .before .before .before .before .before .before .before .before .put-row in
+    let put-row2 = c .before .before .before .before .before .before .before .before .before .before .before .before .before .before .put-row2 in
+    let ahead2 = c .before .before .before .before .before .before .before .before .before .before .before .ahead2 in
+    let lower2 = c .before .before .before .before .before .before .before .before .before .lower2 in
+    let o = c .before .before .before .before .before .o in
+    let join = c .before .before .join in
+    let b = args .b .now in
+    let conjunction = args .conjunction in
+    let a-next = a .given .0 .1 .0 in
+    let context = context-of (args .kinds .now) (args .l .generated) in
+    let after-yes = past b (args .d) (args .yes) (args .c .node) in
+    let yes-arm = arm b (args .d) conjunction (args .yes) (args .c .node) in
+    let after-no = past b (args .d) (args .no) after-yes in
+    let no-arm = arm b (args .d) conjunction (args .no) after-yes in
+    let is-taken = taken _ _ _ _ _ _ (a .given .0 .0) a-next
     (arm-from _ _ b (args .d) conjunction (args .yes) _ _ _ _ _ _ (further (args .c) 1) (ahead .ensures) (lower .ensures)) (a .given .1) in
     choices.both-joined context refl yes-arm no-arm (args .v) after-yes after-no (pre .1 .0) (if1 .taken) (unsupported .result) (unsupported .ensures)
     (if2 .left) (lower .last .1 .0) (a .given .0 .0) a-next is-taken (put-row .last .0) (put-row2 .last .0) (put-row .ensures) (put-row2 .ensures)
@@ -669,26 +711,33 @@ link-sub-branch-2 t c = search needs
 
 link-branch-requires-2 : (t : ℕ) → link-lts.Need-branch-requires-2 (link-calls t) (link-at t) link.Post
 link-branch-requires-2 t c κs =
-    let pre2 = c .before .before .before .before .before .before .before .before .before .before .before .before .pre in
-    let args2 = c .before .before .before .before .before .before .before .before .before .before .before .before .args in
-    let lower2 = c .before .before .before .before .before .before .before .lower in
-    let pre = pre2 in let args = args2 in let lower = lower2 in let a = c .before .before .before .a in let left = args .left in let b = args .b .now in
-    let node2 = args .c .node in let a-next = a .given .0 .1 .0 in let conjunction = args .conjunction in let node = a-next .node in let sym2 = sym
-    (c .before .if1 .left) in let no-of2 = no-of conjunction left in let yes-of2 = yes-of conjunction left in let context = context-of
-    (args .kinds .now) (args .l .generated) in let after = past b (args .d) left node2 in let whole = arm b (args .d) conjunction left node2 in let
-    is-taken = taken _ _ _ _ _ _ (a .given .0 .0) a-next (lower .ensures) (a .given .1) in let link-past2 = link-past b (args .d) left node2
-    conjunction (pre .1 .1 .1) in let link-splits2 = link-splits b (args .d) left node2 conjunction (pre .1 .1 .1) in (
-      omega
-          (arith, pre .0, pre .1 .1 .1),
+    let pre = c .before .before .before .before .before .before .before .before .before .before .before .before .pre in
+    let args = c .before .before .before .before .before .before .before .before .before .before .before .before .args in
+    let lower = c .before .before .before .before .before .before .before .lower in
+    let a = c .before .before .before .a in
+    let left = args .left in
+    let b = args .b .now in
+    let node2 = args .c .node in
+    let a-next = a .given .0 .1 .0 in
+    let conjunction = args .conjunction in
+    let node = a-next .node in
+    let sym2 = sym (c .before .if1 .left) in
+    let no-of2 = no-of conjunction left in
+    let yes-of2 = yes-of conjunction left in
+    let context = context-of (args .kinds .now) (args .l .generated) in
+    let after = past b (args .d) left node2 in
+    let whole = arm b (args .d) conjunction left node2 in
+    let is-taken = taken _ _ _ _ _ _ (a .given .0 .0) a-next (lower .ensures) (a .given .1) in
+    let link-past2 = link-past b (args .d) left node2 conjunction (pre .1 .1 .1) in
+    let link-splits2 = link-splits b (args .d) left node2 conjunction (pre .1 .1 .1) in (
+      omega (arith, pre .0, pre .1 .1 .1),
       (
-        split-arms b (args .d) conjunction yes-of2 no-of2 whole after link-splits2 link-past2 (pre .1 .0) context
-            (lower .last .1 .0) (a .given .0 .0) a-next is-taken 0 (args .left - 1) (ap (λ (x : Bool). cond x (args .left - 1) 0) sym2)
-            (ap (λ (x : Bool). cond x 0 (args .left - 1)) sym2),
+        split-arms b (args .d) conjunction yes-of2 no-of2 whole after link-splits2 link-past2 (pre .1 .0) context (lower .last .1 .0) (a .given .0 .0)
+            a-next is-taken 0 (args .left - 1) (ap (λ (x : Bool). cond x (args .left - 1) 0) sym2) (ap (λ (x : Bool). cond x 0 (args .left - 1)) sym2),
         (
           none-well b (args .d) 0 node refl,
-          rest-well-past b (args .d) left node2 node
-              (λ z. omega (arith, pre .1 .1 .1)) (pre .1 .1 .0) (split-node b (args .d) conjunction yes-of2 no-of2 whole after link-splits2 link-past2
-              (pre .1 .0) context (lower .last .1 .0) (a .given .0 .0) a-next is-taken),
+          rest-well-past b (args .d) left node2 node (λ z. omega (arith, pre .1 .1 .1)) (pre .1 .1 .0) (split-node b (args .d) conjunction yes-of2
+              no-of2 whole after link-splits2 link-past2 (pre .1 .0) context (lower .last .1 .0) (a .given .0 .0) a-next is-taken),
           omega arith,
           omega (arith, pre .1 .1 .2),
         ),
@@ -972,16 +1021,21 @@ node-same-length-3 t c = search needs
 
 node-returns-4 : (t : ℕ) → node-lts.Need-returns-4 (node-calls t) (node-at t) node.Post
 node-returns-4 t c =
-    let args2 = c .before .before .before .before .before .before .before .before .before .before .before .before .before .before .before .before .before .before .args in
-    let pre2 = c .before .before .before .before .before .before .before .before .before .before .before .before .before .before .before .before .before .before .pre in
-    let node3 = c .before .before .before .before .before .before .before .before .before .before .before .before .before .before .node in
-    let chooses2 = c .before .before .before .before .before .before .before .before .before .chooses in
-    let if4-2 = c .before .before .before .before .before .before .before .before .if4 in
-    let if5-2 = c .before .before .before .before .before .before .if5 in
-    let args = args2 in let pre = pre2 in let node = node3 in let chooses = chooses2 in let if4 = if4-2 in let if5 = if5-2 in let lower = c .before .before .before .before .lower in
-    let b = args .b .now in let node2 = args .c .node in let x2 = node2 + 16 in let given3 = c .enum-told .given .0 .0 in let given2 =
-    c .enum-told .given .0 .1 .0 in let tree-in2 = tree-in (args .d) b node2 in let term2 = term tree-in2 in as-node _ _ term2 term2 _ _ _ _ x2
-    (args .c) _ _ _ refl refl (split-refused b (args .d - 1) true 1 1 term2 (node2 + 16 * size tree-in2)
+    let args = c .before .before .before .before .before .before .before .before .before .before .before .before .before .before .before .before .before .before .args in
+    let pre = c .before .before .before .before .before .before .before .before .before .before .before .before .before .before .before .before .before .before .pre in
+    let node = c .before .before .before .before .before .before .before .before .before .before .before .before .before .before .node in
+    let chooses = c .before .before .before .before .before .before .before .before .before .chooses in
+    let if4 = c .before .before .before .before .before .before .before .before .if4 in
+    let if5 = c .before .before .before .before .before .before .if5 in
+    let lower = c .before .before .before .before .lower in
+    let b = args .b .now in
+    let node2 = args .c .node in
+    let x2 = node2 + 16 in
+    let given3 = c .enum-told .given .0 .0 in
+    let given2 = c .enum-told .given .0 .1 .0 in
+    let tree-in2 = tree-in (args .d) b node2 in
+    let term2 = term tree-in2 in
+    as-node _ _ term2 term2 _ _ _ _ x2 (args .c) _ _ _ refl refl (split-refused b (args .d - 1) true 1 1 term2 (node2 + 16 * size tree-in2)
     (wholes.branch-is b (args .d) node2 (node .result) (node .ensures .0) (pre .1 .1) (sym (chooses .ensures) ∙ if4 .taken) (if5 .taken)) (three-past
     b (args .d - 1) x2 ∙ (ap (λ (x : ℕ). past b (args .d - 1) x x2) (sym (if5 .taken)) ∙ wholes.past-is b (args .d) node2 (node .result)
     (node .ensures .0) (pre .1 .1))) (ready-moved (pre .1 .0) x2) (context-of (args .kinds .now) (args .l .generated)) (lower .last .1 .0)
@@ -989,43 +1043,53 @@ node-returns-4 t c =
 
 node-sub-branch : (t : ℕ) → node-lts.Need-sub-branch (node-calls t) (node-at t) node.Post
 node-sub-branch t c =
-    let args2 = c .before .before .before .before .before .before .before .before .before .before .before .before .before .before .before .before .before .before .before .before .args in
-    let pre2 = c .before .before .before .before .before .before .before .before .before .before .before .before .before .before .before .before .before .before .before .before .pre in
-    let node2 = c .before .before .before .before .before .before .before .before .before .before .before .before .before .before .before .before .node in
-    let args = args2 in let pre = pre2 in let node = node2 in omega
-    (arith, wholes.node-deep (args .b .now) (args .d) (args .c .node) (node .result) (node .ensures .0) (pre .1 .1))
+    let args = c .before .before .before .before .before .before .before .before .before .before .before .before .before .before .before .before .before .before .before .before .args in
+    let pre = c .before .before .before .before .before .before .before .before .before .before .before .before .before .before .before .before .before .before .before .before .pre in
+    let node = c .before .before .before .before .before .before .before .before .before .before .before .before .before .before .before .before .node in
+    omega (arith, wholes.node-deep (args .b .now) (args .d) (args .c .node) (node .result) (node .ensures .0) (pre .1 .1))
 
 node-branch-requires : (t : ℕ) → node-lts.Need-branch-requires (node-calls t) (node-at t) node.Post
 node-branch-requires t c κs =
-    let pre2 = c .before .before .before .before .before .before .before .before .before .before .before .before .before .before .before .before .before .before .before .before .pre in
-    let args3 = c .before .before .before .before .before .before .before .before .before .before .before .before .before .before .before .before .before .before .before .before .args in
-    let node4 = c .before .before .before .before .before .before .before .before .before .before .before .before .before .before .before .before .node in
-    let chooses2 = c .before .before .before .before .before .before .before .before .before .before .before .chooses in
-    let if4-2 = c .before .before .before .before .before .before .before .before .before .before .if4 in
-    let if5-2 = c .before .before .before .before .before .before .before .before .if5 in
-    let lower2 = c .before .before .before .before .before .before .lower in
-    let pre = pre2 in let args = args3 in let node = node4 in let chooses = chooses2 in let if4 = if4-2 in let if5 = if5-2 in let lower = lower2 in
-    let a = c .before .before .a in let args2 = args .d - 1 in let node-gives = node .result in let b = args .b .now in let node3 = args .c .node in
-    let a-value = a .given .0 .0 in let sym2 = sym (if5 .taken) in let ensures = node .ensures .0 in let a-next = a .given .0 .1 .0 in let lower-bytes =
-    lower .last .1 .0 in let x3 = node3 + 16 in let children = node-gives .children in let node2 = a-next .node in let ready-moved2 = ready-moved
-    (pre .1 .0) x3 in let tree-in2 = tree-in (args .d) b node3 in let context = context-of (args .kinds .now) (args .l .generated) in let term2 = term
-    tree-in2 in let x2 = node3 + 16 * size tree-in2 in let is-taken = taken _ _ _ _ _ _ a-value a-next (lower .ensures) (a .given .1) in let kids-well =
-    wholes.kids-well b (args .d) node3 node-gives ensures (pre .1 .1) in let branch-is = wholes.branch-is b (args .d) node3 node-gives ensures
-    (pre .1 .1) (sym (chooses .ensures) ∙ if4 .taken) (if5 .taken) in (
-      omega
-          (arith, pre .0, wholes.node-deep b (args .d) node3 node-gives ensures (pre .1 .1)),
+    let pre = c .before .before .before .before .before .before .before .before .before .before .before .before .before .before .before .before .before .before .before .before .pre in
+    let args = c .before .before .before .before .before .before .before .before .before .before .before .before .before .before .before .before .before .before .before .before .args in
+    let node = c .before .before .before .before .before .before .before .before .before .before .before .before .before .before .before .before .node in
+    let chooses = c .before .before .before .before .before .before .before .before .before .before .before .chooses in
+    let if4 = c .before .before .before .before .before .before .before .before .before .before .if4 in
+    let if5 = c .before .before .before .before .before .before .before .before .if5 in
+    let lower = c .before .before .before .before .before .before .lower in
+    let a = c .before .before .a in
+    let args2 = args .d - 1 in
+    let node-gives = node .result in
+    let b = args .b .now in
+    let node3 = args .c .node in
+    let a-value = a .given .0 .0 in
+    let sym2 = sym (if5 .taken) in
+    let ensures = node .ensures .0 in
+    let a-next = a .given .0 .1 .0 in
+    let lower-bytes = lower .last .1 .0 in
+    let x3 = node3 + 16 in
+    let children = node-gives .children in
+    let node2 = a-next .node in
+    let ready-moved2 = ready-moved (pre .1 .0) x3 in
+    let tree-in2 = tree-in (args .d) b node3 in
+    let context = context-of (args .kinds .now) (args .l .generated) in
+    let term2 = term tree-in2 in
+    let x2 = node3 + 16 * size tree-in2 in
+    let is-taken = taken _ _ _ _ _ _ a-value a-next (lower .ensures) (a .given .1) in
+    let kids-well = wholes.kids-well b (args .d) node3 node-gives ensures (pre .1 .1) in
+    let branch-is = wholes.branch-is b (args .d) node3 node-gives ensures (pre .1 .1) (sym (chooses .ensures) ∙ if4 .taken) (if5 .taken) in (
+      omega (arith, pre .0, wholes.node-deep b (args .d) node3 node-gives ensures (pre .1 .1)),
       (
         split-arms b args2 true 1 1 term2 x2 branch-is
-            (three-past b args2 x3 ∙ (ap (λ (x : ℕ). past b args2 x x3) sym2 ∙ wholes.past-is b (args .d) node3 node-gives ensures (pre .1 .1))) ready-moved2
-            context lower-bytes a-value a-next is-taken 1 1 refl refl,
+            (three-past b args2 x3 ∙ (ap (λ (x : ℕ). past b args2 x x3) sym2 ∙ wholes.past-is b (args .d) node3 node-gives ensures (pre .1 .1)))
+            ready-moved2 context lower-bytes a-value a-next is-taken 1 1 refl refl,
         (
-          two-well b args2 x3 node2 children (if5 .taken) kids-well (split-node b args2 true 1 1
-              term2 x2 branch-is
-              (three-past b args2 x3 ∙ (ap (λ (x : ℕ). past b args2 x x3) sym2 ∙ wholes.past-is b (args .d) node3 node-gives ensures (pre .1 .1))) ready-moved2
-              context lower-bytes a-value a-next is-taken),
-          three-well b args2 x3 node2 children (if5 .taken) kids-well (split-node b args2 true 1 1 term2 x2
-              branch-is (three-past b args2 x3 ∙ (ap (λ (x : ℕ). past b args2 x x3) sym2 ∙ wholes.past-is b (args .d) node3 node-gives ensures (pre .1 .1)))
-              ready-moved2 context lower-bytes a-value a-next is-taken),
+          two-well b args2 x3 node2 children (if5 .taken) kids-well (split-node b args2 true 1 1 term2 x2 branch-is (three-past b args2 x3 ∙
+              (ap (λ (x : ℕ). past b args2 x x3) sym2 ∙ wholes.past-is b (args .d) node3 node-gives ensures (pre .1 .1))) ready-moved2 context lower-bytes
+              a-value a-next is-taken),
+          three-well b args2 x3 node2 children (if5 .taken) kids-well (split-node b args2 true 1 1 term2 x2 branch-is (three-past b args2 x3 ∙
+              (ap (λ (x : ℕ). past b args2 x x3) sym2 ∙ wholes.past-is b (args .d) node3 node-gives ensures (pre .1 .1))) ready-moved2 context lower-bytes
+              a-value a-next is-taken),
           omega arith,
           omega arith,
         ),
@@ -1037,17 +1101,21 @@ node-same-length-4 t c = search needs
 
 node-returns-5 : (t : ℕ) → node-lts.Need-returns-5 (node-calls t) (node-at t) node.Post
 node-returns-5 t c =
-    let args2 = c .before .before .before .before .before .before .before .before .before .before .before .before .before .before .before .before .before .before .before .before .before .before .before .args in
-    let pre2 = c .before .before .before .before .before .before .before .before .before .before .before .before .before .before .before .before .before .before .before .before .before .before .before .pre in
-    let node3 = c .before .before .before .before .before .before .before .before .before .before .before .before .before .before .before .before .before .before .before .node in
-    let chooses2 = c .before .before .before .before .before .before .before .before .before .before .before .before .before .before .chooses in
-    let if4-2 = c .before .before .before .before .before .before .before .before .before .before .before .before .before .if4 in
-    let if5-2 = c .before .before .before .before .before .before .before .before .before .before .before .if5 in
-    let lower2 = c .before .before .before .before .before .before .before .before .before .lower in
-    let args = args2 in let pre = pre2 in let node = node3 in let chooses = chooses2 in let if4 = if4-2 in let if5 = if5-2 in let lower = lower2 in
-    let a = c .before .before .before .before .before .a in let branch = c .before .before .branch in let b = args .b .now in let node2 =
-    args .c .node in let x2 = node2 + 16 in let tree-in2 = tree-in (args .d) b node2 in let term2 = term tree-in2 in as-node _ _ term2 term2 _ _ _ _
-    x2 (args .c) _ _ _ refl refl (split-done b (args .d - 1) true 1 1 term2 (node2 + 16 * size tree-in2)
+    let args = c .before .before .before .before .before .before .before .before .before .before .before .before .before .before .before .before .before .before .before .before .before .before .before .args in
+    let pre = c .before .before .before .before .before .before .before .before .before .before .before .before .before .before .before .before .before .before .before .before .before .before .before .pre in
+    let node = c .before .before .before .before .before .before .before .before .before .before .before .before .before .before .before .before .before .before .before .node in
+    let chooses = c .before .before .before .before .before .before .before .before .before .before .before .before .before .before .chooses in
+    let if4 = c .before .before .before .before .before .before .before .before .before .before .before .before .before .if4 in
+    let if5 = c .before .before .before .before .before .before .before .before .before .before .before .if5 in
+    let lower = c .before .before .before .before .before .before .before .before .before .lower in
+    let a = c .before .before .before .before .before .a in
+    let branch = c .before .before .branch in
+    let b = args .b .now in
+    let node2 = args .c .node in
+    let x2 = node2 + 16 in
+    let tree-in2 = tree-in (args .d) b node2 in
+    let term2 = term tree-in2 in
+    as-node _ _ term2 term2 _ _ _ _ x2 (args .c) _ _ _ refl refl (split-done b (args .d - 1) true 1 1 term2 (node2 + 16 * size tree-in2)
     (wholes.branch-is b (args .d) node2 (node .result) (node .ensures .0) (pre .1 .1) (sym (chooses .ensures) ∙ if4 .taken) (if5 .taken)) (three-past
     b (args .d - 1) x2 ∙ (ap (λ (x : ℕ). past b (args .d - 1) x x2) (sym (if5 .taken)) ∙ wholes.past-is b (args .d) node2 (node .result)
     (node .ensures .0) (pre .1 .1))) (ready-moved (pre .1 .0) x2) (context-of (args .kinds .now) (args .l .generated)) (lower .last .1 .0)
@@ -1116,23 +1184,33 @@ node-same-length-5 t c = search needs
 
 node-returns-7 : (t : ℕ) → node-lts.Need-returns-7 (node-calls t) (node-at t) node.Post
 node-returns-7 t c =
-    let args2 = c .before .before .before .before .before .before .before .before .before .before .before .before .before .before .before .before .before .before .args in
-    let pre2 = c .before .before .before .before .before .before .before .before .before .before .before .before .before .before .before .before .before .before .pre in
-    let node3 = c .before .before .before .before .before .before .before .before .before .before .before .before .before .before .node in
-    let if1-2 = c .before .before .before .before .before .before .before .before .before .before .before .before .if1 in
-    let if2-2 = c .before .before .before .before .before .before .before .before .before .before .if2 in
-    let chooses2 = c .before .before .before .before .before .before .before .before .before .chooses in
-    let if4-2 = c .before .before .before .before .before .before .before .before .if4 in
-    let takes2 = c .before .before .before .before .before .before .before .takes in
-    let listing2 = c .before .before .before .before .before .before .listing in
-    let args = args2 in let pre = pre2 in let node = node3 in let if1 = if1-2 in let if2 = if2-2 in let chooses = chooses2 in let if4 = if4-2 in let
-    takes = takes2 in let listing = listing2 in let operands = c .before .before .before .before .operands in let node-gives = node .result in let b =
-    args .b .now in let node2 = args .c .node in let ensures = node .ensures .0 in let x = node2 + 16 in let given4 = c .enum-told2 .given .1 in let
-    children = node-gives .children in let given3 = c .enum-told2 .given .0 .0 in let given2 = c .enum-told2 .given .0 .1 .0 in let sym2 = sym
-    (chooses .ensures) ∙ if4 .left in let term2 = term (tree-in (args .d) b node2) in let terms2 = terms (kids b (args .d - 1) children x) in let
-    knows = wholes.knows b (args .d) node2 node-gives ensures (pre .1 .1) (omega (arith, if1 .left)) (if2 .left) sym2 in let apply-is =
-    wholes.apply-is b (args .d) node2 node-gives ensures (pre .1 .1) (omega (arith, if1 .left)) (if2 .left) sym2 in let op = knows .op in let apply2 =
-    apply op terms2 in as-node _ _ term2 apply2 _ _ _ _ x (args .c) _ _ _ apply-is (wholes.past-is b (args .d) node2 node-gives ensures (pre .1 .1))
+    let args = c .before .before .before .before .before .before .before .before .before .before .before .before .before .before .before .before .before .before .args in
+    let pre = c .before .before .before .before .before .before .before .before .before .before .before .before .before .before .before .before .before .before .pre in
+    let node = c .before .before .before .before .before .before .before .before .before .before .before .before .before .before .node in
+    let if1 = c .before .before .before .before .before .before .before .before .before .before .before .before .if1 in
+    let if2 = c .before .before .before .before .before .before .before .before .before .before .if2 in
+    let chooses = c .before .before .before .before .before .before .before .before .before .chooses in
+    let if4 = c .before .before .before .before .before .before .before .before .if4 in
+    let takes = c .before .before .before .before .before .before .before .takes in
+    let listing = c .before .before .before .before .before .before .listing in
+    let operands = c .before .before .before .before .operands in
+    let node-gives = node .result in
+    let b = args .b .now in
+    let node2 = args .c .node in
+    let ensures = node .ensures .0 in
+    let x = node2 + 16 in
+    let given4 = c .enum-told2 .given .1 in
+    let children = node-gives .children in
+    let given3 = c .enum-told2 .given .0 .0 in
+    let given2 = c .enum-told2 .given .0 .1 .0 in
+    let sym2 = sym (chooses .ensures) ∙ if4 .left in
+    let term2 = term (tree-in (args .d) b node2) in
+    let terms2 = terms (kids b (args .d - 1) children x) in
+    let knows = wholes.knows b (args .d) node2 node-gives ensures (pre .1 .1) (omega (arith, if1 .left)) (if2 .left) sym2 in
+    let apply-is = wholes.apply-is b (args .d) node2 node-gives ensures (pre .1 .1) (omega (arith, if1 .left)) (if2 .left) sym2 in
+    let op = knows .op in
+    let apply2 = apply op terms2 in
+    as-node _ _ term2 apply2 _ _ _ _ x (args .c) _ _ _ apply-is (wholes.past-is b (args .d) node2 node-gives ensures (pre .1 .1))
     (wholes.operands-refused (context-of (args .kinds .now) (args .l .generated)) refl op terms2 node-gives _ (past b (args .d - 1) children x) knows
     refl (wholes.count-kids b (args .d - 1) children x) (ready-term term2 apply2 apply-is (pre .1 .0) x) (operands .last .1 .0) (operands .result)
     given3 given2 (collects.turned _ _ _ _ _ _ _ _ _ given3 given2
@@ -1140,26 +1218,34 @@ node-returns-7 t c =
 
 node-finish-requires : (t : ℕ) → node-lts.Need-finish-requires (node-calls t) (node-at t) node.Post
 node-finish-requires t c κs =
-    let args2 = c .before .before .before .before .before .before .before .before .before .before .before .before .before .before .before .before .before .before .before .before .args in
-    let pre2 = c .before .before .before .before .before .before .before .before .before .before .before .before .before .before .before .before .before .before .before .before .pre in
-    let good2 = c .before .before .before .before .before .before .before .before .before .before .before .before .before .before .before .before .before .before .before .before .good in
-    let node3 = c .before .before .before .before .before .before .before .before .before .before .before .before .before .before .before .before .node in
-    let if1-2 = c .before .before .before .before .before .before .before .before .before .before .before .before .before .before .if1 in
-    let if2-2 = c .before .before .before .before .before .before .before .before .before .before .before .before .if2 in
-    let chooses2 = c .before .before .before .before .before .before .before .before .before .before .before .chooses in
-    let if4-2 = c .before .before .before .before .before .before .before .before .before .before .if4 in
-    let takes2 = c .before .before .before .before .before .before .before .before .before .takes in
-    let listing2 = c .before .before .before .before .before .before .before .before .listing in
-    let operands2 = c .before .before .before .before .before .before .operands in
-    let args = args2 in let pre = pre2 in let good = good2 in let node = node3 in let if1 = if1-2 in let if2 = if2-2 in let chooses = chooses2 in let
-    if4 = if4-2 in let takes = takes2 in let listing = listing2 in let operands = operands2 in let o = c .before .before .o in let b = args .b .now in
-    let node-gives = node .result in let node2 = args .c .node in let o-next = o .given .0 .1 .0 in let x = node2 + 16 in let children =
-    node-gives .children in let sym2 = sym (chooses .ensures) ∙ if4 .left in let context = context-of (args .kinds .now) (args .l .generated) in let
-    after = past b (args .d - 1) children x in let terms2 = terms (kids b (args .d - 1) children x) in let count-kids = wholes.count-kids b
-    (args .d - 1) children x in let knows = wholes.knows b (args .d) node2 node-gives (node .ensures .0) (pre .1 .1) (omega (arith, if1 .left))
-    (if2 .left) sym2 in let op = knows .op in let collected = collects.collected _ _ _ _ _ _ _ _ _ (o .given .0 .0) o-next
-    (lists-as _ _ _ _ _ _ _ _ _ _ _ _ _ _ (takes .ensures) (listing .ensures) (operands .ensures)) (o .given .1) in let ready-term2 = ready-term
-    (term (tree-in (args .d) b node2)) (apply op terms2)
+    let args = c .before .before .before .before .before .before .before .before .before .before .before .before .before .before .before .before .before .before .before .before .args in
+    let pre = c .before .before .before .before .before .before .before .before .before .before .before .before .before .before .before .before .before .before .before .before .pre in
+    let good = c .before .before .before .before .before .before .before .before .before .before .before .before .before .before .before .before .before .before .before .before .good in
+    let node = c .before .before .before .before .before .before .before .before .before .before .before .before .before .before .before .before .node in
+    let if1 = c .before .before .before .before .before .before .before .before .before .before .before .before .before .before .if1 in
+    let if2 = c .before .before .before .before .before .before .before .before .before .before .before .before .if2 in
+    let chooses = c .before .before .before .before .before .before .before .before .before .before .before .chooses in
+    let if4 = c .before .before .before .before .before .before .before .before .before .before .if4 in
+    let takes = c .before .before .before .before .before .before .before .before .before .takes in
+    let listing = c .before .before .before .before .before .before .before .before .listing in
+    let operands = c .before .before .before .before .before .before .operands in
+    let o = c .before .before .o in
+    let b = args .b .now in
+    let node-gives = node .result in
+    let node2 = args .c .node in
+    let o-next = o .given .0 .1 .0 in
+    let x = node2 + 16 in
+    let children = node-gives .children in
+    let sym2 = sym (chooses .ensures) ∙ if4 .left in
+    let context = context-of (args .kinds .now) (args .l .generated) in
+    let after = past b (args .d - 1) children x in
+    let terms2 = terms (kids b (args .d - 1) children x) in
+    let count-kids = wholes.count-kids b (args .d - 1) children x in
+    let knows = wholes.knows b (args .d) node2 node-gives (node .ensures .0) (pre .1 .1) (omega (arith, if1 .left)) (if2 .left) sym2 in
+    let op = knows .op in
+    let collected = collects.collected _ _ _ _ _ _ _ _ _ (o .given .0 .0) o-next
+    (lists-as _ _ _ _ _ _ _ _ _ _ _ _ _ _ (takes .ensures) (listing .ensures) (operands .ensures)) (o .given .1) in
+    let ready-term2 = ready-term (term (tree-in (args .d) b node2)) (apply op terms2)
     (wholes.apply-is b (args .d) node2 node-gives (node .ensures .0) (pre .1 .1) (omega (arith, if1 .left)) (if2 .left) sym2) (pre .1 .0) x in (
       wholes.ready-finish context refl op terms2 node-gives _ after knows refl count-kids ready-term2 (operands .last .1 .0) (o .given .0 .0) o-next
           (operands .kept .1 .0) collected,
@@ -1167,10 +1253,9 @@ node-finish-requires t c κs =
       omega (
         arith,
         node .ensures .1,
-        wholes.ready-operands context refl op terms2 node-gives _ after
-            knows refl count-kids ready-term2 .lists,
-        wholes.e-entry context refl op terms2 node-gives _ after knows refl count-kids ready-term2
-            (operands .last .1 .0) (o .given .0 .0) o-next (operands .kept .1 .0) collected,
+        wholes.ready-operands context refl op terms2 node-gives _ after knows refl count-kids ready-term2 .lists,
+        wholes.e-entry context refl op terms2 node-gives _ after knows refl count-kids ready-term2 (operands .last .1 .0) (o .given .0 .0) o-next
+            (operands .kept .1 .0) collected,
         good .1 .0 .0,
       ),
     )
@@ -1180,24 +1265,32 @@ node-same-length-6 t c = search needs
 
 node-returns-8 : (t : ℕ) → node-lts.Need-returns-8 (node-calls t) (node-at t) node.Post
 node-returns-8 t c =
-    let args2 = c .before .before .before .before .before .before .before .before .before .before .before .before .before .before .before .before .before .before .before .before .before .before .before .args in
-    let pre2 = c .before .before .before .before .before .before .before .before .before .before .before .before .before .before .before .before .before .before .before .before .before .before .before .pre in
-    let node3 = c .before .before .before .before .before .before .before .before .before .before .before .before .before .before .before .before .before .before .before .node in
-    let if1-2 = c .before .before .before .before .before .before .before .before .before .before .before .before .before .before .before .before .before .if1 in
-    let if2-2 = c .before .before .before .before .before .before .before .before .before .before .before .before .before .before .before .if2 in
-    let chooses2 = c .before .before .before .before .before .before .before .before .before .before .before .before .before .before .chooses in
-    let if4-2 = c .before .before .before .before .before .before .before .before .before .before .before .before .before .if4 in
-    let takes2 = c .before .before .before .before .before .before .before .before .before .before .before .before .takes in
-    let listing2 = c .before .before .before .before .before .before .before .before .before .before .before .listing in
-    let operands2 = c .before .before .before .before .before .before .before .before .before .operands in
-    let args = args2 in let pre = pre2 in let node = node3 in let if1 = if1-2 in let if2 = if2-2 in let chooses = chooses2 in let if4 = if4-2 in let
-    takes = takes2 in let listing = listing2 in let operands = operands2 in let o = c .before .before .before .before .before .o in let finish =
-    c .before .before .finish in let node-gives = node .result in let b = args .b .now in let node2 = args .c .node in let ensures = node .ensures .0 in
-    let x = node2 + 16 in let children = node-gives .children in let sym2 = sym (chooses .ensures) ∙ if4 .left in let term2 = term
-    (tree-in (args .d) b node2) in let terms2 = terms (kids b (args .d - 1) children x) in let knows = wholes.knows b (args .d) node2 node-gives
-    ensures (pre .1 .1) (omega (arith, if1 .left)) (if2 .left) sym2 in let apply-is = wholes.apply-is b (args .d) node2 node-gives ensures (pre .1 .1)
-    (omega (arith, if1 .left)) (if2 .left) sym2 in let op = knows .op in let apply2 = apply op terms2 in as-node _ _ term2 apply2 _ _ _ _ x (args .c)
-    _ _ _ apply-is (wholes.past-is b (args .d) node2 node-gives ensures (pre .1 .1)) (wholes.finished
+    let args = c .before .before .before .before .before .before .before .before .before .before .before .before .before .before .before .before .before .before .before .before .before .before .before .args in
+    let pre = c .before .before .before .before .before .before .before .before .before .before .before .before .before .before .before .before .before .before .before .before .before .before .before .pre in
+    let node = c .before .before .before .before .before .before .before .before .before .before .before .before .before .before .before .before .before .before .before .node in
+    let if1 = c .before .before .before .before .before .before .before .before .before .before .before .before .before .before .before .before .before .if1 in
+    let if2 = c .before .before .before .before .before .before .before .before .before .before .before .before .before .before .before .if2 in
+    let chooses = c .before .before .before .before .before .before .before .before .before .before .before .before .before .before .chooses in
+    let if4 = c .before .before .before .before .before .before .before .before .before .before .before .before .before .if4 in
+    let takes = c .before .before .before .before .before .before .before .before .before .before .before .before .takes in
+    let listing = c .before .before .before .before .before .before .before .before .before .before .before .listing in
+    let operands = c .before .before .before .before .before .before .before .before .before .operands in
+    let o = c .before .before .before .before .before .o in
+    let finish = c .before .before .finish in
+    let node-gives = node .result in
+    let b = args .b .now in
+    let node2 = args .c .node in
+    let ensures = node .ensures .0 in
+    let x = node2 + 16 in
+    let children = node-gives .children in
+    let sym2 = sym (chooses .ensures) ∙ if4 .left in
+    let term2 = term (tree-in (args .d) b node2) in
+    let terms2 = terms (kids b (args .d - 1) children x) in
+    let knows = wholes.knows b (args .d) node2 node-gives ensures (pre .1 .1) (omega (arith, if1 .left)) (if2 .left) sym2 in
+    let apply-is = wholes.apply-is b (args .d) node2 node-gives ensures (pre .1 .1) (omega (arith, if1 .left)) (if2 .left) sym2 in
+    let op = knows .op in
+    let apply2 = apply op terms2 in
+    as-node _ _ term2 apply2 _ _ _ _ x (args .c) _ _ _ apply-is (wholes.past-is b (args .d) node2 node-gives ensures (pre .1 .1)) (wholes.finished
     (context-of (args .kinds .now) (args .l .generated)) refl op terms2 node-gives _ (past b (args .d - 1) children x) knows refl
     (wholes.count-kids b (args .d - 1) children x) (ready-term term2 apply2 apply-is (pre .1 .0) x) (operands .last .1 .0) (o .given .0 .0)
     (o .given .0 .1 .0) (operands .kept .1 .0) (collects.collected _ _ _ _ _ _ _ _ _ (o .given .0 .0) (o .given .0 .1 .0)
@@ -1316,44 +1409,56 @@ operands-same-length-2 t c = search needs
 
 operands-returns-3 : (t : ℕ) → operands-lts.Need-returns-3 (operands-calls t) (operands-at t) operands.Post
 operands-returns-3 t c =
-    let args2 = c .before .before .before .before .before .before .before .before .before .before .before .before .before .before .before .before .before .args in
-    let pre2 = c .before .before .before .before .before .before .before .before .before .before .before .before .before .before .before .before .before .pre in
-    let if1-2 = c .before .before .before .before .before .before .before .before .before .before .before .before .before .if1 in
-    let lower2 = c .before .before .before .before .before .before .before .before .before .before .before .lower in
-    let a2 = c .before .before .before .before .before .before .before .a in
-    let args = args2 in let pre = pre2 in let if1 = if1-2 in let lower = lower2 in let a = a2 in let operands = c .before .before .before .before .operands in
-    let b = args .b .now in let node = args .c .node in let a-next = a .given .0 .1 .0 in let given4 = c .enum-told2 .given .1 in let given3 =
-    c .enum-told2 .given .0 .0 in let given2 = c .enum-told2 .given .0 .1 .0 in let after2 = past b (args .d) 1 node in let context = context-of
-    (args .kinds .now) (args .l .generated) in let whole = arm b (args .d) true 1 node in let after = past b (args .d) (args .left) node in let terms2 =
-    terms (kids b (args .d) (args .left - 1) after2) in let is-taken = taken _ _ _ _ _ _ (a .given .0 .0) a-next
-    (at-argument _ _ _ _ (args .i) _ _ _ _ _ _ (lower .ensures)) (a .given .1) in operands-as _ _ _ _ _ _ _ _ _ _ _ _ b (args .d) (args .left) node
-    (λ z. if1 .left z) (collects.rest-refused (args .lists) context (args .want) whole terms2 (args .i) after2 after
-    (operands-ready b (args .d) (args .left) node (args .lists) (args .i) (λ z. if1 .left z) (pre .1 .0)) (lower .last .1 .0) (a .given .0 .0) a-next
-    is-taken (operands .last .1 .0) (operands .result) given3 given2 (collects.turned _ _ _ _ _ _ _ _ _ given3 given2 (rest-as _ _ _ _ _ _ _ _ _ _ _ b
-    (args .d) (args .left) node (a-next .node) (collects.is-node (args .lists) context (args .want) whole terms2 (args .i) after2 after
-    (operands-ready b (args .d) (args .left) node (args .lists) (args .i) (λ z. if1 .left z) (pre .1 .0)) (lower .last .1 .0) (a .given .0 .0) a-next
-    is-taken) (λ z. if1 .left z) (operands .ensures)) given4) given4)
+    let args = c .before .before .before .before .before .before .before .before .before .before .before .before .before .before .before .before .before .args in
+    let pre = c .before .before .before .before .before .before .before .before .before .before .before .before .before .before .before .before .before .pre in
+    let if1 = c .before .before .before .before .before .before .before .before .before .before .before .before .before .if1 in
+    let lower = c .before .before .before .before .before .before .before .before .before .before .before .lower in
+    let a = c .before .before .before .before .before .before .before .a in
+    let operands = c .before .before .before .before .operands in
+    let b = args .b .now in
+    let node = args .c .node in
+    let a-next = a .given .0 .1 .0 in
+    let given4 = c .enum-told2 .given .1 in
+    let given3 = c .enum-told2 .given .0 .0 in
+    let given2 = c .enum-told2 .given .0 .1 .0 in
+    let after2 = past b (args .d) 1 node in
+    let context = context-of (args .kinds .now) (args .l .generated) in
+    let whole = arm b (args .d) true 1 node in
+    let after = past b (args .d) (args .left) node in
+    let terms2 = terms (kids b (args .d) (args .left - 1) after2) in
+    let is-taken = taken _ _ _ _ _ _ (a .given .0 .0) a-next (at-argument _ _ _ _ (args .i) _ _ _ _ _ _ (lower .ensures)) (a .given .1) in
+    operands-as _ _ _ _ _ _ _ _ _ _ _ _ b (args .d) (args .left) node (λ z. if1 .left z) (collects.rest-refused (args .lists) context (args .want)
+    whole terms2 (args .i) after2 after (operands-ready b (args .d) (args .left) node (args .lists) (args .i) (λ z. if1 .left z) (pre .1 .0))
+    (lower .last .1 .0) (a .given .0 .0) a-next is-taken (operands .last .1 .0) (operands .result) given3 given2 (collects.turned _ _ _ _ _ _ _ _ _
+    given3 given2 (rest-as _ _ _ _ _ _ _ _ _ _ _ b (args .d) (args .left) node (a-next .node) (collects.is-node (args .lists) context (args .want)
+    whole terms2 (args .i) after2 after (operands-ready b (args .d) (args .left) node (args .lists) (args .i) (λ z. if1 .left z) (pre .1 .0))
+    (lower .last .1 .0) (a .given .0 .0) a-next is-taken) (λ z. if1 .left z) (operands .ensures)) given4) given4)
 
 operands-same-requires : (t : ℕ) → operands-lts.Need-same-requires (operands-calls t) (operands-at t) operands.Post
 operands-same-requires t c κs = search needs
 
 operands-add-list-entry : (t : ℕ) → operands-lts.Need-add-list-entry (operands-calls t) (operands-at t) operands.Post
 operands-add-list-entry t c =
-    let args2 = c .before .before .before .before .before .before .before .before .before .before .before .before .before .before .before .before .before .before .before .before .before .args in
-    let pre2 = c .before .before .before .before .before .before .before .before .before .before .before .before .before .before .before .before .before .before .before .before .before .pre in
-    let good2 = c .before .before .before .before .before .before .before .before .before .before .before .before .before .before .before .before .before .before .before .before .before .good in
-    let if1-2 = c .before .before .before .before .before .before .before .before .before .before .before .before .before .before .before .before .before .if1 in
-    let lower2 = c .before .before .before .before .before .before .before .before .before .before .before .before .before .before .before .lower in
-    let a2 = c .before .before .before .before .before .before .before .before .before .before .before .a in
-    let operands2 = c .before .before .before .before .before .before .before .before .operands in
-    let args = args2 in let pre = pre2 in let good = good2 in let if1 = if1-2 in let lower = lower2 in let a = a2 in let operands = operands2 in let
-    rest = c .before .before .before .before .rest in let b = args .b .now in let node = args .c .node in let a-next = a .given .0 .1 .0 in let after2 =
-    past b (args .d) 1 node in let context = context-of (args .kinds .now) (args .l .generated) in let whole = arm b (args .d) true 1 node in let
-    after = past b (args .d) (args .left) node in let terms2 = terms (kids b (args .d) (args .left - 1) after2) in let is-taken = taken _ _ _ _ _ _
-    (a .given .0 .0) a-next (at-argument _ _ _ _ (args .i) _ _ _ _ _ _ (lower .ensures)) (a .given .1) in omega (
+    let args = c .before .before .before .before .before .before .before .before .before .before .before .before .before .before .before .before .before .before .before .before .before .args in
+    let pre = c .before .before .before .before .before .before .before .before .before .before .before .before .before .before .before .before .before .before .before .before .before .pre in
+    let good = c .before .before .before .before .before .before .before .before .before .before .before .before .before .before .before .before .before .before .before .before .before .good in
+    let if1 = c .before .before .before .before .before .before .before .before .before .before .before .before .before .before .before .before .before .if1 in
+    let lower = c .before .before .before .before .before .before .before .before .before .before .before .before .before .before .before .lower in
+    let a = c .before .before .before .before .before .before .before .before .before .before .before .a in
+    let operands = c .before .before .before .before .before .before .before .before .operands in
+    let rest = c .before .before .before .before .rest in
+    let b = args .b .now in
+    let node = args .c .node in
+    let a-next = a .given .0 .1 .0 in
+    let after2 = past b (args .d) 1 node in
+    let context = context-of (args .kinds .now) (args .l .generated) in
+    let whole = arm b (args .d) true 1 node in
+    let after = past b (args .d) (args .left) node in
+    let terms2 = terms (kids b (args .d) (args .left - 1) after2) in
+    let is-taken = taken _ _ _ _ _ _ (a .given .0 .0) a-next (at-argument _ _ _ _ (args .i) _ _ _ _ _ _ (lower .ensures)) (a .given .1) in
+    omega (
       arith,
-      collects.entry-small
-          (args .lists) context (args .want) whole terms2 (args .i) after2 after
+      collects.entry-small (args .lists) context (args .want) whole terms2 (args .i) after2 after
           (operands-ready b (args .d) (args .left) node (args .lists) (args .i) (λ z. if1 .left z) (pre .1 .0)) (lower .last .1 .0) (a .given .0 .0) a-next
           is-taken (operands .last .1 .0) (rest .given .0 .0) (rest .given .0 .1 .0) (operands .kept .1 .0) (collects.collected _ _ _ _ _ _ _ _ _
           (rest .given .0 .0) (rest .given .0 .1 .0) (rest-as _ _ _ _ _ _ _ _ _ _ _ b (args .d) (args .left) node (a-next .node) (collects.is-node
@@ -1366,21 +1471,27 @@ operands-add-list-entry t c =
 
 operands-list-entry-requires : (t : ℕ) → operands-lts.Need-list-entry-requires (operands-calls t) (operands-at t) operands.Post
 operands-list-entry-requires t c κs =
-    let args2 = c .before .before .before .before .before .before .before .before .before .before .before .before .before .before .before .before .before .before .before .before .before .args in
-    let pre2 = c .before .before .before .before .before .before .before .before .before .before .before .before .before .before .before .before .before .before .before .before .before .pre in
-    let if1-2 = c .before .before .before .before .before .before .before .before .before .before .before .before .before .before .before .before .before .if1 in
-    let lower2 = c .before .before .before .before .before .before .before .before .before .before .before .before .before .before .before .lower in
-    let a2 = c .before .before .before .before .before .before .before .before .before .before .before .a in
-    let operands2 = c .before .before .before .before .before .before .before .before .operands in
-    let args = args2 in let pre = pre2 in let if1 = if1-2 in let lower = lower2 in let a = a2 in let operands = operands2 in let rest = c .before .before .before .before .rest in
-    let b = args .b .now in let node = args .c .node in let a-next = a .given .0 .1 .0 in let after2 = past b (args .d) 1 node in let context =
-    context-of (args .kinds .now) (args .l .generated) in let whole = arm b (args .d) true 1 node in let after = past b (args .d) (args .left) node in
-    let terms2 = terms (kids b (args .d) (args .left - 1) after2) in let is-taken = taken _ _ _ _ _ _ (a .given .0 .0) a-next
-    (at-argument _ _ _ _ (args .i) _ _ _ _ _ _ (lower .ensures)) (a .given .1) in collects.entry-room (args .lists) context (args .want) whole terms2
-    (args .i) after2 after (operands-ready b (args .d) (args .left) node (args .lists) (args .i) (λ z. if1 .left z) (pre .1 .0)) (lower .last .1 .0)
-    (a .given .0 .0) a-next is-taken (operands .last .1 .0) (rest .given .0 .0) (rest .given .0 .1 .0) (operands .kept .1 .0) (collects.collected _ _
-    _ _ _ _ _ _ _ (rest .given .0 .0) (rest .given .0 .1 .0) (rest-as _ _ _ _ _ _ _ _ _ _ _ b (args .d) (args .left) node (a-next .node)
-    (collects.is-node (args .lists) context (args .want) whole terms2 (args .i) after2 after
+    let args = c .before .before .before .before .before .before .before .before .before .before .before .before .before .before .before .before .before .before .before .before .before .args in
+    let pre = c .before .before .before .before .before .before .before .before .before .before .before .before .before .before .before .before .before .before .before .before .before .pre in
+    let if1 = c .before .before .before .before .before .before .before .before .before .before .before .before .before .before .before .before .before .if1 in
+    let lower = c .before .before .before .before .before .before .before .before .before .before .before .before .before .before .before .lower in
+    let a = c .before .before .before .before .before .before .before .before .before .before .before .a in
+    let operands = c .before .before .before .before .before .before .before .before .operands in
+    let rest = c .before .before .before .before .rest in
+    let b = args .b .now in
+    let node = args .c .node in
+    let a-next = a .given .0 .1 .0 in
+    let after2 = past b (args .d) 1 node in
+    let context = context-of (args .kinds .now) (args .l .generated) in
+    let whole = arm b (args .d) true 1 node in
+    let after = past b (args .d) (args .left) node in
+    let terms2 = terms (kids b (args .d) (args .left - 1) after2) in
+    let is-taken = taken _ _ _ _ _ _ (a .given .0 .0) a-next (at-argument _ _ _ _ (args .i) _ _ _ _ _ _ (lower .ensures)) (a .given .1) in
+    collects.entry-room (args .lists) context (args .want) whole terms2 (args .i) after2 after
+    (operands-ready b (args .d) (args .left) node (args .lists) (args .i) (λ z. if1 .left z) (pre .1 .0)) (lower .last .1 .0) (a .given .0 .0) a-next
+    is-taken (operands .last .1 .0) (rest .given .0 .0) (rest .given .0 .1 .0) (operands .kept .1 .0) (collects.collected _ _ _ _ _ _ _ _ _
+    (rest .given .0 .0) (rest .given .0 .1 .0) (rest-as _ _ _ _ _ _ _ _ _ _ _ b (args .d) (args .left) node (a-next .node) (collects.is-node
+    (args .lists) context (args .want) whole terms2 (args .i) after2 after
     (operands-ready b (args .d) (args .left) node (args .lists) (args .i) (λ z. if1 .left z) (pre .1 .0)) (lower .last .1 .0) (a .given .0 .0) a-next
     is-taken) (λ z. if1 .left z) (operands .ensures)) (rest .given .1))
 
@@ -1392,32 +1503,36 @@ operands-any-requires t c κs = search needs
 
 operands-same-length-3 : (t : ℕ) → operands-lts.Need-same-length-3 (operands-calls t) (operands-at t) operands.Post
 operands-same-length-3 t c =
-    let lower2 = c .before .before .before .before .before .before .before .before .before .before .before .before .before .before .before .before .before .before .before .before .lower in
-    let operands2 = c .before .before .before .before .before .before .before .before .before .before .before .before .before .operands in
-    let lower = lower2 in let operands = operands2 in omega
-    (arith, c .before .before .before .before .list-entry .kept .0, operands .kept .1 .0, lower .kept .1 .0)
+    let lower = c .before .before .before .before .before .before .before .before .before .before .before .before .before .before .before .before .before .before .before .before .lower in
+    let operands = c .before .before .before .before .before .before .before .before .before .before .before .before .before .operands in
+    omega (arith, c .before .before .before .before .list-entry .kept .0, operands .kept .1 .0, lower .kept .1 .0)
 
 operands-returns-4 : (t : ℕ) → operands-lts.Need-returns-4 (operands-calls t) (operands-at t) operands.Post
 operands-returns-4 t c =
-    let args2 = c .before .before .before .before .before .before .before .before .before .before .before .before .before .before .before .before .before .before .before .before .before .before .before .before .before .before .args in
-    let pre2 = c .before .before .before .before .before .before .before .before .before .before .before .before .before .before .before .before .before .before .before .before .before .before .before .before .before .before .pre in
-    let if1-2 = c .before .before .before .before .before .before .before .before .before .before .before .before .before .before .before .before .before .before .before .before .before .before .if1 in
-    let lower2 = c .before .before .before .before .before .before .before .before .before .before .before .before .before .before .before .before .before .before .before .before .lower in
-    let a2 = c .before .before .before .before .before .before .before .before .before .before .before .before .before .before .before .before .a in
-    let operands2 = c .before .before .before .before .before .before .before .before .before .before .before .before .before .operands in
-    let rest2 = c .before .before .before .before .before .before .before .before .before .rest in
-    let same2 = c .before .before .before .before .before .before .before .same in
-    let args = args2 in let pre = pre2 in let if1 = if1-2 in let lower = lower2 in let a = a2 in let operands = operands2 in let rest = rest2 in let
-    same = same2 in let list-entry = c .before .before .before .before .list-entry in let b = args .b .now in let node = args .c .node in let
-    rest-value = rest .given .0 .0 in let a-next = a .given .0 .1 .0 in let after2 = past b (args .d) 1 node in let context = context-of
-    (args .kinds .now) (args .l .generated) in let whole = arm b (args .d) true 1 node in let after = past b (args .d) (args .left) node in let terms2 =
-    terms (kids b (args .d) (args .left - 1) after2) in let is-taken = taken _ _ _ _ _ _ (a .given .0 .0) a-next
-    (at-argument _ _ _ _ (args .i) _ _ _ _ _ _ (lower .ensures)) (a .given .1) in operands-as _ _ _ _ _ _ _ _ _ _ _ _ b (args .d) (args .left) node
-    (λ z. if1 .left z) (collects.all-collected (args .lists) context (args .want) whole terms2 (args .i) after2 after
-    (operands-ready b (args .d) (args .left) node (args .lists) (args .i) (λ z. if1 .left z) (pre .1 .0)) (lower .last .1 .0) (a .given .0 .0) a-next
-    is-taken (operands .last .1 .0) rest-value (rest .given .0 .1 .0) (operands .kept .1 .0) (collects.collected _ _ _ _ _ _ _ _ _ rest-value
-    (rest .given .0 .1 .0) (rest-as _ _ _ _ _ _ _ _ _ _ _ b (args .d) (args .left) node (a-next .node) (collects.is-node (args .lists) context
-    (args .want) whole terms2 (args .i) after2 after
+    let args = c .before .before .before .before .before .before .before .before .before .before .before .before .before .before .before .before .before .before .before .before .before .before .before .before .before .before .args in
+    let pre = c .before .before .before .before .before .before .before .before .before .before .before .before .before .before .before .before .before .before .before .before .before .before .before .before .before .before .pre in
+    let if1 = c .before .before .before .before .before .before .before .before .before .before .before .before .before .before .before .before .before .before .before .before .before .before .if1 in
+    let lower = c .before .before .before .before .before .before .before .before .before .before .before .before .before .before .before .before .before .before .before .before .lower in
+    let a = c .before .before .before .before .before .before .before .before .before .before .before .before .before .before .before .before .a in
+    let operands = c .before .before .before .before .before .before .before .before .before .before .before .before .before .operands in
+    let rest = c .before .before .before .before .before .before .before .before .before .rest in
+    let same = c .before .before .before .before .before .before .before .same in
+    let list-entry = c .before .before .before .before .list-entry in
+    let b = args .b .now in
+    let node = args .c .node in
+    let rest-value = rest .given .0 .0 in
+    let a-next = a .given .0 .1 .0 in
+    let after2 = past b (args .d) 1 node in
+    let context = context-of (args .kinds .now) (args .l .generated) in
+    let whole = arm b (args .d) true 1 node in
+    let after = past b (args .d) (args .left) node in
+    let terms2 = terms (kids b (args .d) (args .left - 1) after2) in
+    let is-taken = taken _ _ _ _ _ _ (a .given .0 .0) a-next (at-argument _ _ _ _ (args .i) _ _ _ _ _ _ (lower .ensures)) (a .given .1) in
+    operands-as _ _ _ _ _ _ _ _ _ _ _ _ b (args .d) (args .left) node (λ z. if1 .left z) (collects.all-collected (args .lists) context (args .want)
+    whole terms2 (args .i) after2 after (operands-ready b (args .d) (args .left) node (args .lists) (args .i) (λ z. if1 .left z) (pre .1 .0))
+    (lower .last .1 .0) (a .given .0 .0) a-next is-taken (operands .last .1 .0) rest-value (rest .given .0 .1 .0) (operands .kept .1 .0)
+    (collects.collected _ _ _ _ _ _ _ _ _ rest-value (rest .given .0 .1 .0) (rest-as _ _ _ _ _ _ _ _ _ _ _ b (args .d) (args .left) node
+    (a-next .node) (collects.is-node (args .lists) context (args .want) whole terms2 (args .i) after2 after
     (operands-ready b (args .d) (args .left) node (args .lists) (args .i) (λ z. if1 .left z) (pre .1 .0)) (lower .last .1 .0) (a .given .0 .0) a-next
     is-taken) (λ z. if1 .left z) (operands .ensures)) (rest .given .1)) (list-entry .last .0) (c .before .all .result) (c .any .result)
     (list-entry .ensures) (c .before .all .ensures ∙ ap (λ (x : Bool). x && rest-value .boolean) (same .ensures)) (c .any .ensures))

@@ -229,44 +229,44 @@ survey-both-requires t c κs = search needs
 
 survey-mul-next : (t : ℕ) → survey-lts.Need-mul-next (survey-calls t) (survey-at t) survey.Post survey-Inv-loop survey-μ-loop
 survey-mul-next t c =
-    let args2 = c .before .before .before .before .before .before .before .before .before .before .before .before .before .before .before .before .args in
-    let loop2 = c .before .before .before .before .before .before .before .before .before .before .before .loop in
-    let loop-test2 = c .before .before .before .before .before .before .before .before .before .before .loop-test in
-    let survey2 = c .before .before .before .before .before .before .before .before .survey in
-    let args = args2 in let loop = loop2 in let loop-test = loop-test2 in let survey = survey2 in let h = row-there (args .by .symbol)
-    (args .by .state) (args .f .now) (args .table .now) (args .k) (args .depth) (loop .inv .0) (loop .table) (loop .has) (loop .fine) (loop .levels)
-    (loop .next) (loop .left) (loop .inv .1) (λ e. omega (arith, loop-test .taken)) in omega (arith, h, survey .kept .1 .1 .1 .1 .0)
+    let args = c .before .before .before .before .before .before .before .before .before .before .before .before .before .before .before .before .args in
+    let loop = c .before .before .before .before .before .before .before .before .before .before .before .loop in
+    let loop-test = c .before .before .before .before .before .before .before .before .before .before .loop-test in
+    let survey = c .before .before .before .before .before .before .before .before .survey in
+    let h = row-there (args .by .symbol) (args .by .state) (args .f .now) (args .table .now) (args .k) (args .depth) (loop .inv .0) (loop .table)
+    (loop .has) (loop .fine) (loop .levels) (loop .next) (loop .left) (loop .inv .1) (λ e. omega (arith, loop-test .taken)) in omega
+    (arith, h, survey .kept .1 .1 .1 .1 .0)
 
 survey-mul-next-2 : (t : ℕ) → survey-lts.Need-mul-next-2 (survey-calls t) (survey-at t) survey.Post survey-Inv-loop survey-μ-loop
 survey-mul-next-2 t c =
-    let args2 = c .before .before .before .before .before .before .before .before .before .before .before .before .before .before .before .before .args in
-    let loop2 = c .before .before .before .before .before .before .before .before .before .before .before .loop in
-    let loop-test2 = c .before .before .before .before .before .before .before .before .before .before .loop-test in
-    let survey2 = c .before .before .before .before .before .before .before .before .survey in
-    let args = args2 in let loop = loop2 in let loop-test = loop-test2 in let survey = survey2 in let h = row-there (args .by .symbol)
-    (args .by .state) (args .f .now) (args .table .now) (args .k) (args .depth) (loop .inv .0) (loop .table) (loop .has) (loop .fine) (loop .levels)
-    (loop .next) (loop .left) (loop .inv .1) (λ e. omega (arith, loop-test .taken)) in omega (arith, h, survey .kept .1 .1 .1 .1 .0)
+    let args = c .before .before .before .before .before .before .before .before .before .before .before .before .before .before .before .before .args in
+    let loop = c .before .before .before .before .before .before .before .before .before .before .before .loop in
+    let loop-test = c .before .before .before .before .before .before .before .before .before .before .loop-test in
+    let survey = c .before .before .before .before .before .before .before .before .survey in
+    let h = row-there (args .by .symbol) (args .by .state) (args .f .now) (args .table .now) (args .k) (args .depth) (loop .inv .0) (loop .table)
+    (loop .has) (loop .fine) (loop .levels) (loop .next) (loop .left) (loop .inv .1) (λ e. omega (arith, loop-test .taken)) in omega
+    (arith, h, survey .kept .1 .1 .1 .1 .0)
 
 survey-slice-read-next : (t : ℕ) → survey-lts.Need-slice-read-next (survey-calls t) (survey-at t) survey.Post survey-Inv-loop survey-μ-loop
 survey-slice-read-next t c =
-    let args2 = c .before .before .before .before .before .before .before .before .before .before .before .before .before .before .before .before .before .args in
-    let loop2 = c .before .before .before .before .before .before .before .before .before .before .before .before .loop in
-    let loop-test2 = c .before .before .before .before .before .before .before .before .before .before .before .loop-test in
-    let survey2 = c .before .before .before .before .before .before .before .before .before .survey in
-    let args = args2 in let loop = loop2 in let loop-test = loop-test2 in let survey = survey2 in let h = row-there (args .by .symbol)
-    (args .by .state) (args .f .now) (args .table .now) (args .k) (args .depth) (loop .inv .0) (loop .table) (loop .has) (loop .fine) (loop .levels)
-    (loop .next) (loop .left) (loop .inv .1) (λ e. omega (arith, loop-test .taken)) in omega (arith, h, survey .kept .1 .1 .1 .1 .0)
+    let args = c .before .before .before .before .before .before .before .before .before .before .before .before .before .before .before .before .before .args in
+    let loop = c .before .before .before .before .before .before .before .before .before .before .before .before .loop in
+    let loop-test = c .before .before .before .before .before .before .before .before .before .before .before .loop-test in
+    let survey = c .before .before .before .before .before .before .before .before .before .survey in
+    let h = row-there (args .by .symbol) (args .by .state) (args .f .now) (args .table .now) (args .k) (args .depth) (loop .inv .0) (loop .table)
+    (loop .has) (loop .fine) (loop .levels) (loop .next) (loop .left) (loop .inv .1) (λ e. omega (arith, loop-test .taken)) in omega
+    (arith, h, survey .kept .1 .1 .1 .1 .0)
 
 survey-add-next-2 : (t : ℕ) → survey-lts.Need-add-next-2 (survey-calls t) (survey-at t) survey.Post survey-Inv-loop survey-μ-loop
 survey-add-next-2 t c =
-    let args2 = c .before .before .before .before .before .before .before .before .before .before .before .before .before .before .before .before .before .args in
-    let loop2 = c .before .before .before .before .before .before .before .before .before .before .before .before .loop in
-    let loop-test2 = c .before .before .before .before .before .before .before .before .before .before .before .loop-test in
-    let survey2 = c .before .before .before .before .before .before .before .before .before .survey in
-    let args = args2 in let loop = loop2 in let loop-test = loop-test2 in let survey = survey2 in let h = child-room (args .by .symbol)
-    (args .by .state) (args .f .now) (args .table .now) (args .k) (args .depth) (loop .inv .0) (loop .table) (loop .has) (loop .fine) (loop .levels)
-    (loop .next) (loop .left) (loop .inv .1) (λ e. omega (arith, loop-test .taken)) in let o = survey .ensures .own (loop .next) (omega arith)
-    (omega (arith, size-pos (tree (args .f .now) (loop .next)))) .nodes in omega (arith, h .long, o, loop .inv .1 .same-length)
+    let args = c .before .before .before .before .before .before .before .before .before .before .before .before .before .before .before .before .before .args in
+    let loop = c .before .before .before .before .before .before .before .before .before .before .before .before .loop in
+    let loop-test = c .before .before .before .before .before .before .before .before .before .before .before .loop-test in
+    let survey = c .before .before .before .before .before .before .before .before .before .survey in
+    let h = child-room (args .by .symbol) (args .by .state) (args .f .now) (args .table .now) (args .k) (args .depth) (loop .inv .0) (loop .table)
+    (loop .has) (loop .fine) (loop .levels) (loop .next) (loop .left) (loop .inv .1) (λ e. omega (arith, loop-test .taken)) in let o =
+    survey .ensures .own (loop .next) (omega arith) (omega (arith, size-pos (tree (args .f .now) (loop .next)))) .nodes in omega
+    (arith, h .long, o, loop .inv .1 .same-length)
 
 survey-sub-left : (t : ℕ) → survey-lts.Need-sub-left (survey-calls t) (survey-at t) survey.Post survey-Inv-loop survey-μ-loop
 survey-sub-left t c = omega (arith, c .before .before .before .before .before .before .before .before .before .before .before .loop-test .taken)
@@ -276,17 +276,17 @@ survey-loop-less t c = omega (arith, c .before .before .before .before .before .
 
 survey-loop-again : (t : ℕ) → survey-lts.Need-loop-again (survey-calls t) (survey-at t) survey.Post survey-Inv-loop survey-μ-loop
 survey-loop-again t c =
-    let args2 = c .before .before .before .before .before .before .before .before .before .before .before .before .before .before .before .before .before .args in
-    let loop2 = c .before .before .before .before .before .before .before .before .before .before .before .before .loop in
-    let loop-test2 = c .before .before .before .before .before .before .before .before .before .before .before .loop-test in
-    let survey2 = c .before .before .before .before .before .before .before .before .before .survey in
-    let args = args2 in let loop = loop2 in let loop-test = loop-test2 in let survey = survey2 in let larger = c .before .before .before .before .before .larger in
+    let args = c .before .before .before .before .before .before .before .before .before .before .before .before .before .before .before .before .before .args in
+    let loop = c .before .before .before .before .before .before .before .before .before .before .before .before .loop in
+    let loop-test = c .before .before .before .before .before .before .before .before .before .before .before .loop-test in
+    let survey = c .before .before .before .before .before .before .before .before .before .survey in
+    let larger = c .before .before .before .before .before .larger in
     let either = c .before .before .before .either in (
       loop .inv .0,
-      going-next (args .by .symbol) (args .by .state) (args .f .now) (args .table .now)
-          (args .k) (args .depth) (loop .inv .0) (loop .table) (loop .has) (loop .fine) (loop .levels) (loop .next) (loop .left) (loop .inv .1)
-          (λ e. omega (arith, loop-test .taken)) (survey .last .1 .1 .1 .1 .0) (survey .kept .1 .1 .1 .1 .0) (survey .ensures) (either .result)
-          (c .before .both .result) (larger .result) _ (either .ensures) (c .before .both .ensures) (larger .ensures) refl,
+      going-next (args .by .symbol) (args .by .state) (args .f .now) (args .table .now) (args .k) (args .depth) (loop .inv .0) (loop .table)
+          (loop .has) (loop .fine) (loop .levels) (loop .next) (loop .left) (loop .inv .1) (λ e. omega (arith, loop-test .taken))
+          (survey .last .1 .1 .1 .1 .0) (survey .kept .1 .1 .1 .1 .0) (survey .ensures) (either .result) (c .before .both .result) (larger .result) _
+          (either .ensures) (c .before .both .ensures) (larger .ensures) refl,
     )
 
 survey-sub-put-own : (t : ℕ) → survey-lts.Need-sub-put-own (survey-calls t) (survey-at t) survey.Post survey-Inv-loop survey-μ-loop
@@ -310,15 +310,15 @@ survey-put-own-requires t c κs =
 
 survey-diff-of-requires : (t : ℕ) → survey-lts.Need-diff-of-requires (survey-calls t) (survey-at t) survey.Post survey-Inv-loop survey-μ-loop
 survey-diff-of-requires t c κs =
-    let args2 = c .before .before .before .before .before .before .before .before .before .before .before .args in
-    let loop2 = c .before .before .before .before .before .before .loop in
-    let args = args2 in let loop = loop2 in let loop-test = c .before .before .before .before .before .loop-test in let put-own = c .before .before .before .put-own in (
+    let args = c .before .before .before .before .before .before .before .before .before .before .before .args in
+    let loop = c .before .before .before .before .before .before .loop in
+    let loop-test = c .before .before .before .before .before .loop-test in
+    let put-own = c .before .before .before .put-own in (
       ready (args .by .symbol) (args .by .state) (args .f .now) (args .table .now) (args .k) (args .depth) (loop .inv .0) (loop .table) (loop .has)
           (loop .fine) (loop .levels) (loop .next) (loop .left) (loop .inv .1) (omega (arith, loop-test .left)) (put-own .last .0) (loop .next - args .k)
           (loop .levels + 1) (put-own .kept .0) (put-own .ensures) refl refl,
-      symbol-is (args .by .symbol) (args .by .state) (args .f .now)
-          (args .table .now) (args .k) (args .depth) (loop .inv .0) (loop .table) (loop .has) (loop .fine) (loop .levels) (loop .next) (loop .left)
-          (loop .inv .1) (omega (arith, loop-test .left)),
+      symbol-is (args .by .symbol) (args .by .state) (args .f .now) (args .table .now) (args .k) (args .depth) (loop .inv .0) (loop .table)
+          (loop .has) (loop .fine) (loop .levels) (loop .next) (loop .left) (loop .inv .1) (omega (arith, loop-test .left)),
     )
 
 survey-both-requires-2 : (t : ℕ) → survey-lts.Need-both-requires-2 (survey-calls t) (survey-at t) survey.Post survey-Inv-loop survey-μ-loop
@@ -329,13 +329,13 @@ survey-either-requires-2 t c κs = search needs
 
 survey-put-diff-requires : (t : ℕ) → survey-lts.Need-put-diff-requires (survey-calls t) (survey-at t) survey.Post survey-Inv-loop survey-μ-loop
 survey-put-diff-requires t c κs =
-    let args2 = c .before .before .before .before .before .before .before .before .before .before .before .before .before .before .before .before .args in
-    let loop2 = c .before .before .before .before .before .before .before .before .before .before .before .loop in
-    let loop-test2 = c .before .before .before .before .before .before .before .before .before .before .loop-test in
-    let put-own2 = c .before .before .before .before .before .before .before .before .put-own in
-    let args = args2 in let loop = loop2 in let loop-test = loop-test2 in let put-own = put-own2 in let h = own-room (args .by .symbol)
-    (args .by .state) (args .f .now) (args .table .now) (args .k) (args .depth) (loop .inv .0) (loop .table) (loop .has) (loop .fine) (loop .levels)
-    (loop .next) (loop .left) (loop .inv .1) (omega (arith, loop-test .left)) in omega (arith, h, put-own .kept .0)
+    let args = c .before .before .before .before .before .before .before .before .before .before .before .before .before .before .before .before .args in
+    let loop = c .before .before .before .before .before .before .before .before .before .before .before .loop in
+    let loop-test = c .before .before .before .before .before .before .before .before .before .before .loop-test in
+    let put-own = c .before .before .before .before .before .before .before .before .put-own in
+    let h = own-room (args .by .symbol) (args .by .state) (args .f .now) (args .table .now) (args .k) (args .depth) (loop .inv .0) (loop .table)
+    (loop .has) (loop .fine) (loop .levels) (loop .next) (loop .left) (loop .inv .1) (omega (arith, loop-test .left)) in omega
+    (arith, h, put-own .kept .0)
 
 survey-same-length : (t : ℕ) → survey-lts.Need-same-length (survey-calls t) (survey-at t) survey.Post survey-Inv-loop survey-μ-loop
 survey-same-length t c =
@@ -345,18 +345,22 @@ survey-same-length t c =
 
 survey-returns : (t : ℕ) → survey-lts.Need-returns (survey-calls t) (survey-at t) survey.Post survey-Inv-loop survey-μ-loop
 survey-returns t c =
-    let args2 = c .before .before .before .before .before .before .before .before .before .before .before .before .before .before .before .before .before .before .before .args in
-    let loop2 = c .before .before .before .before .before .before .before .before .before .before .before .before .before .before .loop in
-    let loop-test2 = c .before .before .before .before .before .before .before .before .before .before .before .before .before .loop-test in
-    let put-own2 = c .before .before .before .before .before .before .before .before .before .before .before .put-own in
-    let diff-of2 = c .before .before .before .before .before .before .before .diff-of in
-    let args = args2 in let loop = loop2 in let loop-test = loop-test2 in let put-own = put-own2 in let diff-of = diff-of2 in let both2 = c .before .before .before .before .both2 in
-    let either2 = c .before .before .before .either2 in let f = args .f .now in let state = args .by .state in let table = args .table .now in let
-    symbol = args .by .symbol in let symbol-is2 = symbol-is symbol state f table (args .k) (args .depth) (loop .inv .0) (loop .table) (loop .has)
-    (loop .fine) (loop .levels) (loop .next) (loop .left) (loop .inv .1) (omega (arith, loop-test .left)) in filled symbol state f table (args .k)
-    (args .depth) (loop .inv .0) (loop .table) (loop .has) (loop .fine) (loop .levels) (loop .next) (loop .left) (loop .inv .1)
-    (omega (arith, loop-test .left)) (put-own .last .0) (loop .next - args .k) (loop .levels + 1) (put-own .kept .0) (put-own .ensures) refl refl
-    (c .before .before .put-diff .last .0) (loop .has) (either2 .result) (reading (diff-of .result .diff)) symbol-is2 (fine-is symbol state
+    let args = c .before .before .before .before .before .before .before .before .before .before .before .before .before .before .before .before .before .before .before .args in
+    let loop = c .before .before .before .before .before .before .before .before .before .before .before .before .before .before .loop in
+    let loop-test = c .before .before .before .before .before .before .before .before .before .before .before .before .before .loop-test in
+    let put-own = c .before .before .before .before .before .before .before .before .before .before .before .put-own in
+    let diff-of = c .before .before .before .before .before .before .before .diff-of in
+    let both2 = c .before .before .before .before .both2 in
+    let either2 = c .before .before .before .either2 in
+    let f = args .f .now in
+    let state = args .by .state in
+    let table = args .table .now in
+    let symbol = args .by .symbol in
+    let symbol-is2 = symbol-is symbol state f table (args .k) (args .depth) (loop .inv .0) (loop .table) (loop .has) (loop .fine) (loop .levels)
+    (loop .next) (loop .left) (loop .inv .1) (omega (arith, loop-test .left)) in
+    filled symbol state f table (args .k) (args .depth) (loop .inv .0) (loop .table) (loop .has) (loop .fine) (loop .levels) (loop .next) (loop .left)
+    (loop .inv .1) (omega (arith, loop-test .left)) (put-own .last .0) (loop .next - args .k) (loop .levels + 1) (put-own .kept .0) (put-own .ensures)
+    refl refl (c .before .before .put-diff .last .0) (loop .has) (either2 .result) (reading (diff-of .result .diff)) symbol-is2 (fine-is symbol state
     (tree f (args .k)) (loop .has) (loop .fine) (diff-of .result .ruled) (both2 .result) (either2 .result) symbol-is2 (all-fine symbol state f table
     (args .k) (args .depth) (loop .inv .0) (loop .table) (loop .has) (loop .fine) (loop .levels) (loop .next) (loop .left) (loop .inv .1)
     (omega (arith, loop-test .left))) (diff-of .ensures .0) (both2 .ensures) (either2 .ensures)) (diff-of .ensures .1)

@@ -33,31 +33,33 @@ mul-at c =
     let args = c .before .before .args in
     let pre = c .before .before .pre in
     let s = stands (args .f .now) (args .table .now) (args .k) (args .i) (pre .0) (pre .1) (c .before .loop .left) (c .before .loop .at)
-    (c .before .loop .inv .1) in omega (arith, s .ends, s .one, pre .0 .long)
+    (c .before .loop .inv .1) in
+    omega (arith, s .ends, s .one, pre .0 .long)
 
 mul-at-2 : tie.Need-mul-at-2 Inv-loop μ-loop
 mul-at-2 c =
     let args = c .before .before .args in
     let pre = c .before .before .pre in
     let s = stands (args .f .now) (args .table .now) (args .k) (args .i) (pre .0) (pre .1) (c .before .loop .left) (c .before .loop .at)
-    (c .before .loop .inv .1) in omega (arith, s .ends, s .one, pre .0 .long)
+    (c .before .loop .inv .1) in
+    omega (arith, s .ends, s .one, pre .0 .long)
 
 shared-slice-read-at : tie.Need-shared-slice-read-at Inv-loop μ-loop
 shared-slice-read-at c =
     let args = c .before .before .before .args in
     let pre = c .before .before .before .pre in
     let loop = c .before .before .loop in
-    let s = stands (args .f .now) (args .table .now) (args .k) (args .i) (pre .0) (pre .1) (loop .left) (loop .at) (loop .inv .1) in omega
-    (arith, s .ends, s .one, pre .0 .long)
+    let s = stands (args .f .now) (args .table .now) (args .k) (args .i) (pre .0) (pre .1) (loop .left) (loop .at) (loop .inv .1) in
+    omega (arith, s .ends, s .one, pre .0 .long)
 
 add-at-2 : tie.Need-add-at-2 Inv-loop μ-loop
 add-at-2 c =
     let args = c .before .before .before .args in
     let pre = c .before .before .before .pre in
     let loop = c .before .before .loop in
-    let s = stands (args .f .now) (args .table .now) (args .k) (args .i) (pre .0) (pre .1) (loop .left) (loop .at) (loop .inv .1) in let z = step-size
-    (args .f .now) (args .table .now) (args .k) (args .i) (pre .0) (pre .1) (loop .left) (loop .at) (loop .inv .1) in omega
-    (arith, s .ends, z, pre .0 .long)
+    let s = stands (args .f .now) (args .table .now) (args .k) (args .i) (pre .0) (pre .1) (loop .left) (loop .at) (loop .inv .1) in
+    let z = step-size (args .f .now) (args .table .now) (args .k) (args .i) (pre .0) (pre .1) (loop .left) (loop .at) (loop .inv .1) in
+    omega (arith, s .ends, z, pre .0 .long)
 
 sub-left : tie.Need-sub-left Inv-loop μ-loop
 sub-left c = omega (arith, c .before .loop-test .taken)
