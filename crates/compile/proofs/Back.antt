@@ -16,7 +16,7 @@ use Rattle.formula.specs.Names.{Symbol, kinds, symbols-of}
 use Rattle.formula.specs.Node.{formula-of}
 use Rattle.formula.specs.Term.{term}
 use Rattle.machine.specs.Check.{Fault, fault}
-use Rattle.machine.specs.Compile.{Compiled, accepted, compile, lowered-or, own-context, program-room, read}
+use Rattle.machine.specs.Compile.{Compiled, accepted, compile, lowered-or, own-context, program-room, read, sized}
 use Rattle.machine.specs.Compile as Compile
 use Rattle.machine.specs.Lower.{program}
 use Rattle.machine.proofs.Accepted.{accepted-formula}
@@ -39,13 +39,13 @@ sized-parts true none g f ts ss e = (cc, cc)
 sized-parts true (some x) g f ts ss e = absurd (let z : _≡_ {A = ℕ} 0 1 = cc in omega arith)
 sized-parts false o g f ts ss e = absurd (let z : _≡_ {A = ℕ} 0 1 = cc in omega arith)
 
-read-parts : (o : Option Formula) (s : Option (List Symbol)) (f : Formula) (ss : List Symbol) → read o s ≡ accepted f ss → (o ≡ some f) × (s ≡ some ss)
+read-parts : (o : Option Formula) (s : Option (List Symbol)) (f : Formula) (ss : List Symbol) → read sized o s ≡ accepted f ss → (o ≡ some f) × (s ≡ some ss)
 read-parts none s f ss e = absurd (let z : _≡_ {A = ℕ} 0 1 = cc in omega arith)
 read-parts (some g) none f ss e = absurd (let z : _≡_ {A = ℕ} 0 1 = cc in omega arith)
 read-parts (some g) (some ts) f ss e =
     let x = sized-parts (formula-limit g) (fault (own-context ts) (term g) root) g f ts ss e in (ap (λ (y : Formula). some y) (x .0), ap (λ (y : List Symbol). some y) (x .1))
 
-long-parts : (b : Bool) (o : Option Formula) (s : Option (List Symbol)) (f : Formula) (ss : List Symbol) → cond b (Compile.refused 1 none) (read o s) ≡ accepted f ss → (o ≡ some f) × (s ≡ some ss)
+long-parts : (b : Bool) (o : Option Formula) (s : Option (List Symbol)) (f : Formula) (ss : List Symbol) → cond b (Compile.refused 1 none) (read sized o s) ≡ accepted f ss → (o ≡ some f) × (s ≡ some ss)
 long-parts true o s f ss e = absurd (let z : _≡_ {A = ℕ} 0 1 = cc in omega arith)
 long-parts false o s f ss e = read-parts o s f ss e
 

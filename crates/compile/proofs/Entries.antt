@@ -1,23 +1,23 @@
 -- The entry point's cases, in the order of its refusals.
 use mathlib.Core.Path.{_≡_, refl, sym, ap, ap₂, _∙_, subst}
-use mathlib.Core.Bool.{Bool, true, false}
+use mathlib.Core.Bool.{Bool, true, false, cond, _||_}
 use mathlib.Core.List.{List, [], _∷_, map}
 use mathlib.Core.Option.{Option, none, some}
-use Prim.Native.Nat.{ℕ, zero, suc, _+_, _-_, _*_, _/_, _≤_, _<_}
+use Prim.Native.Nat.{ℕ, suc, _+_, _-_, _*_, _/_, _≤_, _<_}
 use native.Mathlib.Omega.{arith}
 use lib.ListN.{length, take, length-append}
 use lib.Seq.{length-take-le, take-at}
 use lib.Dec.{leb, ltb}
-use borrow.Author.Tests.{le-ltb, leb-true, lt-ltb}
+use borrow.Author.Tests.{le-ltb, leb-true, lt-ltb, ltb-false}
 use Rattle.formula.specs.Text.{zeros}
 use Rattle.formula.specs.Path.{Path, placed, root}
 use Rattle.formula.specs.Formula.{Formula, depth, size, well-formed, within}
 use Rattle.formula.specs.Names.{Input, Parameter, State, Symbol, SymbolKind, Time, kinds, symbols-of}
 use Rattle.formula.specs.Node.{formula-of, tree-in}
-use Rattle.formula.proofs.Tests.{and-first, and-second}
+use Rattle.formula.proofs.Tests.{and-first, and-second, no-true, or-none}
 use Rattle.formula.specs.Term.{term, terms}
 use Rattle.machine.specs.Check.{Context, Fault, fault}
-use Rattle.machine.specs.Compile.{Compiled, accepted, compile, filled, lowered-or, own-context, path-after, program-after, program-room, read, refused, sized}
+use Rattle.machine.specs.Compile.{Compiled, accepted, compile, lowered-or, own-context, path-after, prepared, program-after, program-room, read, refused, sized}
 use Rattle.machine.specs.Lower.{instruction-count, instruction-counts}
 use Rattle.machine.proofs.Size.{longest-path, narrow, path-size}
 use Rattle.layout.specs.Image.{entry-count, entry-counts, image, path-count, path-counts}
@@ -26,12 +26,15 @@ use Rattle.reader.proofs.Scan.{formula-in}
 use Rattle.names.specs.Lines.{kind-number, names-of}
 use Rattle.names.specs.declared.Names.{Names}
 use Rattle.lower.specs.Piece.{context-of, kids, kind-of}
-use Rattle.compile.specs.Outcome.{Fits, fault-place, number-of, slice-after}
+use Rattle.compile.specs.Outcome.{Fits, answer-to, fault-place, slice-after}
 use Rattle.compile.specs.Entry.{answer}
-use Rattle.compile.specs.Preparation.{Prepares, Prepares-by, Source}
+use Rattle.compile.specs.Preparation.{preparation, prepared-as}
 use Rattle.compile.specs.declared.Prepared.{Prepared}
+use Rattle.compile.specs.declared.Reading.{Reading}
+use Rattle.compile.specs.declared.Reading.the-variants.{Symbols}
+use Rattle.compile.specs.declared.Reading.the-variants as Reads
 use Rattle.compile.specs.declared.Answer.{Answer}
-use Rattle.compile.specs.declared.Answer.the-variants.{Program, Refused}
+use Rattle.compile.specs.declared.Answer.the-variants.{Refused}
 use Rattle.compile.proofs.Faults.{Near, near}
 
 -- ---- the counts of a whole formula
@@ -50,97 +53,135 @@ After Y r q q′ p p′ = (r ≡ answer Y) × (q′ ≡ path-after Y q) × (p′
 pub after : (X Y : Compiled) (r : Answer) (q q′ p p′ : List ℕ) → X ≡ Y → After Y r q q′ p p′ → After X r q q′ p p′
 after X Y r q q′ p p′ e A = subst (λ (Z : Compiled). After Z r q q′ p p′) (sym e) A
 
+-- ---- 1 to 3, and what comes after
+
 module _ (b l : List ℕ) (path program : ℕ) where
-  pub short-path : path < 8192 → compile b l path program ≡ refused 1 none
-  unfolding compile
+  pub short-path : path < 8192 → prepared accepted b l path program ≡ refused 1 none
   short-path h = rw (lt-ltb path 8192 h)
 
-  pub short-program : 8192 ≤ path → program / 240 < (length b + 15) / 16 → compile b l path program ≡ refused 1 none
-  unfolding compile
+  pub short-program : 8192 ≤ path → program / 240 < (length b + 15) / 16 → prepared accepted b l path program ≡ refused 1 none
   short-program h k =
       let x : ltb program (program-room (length b)) ≡ true = lt-ltb program (program-room (length b)) (omega arith) in
       rw (le-ltb path 8192 h, x)
 
+  -- a refusal, as prepare gives it
+  pub unprepared-is : (n : ℕ) (r : Prepared) → r ≡ record { reading = Reads.Refused n; kinds = zeros 256 } → prepared accepted b l path program ≡ refused n none
+      → r ≡ preparation b l path program
+  unfolding preparation
+  unprepared-is n r e h = e ∙ ap prepared-as (sym h)
+
   module _ (h : 8192 ≤ path) (k : (length b + 15) / 16 ≤ program / 240) where
-    long-enough : compile b l path program ≡ read (formula-of b) (symbols-of l)
-    unfolding compile
+    long-enough : prepared accepted b l path program ≡ read accepted (formula-of b) (symbols-of l)
     long-enough =
         let x : ltb program (program-room (length b)) ≡ false = le-ltb program (program-room (length b)) (omega arith) in
         rw (le-ltb path 8192 h, x)
 
-    unread : (o : Option Formula) (s : Option (List Symbol)) → is-some o ≡ false → read o s ≡ refused 2 none
+    unread : (o : Option Formula) (s : Option (List Symbol)) → is-some o ≡ false → read accepted o s ≡ refused 2 none
     unread none s e = refl
     unread (some f) s e = absurd (let w : _≡_ {A = ℕ} 0 1 = cc in omega arith)
 
-    pub no-formula : is-some (formula-of b) ≡ false → compile b l path program ≡ refused 2 none
+    pub no-formula : is-some (formula-of b) ≡ false → prepared accepted b l path program ≡ refused 2 none
     no-formula e = long-enough ∙ unread (formula-of b) (symbols-of l) e
 
-    unnamed : (o : Option Formula) (s : Option (List Symbol)) (r : Names) → is-some o ≡ true → r ≡ names-of s → r .ok ≡ false → read o s ≡ refused 3 none
-    unnamed none s r e n z = absurd (let w : _≡_ {A = ℕ} 0 1 = cc in omega arith)
-    unnamed (some f) none r e n z = refl
-    unnamed (some f) (some ss) r e n z = absurd (let w : _≡_ {A = ℕ} 0 1 = cc in omega arith)
+    unnamed : (o : Option Formula) (s : Option (List Symbol)) (t : Names) → is-some o ≡ true → t ≡ names-of s → t .ok ≡ false → read accepted o s ≡ refused 3 none
+    unnamed none s t e n z = absurd (let w : _≡_ {A = ℕ} 0 1 = cc in omega arith)
+    unnamed (some f) none t e n z = refl
+    unnamed (some f) (some ss) t e n z = absurd (let w : _≡_ {A = ℕ} 0 1 = cc in omega arith)
 
-    pub no-names : (r : Names) → is-some (formula-of b) ≡ true → r ≡ names-of (symbols-of l) → r .ok ≡ false → compile b l path program ≡ refused 3 none
-    no-names r e n z = long-enough ∙ unnamed (formula-of b) (symbols-of l) r e n z
+    pub no-names : (t : Names) → is-some (formula-of b) ≡ true → t ≡ names-of (symbols-of l) → t .ok ≡ false → prepared accepted b l path program ≡ refused 3 none
+    no-names t e n z = long-enough ∙ unnamed (formula-of b) (symbols-of l) t e n z
 
-    too-large : (o : Option Formula) (s : Option (List Symbol)) (r : Names) → is-some o ≡ true → r ≡ names-of s → r .ok ≡ true → limited 256 32 o ≡ false
-        → read o s ≡ refused 4 (some root)
-    too-large none s r e n z m = absurd (let w : _≡_ {A = ℕ} 0 1 = cc in omega arith)
-    too-large (some f) none r e n z m = absurd (let w : _≡_ {A = ℕ} 0 1 = cc in omega arith)
-    too-large (some f) (some ss) r e n z m = rw m
+    listed-at : (o : Option Formula) (s : Option (List Symbol)) (t : Names) → is-some o ≡ true → t ≡ names-of s → t .ok ≡ true
+        → _≡_ {A = Prepared} (record { reading = Symbols (t .count); kinds = t .kinds }) (prepared-as (read accepted o s))
+    listed-at none s t e n z = absurd (let w : _≡_ {A = ℕ} 0 1 = cc in omega arith)
+    listed-at (some f) none t e n z = absurd (let w : _≡_ {A = ℕ} 0 1 = cc in omega arith)
+    listed-at (some f) (some ss) t e n z = ap (λ (u : Names). record { reading = Symbols (u .count); kinds = u .kinds }) n
 
-    pub above-limit : (r : Names) → is-some (formula-of b) ≡ true → r ≡ names-of (symbols-of l) → r .ok ≡ true → limited 256 32 (formula-of b) ≡ false
-        → compile b l path program ≡ refused 4 (some root)
-    above-limit r e n z m = long-enough ∙ too-large (formula-of b) (symbols-of l) r e n z m
+    pub listed-is : (t : Names) → is-some (formula-of b) ≡ true → t ≡ names-of (symbols-of l) → t .ok ≡ true
+        → _≡_ {A = Prepared} (record { reading = Symbols (t .count); kinds = t .kinds }) (preparation b l path program)
+    unfolding preparation
+    listed-is t e n z = listed-at (formula-of b) (symbols-of l) t e n z ∙ ap prepared-as (sym long-enough)
 
-    sizes : (f : Formula) (ss : List Symbol) → within 256 32 f ≡ true → sized f ss ≡ lowered-or f ss (fault (own-context ss) (term f) root)
-    sizes f ss limits = rw limits
+-- what a caller has of prepare: a formula over n symbols, with slices long enough
+pub record Source (b l : List ℕ) (path program n : ℕ) (K : List ℕ) : Type 0 where
+  pub f : Formula
+  pub symbols : List Symbol
+  pub formed : formula-of b ≡ some f
+  pub count : n ≡ length symbols
+  pub kinds-are : K ≡ names-of (some symbols) .kinds
+  pub places : 8192 ≤ path
+  pub room : 15 * length b ≤ program
+  pub comes-to : compile b l path program ≡ sized f symbols
 
-    prepared-at : (o : Option Formula) (s : Option (List Symbol)) (t : Names) (r : Prepared) → is-some o ≡ true → t ≡ names-of s → t .ok ≡ true → limited 256 32 o ≡ true
-        → formula-of b ≡ o → symbols-of l ≡ s → r .count ≡ t .count → r .kinds ≡ t .kinds → Source b l path program r
-    prepared-at none s t r e n z m x y rc rk = absurd (let w : _≡_ {A = ℕ} 0 1 = cc in omega arith)
-    prepared-at (some f) none t r e n z m x y rc rk = absurd (let w : _≡_ {A = ℕ} 0 1 = cc in omega arith)
-    prepared-at (some f) (some ss) t r e n z m x y rc rk =
-        record {
-          f = f;
-          symbols = ss;
-          formed = x;
-          named = y;
-          limit = m;
-          count = rc ∙ ap (λ (u : Names). u .count) n;
-          kinds-are = rk ∙ ap (λ (u : Names). u .kinds) n;
-          places = h;
-          room = omega (arith, k);
-          comes-to = long-enough ∙ ap₂ read x y ∙ sizes f ss m;
-        }
+module _ (b l : List ℕ) (path program : ℕ) (r : Prepared) (is : r ≡ preparation b l path program) where
+  abbrev short : Bool
+  short = ltb path 8192 || ltb program (program-room (length b))
 
-    pub prepared : (t : Names) (r : Prepared) → is-some (formula-of b) ≡ true → t ≡ names-of (symbols-of l) → t .ok ≡ true → limited 256 32 (formula-of b) ≡ true
-        → r .count ≡ t .count → r .kinds ≡ t .kinds → Source b l path program r
-    prepared t r e n z m rc rk = prepared-at (formula-of b) (symbols-of l) t r e n z m refl refl rc rk
+  reading-is : (X : Compiled) (z : Reading) → r ≡ prepared-as X → r .reading ≡ z → prepared-as X .reading ≡ z
+  reading-is X z e h = sym (ap (λ (u : Prepared). u .reading) e) ∙ h
 
--- what prepare answers, and what a caller has of it
-module _ (b l : List ℕ) (program : ℕ) (q q′ : List ℕ) (r : Prepared) where
-  pub unprepared-is : (n : ℕ) (place : Option Path) → r .refusal ≡ suc n → compile b l (length q) program ≡ refused (suc n) place → suc n < 5 → q′ ≡ placed place q
-      → Prepares b l program q q′ r
-  unfolding Prepares
-  unprepared-is n place e c h k = subst (λ (m : ℕ). Prepares-by m b l program q q′ r) (sym e) (place, c, h, k)
+  refusal-at : (x : Bool) (o : Option Formula) (s : Option (List Symbol)) (n : ℕ) → prepared-as (cond x (refused 1 none) (read accepted o s)) .reading ≡ Reads.Refused n
+      → (cond x (refused 1 none) (read sized o s) ≡ refused n none) × (n < 5)
+  refusal-at true o s n h = let m : 1 ≡ n = cc in (ap (λ (i : ℕ). refused i none) m, omega arith)
+  refusal-at false none s n h = let m : 2 ≡ n = cc in (ap (λ (i : ℕ). refused i none) m, omega arith)
+  refusal-at false (some f) none n h = let m : 3 ≡ n = cc in (ap (λ (i : ℕ). refused i none) m, omega arith)
+  refusal-at false (some f) (some ss) n h = absurd (let w : _≡_ {A = ℕ} 0 1 = cc in omega arith)
 
-  pub prepared-is : r .refusal ≡ 0 → Source b l (length q) program r → q′ ≡ q → Prepares b l program q q′ r
-  unfolding Prepares
-  prepared-is e S k = subst (λ (m : ℕ). Prepares-by m b l program q q′ r) (sym e) (S, k)
+  pub refusal-of : (n : ℕ) → r .reading ≡ Reads.Refused n → (compile b l path program ≡ refused n none) × (n < 5)
+  unfolding compile preparation
+  refusal-of n h = refusal-at short (formula-of b) (symbols-of l) n (reading-is (prepared accepted b l path program) _ is h)
 
-  pub source-of : Prepares b l program q q′ r → r .refusal ≡ 0 → Source b l (length q) program r × (q′ ≡ q)
-  unfolding Prepares
-  source-of O e = subst (λ (m : ℕ). Prepares-by m b l program q q′ r) e O
+  source-at : (x : Bool) (o : Option Formula) (s : Option (List Symbol)) (n : ℕ) → short ≡ x → formula-of b ≡ o → symbols-of l ≡ s
+      → r ≡ prepared-as (cond x (refused 1 none) (read accepted o s)) → compile b l path program ≡ cond x (refused 1 none) (read sized o s)
+      → prepared-as (cond x (refused 1 none) (read accepted o s)) .reading ≡ Symbols n
+      → Source b l path program n (r .kinds)
+  source-at true o s n xe oe se e c h = absurd (let w : _≡_ {A = ℕ} 0 1 = cc in omega arith)
+  source-at false none s n xe oe se e c h = absurd (let w : _≡_ {A = ℕ} 0 1 = cc in omega arith)
+  source-at false (some f) none n xe oe se e c h = absurd (let w : _≡_ {A = ℕ} 0 1 = cc in omega arith)
+  source-at false (some f) (some ss) n xe oe se e c h =
+      let long = or-none (ltb path 8192) (ltb program (program-room (length b))) xe in
+      record {
+        f = f;
+        symbols = ss;
+        formed = oe;
+        count = let m : length ss ≡ n = cc in sym m;
+        kinds-are = ap (λ (u : Prepared). u .kinds) e;
+        places = ltb-false path 8192 (long .0);
+        room = omega (arith, ltb-false program (program-room (length b)) (long .1));
+        comes-to = c;
+      }
 
-  refusal-at : (m : ℕ) → (m ≡ 0 → ⊥) → Prepares-by m b l program q q′ r → (place : Option Path) × (compile b l (length q) program ≡ refused m place) × (m < 5) × (q′ ≡ placed place q)
-  refusal-at zero z O = absurd (z refl)
-  refusal-at (suc m) z O = O
+  comes : compile b l path program ≡ cond short (refused 1 none) (read sized (formula-of b) (symbols-of l))
+  unfolding compile
+  comes = refl
 
-  pub refusal-of : Prepares b l program q q′ r → (r .refusal ≡ 0 → ⊥)
-      → (place : Option Path) × (compile b l (length q) program ≡ refused (r .refusal) place) × (r .refusal < 5) × (q′ ≡ placed place q)
-  unfolding Prepares
-  refusal-of O z = refusal-at (r .refusal) z O
+  pub source-of : (n : ℕ) → r .reading ≡ Symbols n → Source b l path program n (r .kinds)
+  unfolding preparation
+  source-of n h = source-at short (formula-of b) (symbols-of l) n refl refl refl is comes (reading-is (prepared accepted b l path program) _ is h)
+
+-- 4, and what comes after
+module _ {b l : List ℕ} {path program n : ℕ} {K : List ℕ} (S : Source b l path program n K) (small : Bool) (is : small ≡ limited 256 32 (formula-of b)) where
+  is-within : within 256 32 (S .f) ≡ small
+  is-within = sym (is ∙ ap (limited 256 32) (S .formed))
+
+  pub limit-of : small ≡ true → within 256 32 (S .f) ≡ true
+  limit-of t = is-within ∙ t
+
+  pub above-limit : small ≡ false → compile b l path program ≡ refused 4 (some root)
+  above-limit t = S .comes-to ∙ rw (is-within ∙ t)
+
+  pub faults-left : small ≡ true → compile b l path program ≡ lowered-or (S .f) (S .symbols) (fault (own-context (S .symbols)) (term (S .f)) root)
+  faults-left t = S .comes-to ∙ rw (is-within ∙ t)
+
+-- the path slice after the limits were looked at
+module _ (q q₁ : List ℕ) where
+  pub path-kept : (small : Bool) → q₁ ≡ cond small q (placed (some root) q) → small ≡ true → q₁ ≡ q
+  path-kept true e t = e
+  path-kept false e t = absurd (no-true t)
+
+  pub path-rooted : (small : Bool) → q₁ ≡ cond small q (placed (some root) q) → small ≡ false → q₁ ≡ placed (some root) q
+  path-rooted true e t = absurd (no-true (sym t))
+  path-rooted false e t = e
 
 -- ---- the table of the symbols
 
@@ -148,16 +189,15 @@ pub listed-length : (xs : List Symbol) → length (map kind-number (kinds xs)) �
 listed-length [] = refl
 listed-length (x ∷ xs) = ap suc (listed-length xs)
 
-module _ (r : Prepared) (ss : List Symbol) (counted : r .count ≡ length ss) (kinds-are : r .kinds ≡ names-of (some ss) .kinds) where
-  pub within-table : r .count ≤ length (r .kinds)
+module _ (n : ℕ) (K : List ℕ) (ss : List Symbol) (counted : n ≡ length ss) (kinds-are : K ≡ names-of (some ss) .kinds) where
+  pub within-table : n ≤ length K
   within-table = omega (arith, counted, ap length kinds-are, length-append (map kind-number (kinds ss)) (zeros (256 - length ss)), listed-length ss)
 
-  pub prefix-long : r .count ≡ length (take (r .count) (r .kinds))
-  prefix-long = sym (length-take-le (r .count) (r .kinds) within-table)
+  pub prefix-long : n ≡ length (take n K)
+  prefix-long = sym (length-take-le n K within-table)
 
-  pub prefix : take (r .count) (r .kinds) ≡ map kind-number (kinds ss)
-  prefix =
-      ap (take (r .count)) kinds-are ∙ take-at (map kind-number (kinds ss)) (zeros (256 - length ss)) (r .count) (listed-length ss ∙ sym counted)
+  pub prefix : take n K ≡ map kind-number (kinds ss)
+  prefix = ap (take n) kinds-are ∙ take-at (map kind-number (kinds ss)) (zeros (256 - length ss)) n (listed-length ss ∙ sym counted)
 
 back : (κ : SymbolKind) → kind-of (kind-number κ) ≡ κ
 back Parameter = refl
@@ -219,45 +259,24 @@ module _ (b : List ℕ) (f : Formula) (is-f : formula-of b ≡ some f) (limits :
     near-fault = near (own-context ss) (term f) root 8192 (narrow f (omega (arith, few))) (omega (arith, path-size f, few))
 
     -- what writing the program came to, by the formula's first fault
-    module _ (w : ℕ) (q q₁ q′ p p′ : List ℕ) (same : q₁ ≡ q) (ew : w ≡ number-of O) (ep : p′ ≡ slice-after C (tree-in 32 b 0) O p) (eq : q′ ≡ placed (fault-place O) q₁) where
-      ew′ : w ≡ number-of O′
-      ew′ = ew ∙ ap number-of same-fault
+    module _ (w : Answer) (q q₁ q′ p p′ : List ℕ) (same : q₁ ≡ q) (ew : w ≡ answer-to O) (ep : p′ ≡ slice-after C (tree-in 32 b 0) O p) (eq : q′ ≡ placed (fault-place O) q₁) where
+      pub answer-is : w ≡ answer-to O′
+      answer-is = ew ∙ ap answer-to same-fault
 
-      ep′ : p′ ≡ slice-after (own-context ss) f O′ p
-      ep′ = ep ∙ ap₂ (λ (x : Context) (g : Formula). slice-after x g O p) (same-context K ss false are) tree ∙ ap (λ (o : Option Fault). slice-after (own-context ss) f o p) same-fault
+      pub slice-is : p′ ≡ slice-after (own-context ss) f O′ p
+      slice-is = ep ∙ ap₂ (λ (x : Context) (g : Formula). slice-after x g O p) (same-context K ss false are) tree ∙ ap (λ (o : Option Fault). slice-after (own-context ss) f o p) same-fault
 
-      eq′ : q′ ≡ placed (fault-place O′) q
-      eq′ = eq ∙ ap₂ (λ (o : Option Fault) (x : List ℕ). placed (fault-place o) x) same-fault same
+      pub place-is : q′ ≡ placed (fault-place O′) q
+      place-is = eq ∙ ap₂ (λ (o : Option Fault) (x : List ℕ). placed (fault-place o) x) same-fault same
 
-      none-at : (o : Option Fault) → ((x : Fault) → o ≡ some x → Near x 8192) → w ≡ 0 → w ≡ number-of o → p′ ≡ slice-after (own-context ss) f o p → q′ ≡ placed (fault-place o) q
-          → (o ≡ none) × (p′ ≡ filled (image (own-context ss) f) p) × (q′ ≡ q)
-      none-at none N y a c d = (refl, c, d)
-      none-at (some x) N y a c d = absurd (omega (arith, N x refl .least))
+      written-at : (o : Option Fault) → ((x : Fault) → o ≡ some x → Near x 8192) → w ≡ answer-to o → p′ ≡ slice-after (own-context ss) f o p → q′ ≡ placed (fault-place o) q
+          → After (lowered-or f ss o) w q q′ p p′
+      written-at none N a c d = (a, d, c)
+      written-at (some x) N a c d = (a, d, c ∙ sym (rw (le-ltb (x .number) 5 (N x refl .least))))
 
-      pub no-fault : w ≡ 0 → (O′ ≡ none) × (p′ ≡ filled (image (own-context ss) f) p) × (q′ ≡ q)
-      no-fault y = none-at O′ near-fault y ew′ ep′ eq′
-
-      first-at : (o : Option Fault) → ((x : Fault) → o ≡ some x → Near x 8192) → (w ≡ 0 → ⊥) → w ≡ number-of o → p′ ≡ slice-after (own-context ss) f o p → q′ ≡ placed (fault-place o) q
-          → (place : Path) × (o ≡ some (record { number = w; place = place })) × (5 ≤ w) × (p′ ≡ zeros (length p)) × (q′ ≡ placed (some place) q)
-      first-at none N y a c d = absurd (y a)
-      first-at (some x) N y a c d = (x .place, ap (λ (n : ℕ). some (record { number = n; place = x .place })) (sym a), omega (arith, N x refl .least), c, d)
-
-      pub first-fault : (w ≡ 0 → ⊥) → (place : Path) × (O′ ≡ some (record { number = w; place = place })) × (5 ≤ w) × (p′ ≡ zeros (length p)) × (q′ ≡ placed (some place) q)
-      first-fault y = first-at O′ near-fault y ew′ ep′ eq′
-
-      -- ---- the answers of compile
-
-      module _ (X : Compiled) (comes : X ≡ lowered-or f ss O′) where
-        pub is-program : w ≡ 0 → After X Program q q′ p p′
-        is-program y =
-            let n = no-fault y in
-            after X (accepted f ss) Program q q′ p p′ (comes ∙ ap (lowered-or f ss) (n .0)) (refl, n .2, n .1)
-
-        pub is-refused : (w ≡ 0 → ⊥) → After X (Refused w) q q′ p p′
-        is-refused y =
-            let n = first-fault y in
-            after X (refused w (some (n .0))) (Refused w) q q′ p p′ (comes ∙ ap (lowered-or f ss) (n .1))
-            (refl, n .4, n .3 ∙ sym (rw (le-ltb w 5 (n .2))))
+      -- the answer of compile
+      pub written : (X : Compiled) → X ≡ lowered-or f ss O′ → After X w q q′ p p′
+      written X e = after X (lowered-or f ss O′) w q q′ p p′ e (written-at O′ near-fault answer-is slice-is place-is)
 
 -- a refusal of 1 to 4
 pub early : (X : Compiled) (n : ℕ) (place : Option Path) (q q′ p : List ℕ) → X ≡ refused n place → n < 5 → q′ ≡ placed place q → After X (Refused n) q q′ p p

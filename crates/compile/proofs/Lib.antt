@@ -3,4 +3,5 @@ pub mod Headers
 pub mod Faults
 pub mod Whole
 pub mod Entries
+pub mod Own
 pub mod Back

@@ -37,7 +37,8 @@ use Rattle.lower.proofs.Frames.{third-word}
 use Rattle.lower.proofs.Compose.{inner-is}
 use Rattle.lower.proofs.Branches.{kind-back}
 use Rattle.lower.proofs.Says.{Refused, Taken, refused, taken}
-use Rattle.compile.specs.Outcome.{Fits, fault-place, number-of, slice-after}
+use Rattle.compile.specs.Outcome.{Fits, fault-place, answer-to, slice-after}
+use Rattle.compile.specs.declared.Answer.the-variants as Answers
 use Rattle.compile.proofs.Faults.{Near, near}
 
 length-map : (xs : List ℕ) → length (map kind-of xs) ≡ length xs
@@ -135,7 +136,7 @@ module _ (b : List ℕ) (d m : ℕ) (p ks : List ℕ) (g : Bool) (code records e
       -- ---- refused
 
       module _ (n k : ℕ) (e : r ≡ Faulty n k) where
-        pub R : Refused (own-piece C t (place L p₁ s) 0 c (0 + 16 * size f)) L p₂ n k
+        pub R : Refused (own-piece C t (place L p₁ s) 0 c (0 + 16 * size f)) L c p₁ p₂ n k
         R = refused _ L c p₁ p₂ r n k S e
 
         pub is-fault : O ≡ some (R .x)
@@ -153,10 +154,10 @@ module _ (b : List ℕ) (d m : ℕ) (p ks : List ℕ) (g : Bool) (code records e
         )
 
         pub fault-answers : (p₃ q q′ : List ℕ) → length p₂ ≡ length p → p₃ ≡ zeroed p₂ 0 → q′ ≡ placed (some (path-in-table p₂ table k)) q
-            → (n ≡ number-of O) × (p₃ ≡ slice-after C f O p) × (q′ ≡ placed (fault-place O) q)
+            → (Answers.Refused n ≡ answer-to O) × (p₃ ≡ slice-after C f O p) × (q′ ≡ placed (fault-place O) q)
         fault-answers p₃ q q′ l e₃ eq =
-            subst (λ (o : Option Fault). (n ≡ number-of o) × (p₃ ≡ slice-after C f o p) × (q′ ≡ placed (fault-place o) q)) (sym is-fault)
-            (R .number, e₃ ∙ zeroed-all p₂ ∙ ap zeros l, eq ∙ ap (λ (y : Path). placed (some y) q) (R .place))
+            subst (λ (o : Option Fault). (Answers.Refused n ≡ answer-to o) × (p₃ ≡ slice-after C f o p) × (q′ ≡ placed (fault-place o) q)) (sym is-fault)
+            (ap Answers.Refused (R .number), e₃ ∙ zeroed-all p₂ ∙ ap zeros l, eq ∙ ap (λ (y : Path). placed (some y) q) (R .place))
 
       -- ---- a program
 
@@ -241,9 +242,9 @@ module _ (b : List ℕ) (d m : ℕ) (p ks : List ℕ) (g : Bool) (code records e
         head-room l = omega (arith, all-room)
 
         pub program-answers : (p₃ p₄ q : List ℕ) → p₃ ≡ over p₂ 0 H → p₄ ≡ zeroed p₃ (table + 12 * records + 4 * entries)
-            → (0 ≡ number-of O) × (p₄ ≡ slice-after C f O p) × (q ≡ placed (fault-place O) q)
+            → (Answers.Program ≡ answer-to O) × (p₄ ≡ slice-after C f O p) × (q ≡ placed (fault-place O) q)
         program-answers p₃ p₄ q e₃ e₄ =
-            subst (λ (o : Option Fault). (0 ≡ number-of o) × (p₄ ≡ slice-after C f o p) × (q ≡ placed (fault-place o) q)) (sym no-fault) (
+            subst (λ (o : Option Fault). (Answers.Program ≡ answer-to o) × (p₄ ≡ slice-after C f o p) × (q ≡ placed (fault-place o) q)) (sym no-fault) (
               refl,
               e₄ ∙ text-zeroed p p₃ (image C f) (table + 12 * records + 4 * entries) (sym (length-image C f ∙ (let w : 32 + 24 * instruction-count t + 12 * path-count t + 4 * entry-count t ≡ table + 12 * records + 4 * entries = omega (arith, ec, er, ee) in w))) all-room (assembled p₃ e₃),
               refl,

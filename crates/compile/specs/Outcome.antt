@@ -6,19 +6,29 @@ use mathlib.Core.Option.{Option, none, some}
 use Prim.Native.Nat.{ℕ, _*_, _≤_}
 use lib.ListN.{length}
 use Rattle.formula.specs.Text.{zeros}
+use Rattle.formula.specs.Operator.{Boolean, same-kind}
 use Rattle.formula.specs.Path.{Path}
 use Rattle.formula.specs.Formula.{Formula, size, well-formed}
 use Rattle.formula.specs.Node.{tree-in}
 use Rattle.formula.specs.Term.{term}
-use Rattle.machine.specs.Check.{Context, Fault}
+use Rattle.machine.specs.Check.{Context, Fault, kind}
 use Rattle.machine.specs.Compile.{filled}
 use Rattle.machine.proofs.Size.{longest-path}
 use Rattle.layout.specs.Image.{image}
+use Rattle.compile.specs.declared.Answer.{Answer}
+use Rattle.compile.specs.declared.Answer.the-variants.{Program, Refused}
+use Rattle.compile.specs.declared.Lowered.{Lowered}
+use Rattle.compile.specs.declared.Lowered.the-variants.{Kind}
+use Rattle.compile.specs.declared.Lowered.the-variants as Lowered-variants
 
--- 0 is a program
-abbrev pub number-of : Option Fault → ℕ
-number-of none = 0
-number-of (some x) = x .number
+abbrev pub answer-to : Option Fault → Answer
+answer-to none = Program
+answer-to (some x) = Refused (x .number)
+
+-- whether the formula is Boolean, where it has no fault
+abbrev pub lowered-to : Formula → Option Fault → Lowered
+lowered-to f none = Kind (same-kind (kind (term f)) Boolean)
+lowered-to f (some x) = Lowered-variants.Refused (x .number)
 
 abbrev pub fault-place : Option Fault → Option Path
 fault-place none = none

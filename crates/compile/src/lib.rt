@@ -11,25 +11,34 @@ use paths::write_root;
 use paths::zero_from;
 use reader::is_formula;
 use reader::within_limits;
+use refusals::EXPRESSION_LIMIT;
+use refusals::MALFORMED_LINE;
+use refusals::NO_FORMULA;
+use refusals::SLICE_TOO_SHORT;
 use tally::tally;
 ghost use mathlib.Core.Path.{_≡_};
-ghost use mathlib.Core.List.{_++_};
-ghost use Prim.Native.Nat.{_≤_};
+ghost use mathlib.Core.Bool.{cond};
+ghost use mathlib.Core.List.{List, _++_};
+ghost use mathlib.Core.Option.{none, some};
+ghost use Prim.Native.Nat.{_*_, _≤_};
 ghost use lib.ListN.{length};
-ghost use Rattle.formula.specs.Text.{little-endian};
+ghost use Rattle.formula.specs.Text.{little-endian, zeros};
+ghost use Rattle.formula.specs.Formula.{Formula};
+ghost use Rattle.formula.specs.Names.{Symbol};
 ghost use Rattle.formula.specs.Path.{placed, root};
-ghost use Rattle.formula.specs.Node.{tree-in};
+ghost use Rattle.formula.specs.Node.{formula-of, tree-in};
 ghost use Rattle.formula.specs.Term.{term};
 ghost use Rattle.machine.specs.Check.{fault};
-ghost use Rattle.machine.specs.Compile.{compile, path-after, program-after};
+ghost use Rattle.machine.specs.Compile.{compile, own-context, path-after, program-after};
 ghost use Rattle.machine.specs.Lower.{instruction-count};
 ghost use Rattle.layout.specs.Opcode.{kind-number};
 ghost use Rattle.layout.specs.Image.{entry-count, image, magic, path-count};
 ghost use Rattle.paths.specs.Over.{over};
+ghost use Rattle.reader.specs.Read.{limited};
 ghost use Rattle.lower.specs.Piece.{context-of, kind-if};
 ghost use Rattle.compile.specs.Entry.{answer};
-ghost use Rattle.compile.specs.Preparation.{Prepares};
-ghost use Rattle.compile.specs.Outcome.{Fits, fault-place, number-of, slice-after};
+ghost use Rattle.compile.specs.Preparation.{Formed, preparation};
+ghost use Rattle.compile.specs.Outcome.{Fits, answer-to, fault-place, lowered-to, slice-after};
 
 // A program stands in its slice, or compile refused by a number.
 pub enum Answer {
@@ -80,10 +89,10 @@ fn write_counted(
     code: usize,
     records: usize,
     entries: usize,
-) -> u8
+) -> Answer
     requires { ⌜ Fits (now b) d (length (now p)) (length (now path)) ⌝ }
     requires { ⌜ (code ≡ instruction-count (term (tree-in d (now b) 0))) × (records ≡ path-count (term (tree-in d (now b) 0))) × (entries ≡ entry-count (term (tree-in d (now b) 0))) ⌝ }
-    ensures { λ r. ⌜ (r ≡ number-of (fault (context-of (now (kinds .entry)) generated) (term (tree-in d (now (b .entry)) 0)) root)) × (now (p .exit) ≡ slice-after (context-of (now (kinds .entry)) generated) (tree-in d (now (b .entry)) 0) (fault (context-of (now (kinds .entry)) generated) (term (tree-in d (now (b .entry)) 0)) root) (now (p .entry))) × (now (path .exit) ≡ placed (fault-place (fault (context-of (now (kinds .entry)) generated) (term (tree-in d (now (b .entry)) 0)) root)) (now (path .entry))) ⌝ }
+    ensures { λ r. ⌜ (r ≡ answer-to (fault (context-of (now (kinds .entry)) generated) (term (tree-in d (now (b .entry)) 0)) root)) × (now (p .exit) ≡ slice-after (context-of (now (kinds .entry)) generated) (tree-in d (now (b .entry)) 0) (fault (context-of (now (kinds .entry)) generated) (term (tree-in d (now (b .entry)) 0)) root) (now (p .entry))) × (now (path .exit) ≡ placed (fault-place (fault (context-of (now (kinds .entry)) generated) (term (tree-in d (now (b .entry)) 0)) root)) (now (path .entry))) ⌝ }
 {
     let table = 32 + 24 * code;
     let lists = table + 12 * records;
@@ -107,73 +116,91 @@ fn write_counted(
             let kind = kind_of(v.boolean);
             put_header(p, code, e.reg, v.a, kinds.len(), kind, records, entries);
             zero_from(p, lists + 4 * entries);
-            0
+            Answer::Program
         }
         Low::Fault(n, k) => {
             write_path(p, table, k, path);
             zero_from(p, 0);
-            n
+            Answer::Refused(n)
         }
     }
 }
 
 // Writes the program of a formula of at most d levels, or clears it and writes the place of the first fault.
-pub fn write(b: &[u8], p: &mut [u8], path: &mut [u8], kinds: &[u8], generated: bool, d: usize) -> u8
+pub fn write(
+    b: &[u8],
+    p: &mut [u8],
+    path: &mut [u8],
+    kinds: &[u8],
+    generated: bool,
+    d: usize,
+) -> Answer
     requires { ⌜ Fits (now b) d (length (now p)) (length (now path)) ⌝ }
-    ensures { λ r. ⌜ (r ≡ number-of (fault (context-of (now (kinds .entry)) generated) (term (tree-in d (now (b .entry)) 0)) root)) × (now (p .exit) ≡ slice-after (context-of (now (kinds .entry)) generated) (tree-in d (now (b .entry)) 0) (fault (context-of (now (kinds .entry)) generated) (term (tree-in d (now (b .entry)) 0)) root) (now (p .entry))) × (now (path .exit) ≡ placed (fault-place (fault (context-of (now (kinds .entry)) generated) (term (tree-in d (now (b .entry)) 0)) root)) (now (path .entry))) ⌝ }
+    ensures { λ r. ⌜ (r ≡ answer-to (fault (context-of (now (kinds .entry)) generated) (term (tree-in d (now (b .entry)) 0)) root)) × (now (p .exit) ≡ slice-after (context-of (now (kinds .entry)) generated) (tree-in d (now (b .entry)) 0) (fault (context-of (now (kinds .entry)) generated) (term (tree-in d (now (b .entry)) 0)) root) (now (p .entry))) × (now (path .exit) ≡ placed (fault-place (fault (context-of (now (kinds .entry)) generated) (term (tree-in d (now (b .entry)) 0)) root)) (now (path .entry))) ⌝ }
 {
     let t = tally(b, d, 1, 0);
     write_counted(b, p, path, kinds, generated, d, t.code, t.paths, t.entries)
 }
 
-// What comes before the lowering: a refusal of 1 to 4, or 0 and the kinds of the symbols.
+// How many symbols there are, or a refusal.
+pub enum Reading {
+    Symbols(usize),
+    Refused(u8),
+}
+
+// What is known before the formula is gone into; the kinds of the symbols are all zero in a refusal.
 pub struct Prepared {
-    pub refusal: u8,
-    pub count: usize,
+    pub reading: Reading,
     pub kinds: [u8; 256],
 }
 
 fn unprepared(refusal: u8) -> Prepared
-    ensures { λ r. ⌜ r .refusal ≡ refusal ⌝ }
+    ensures { λ r. ⌜ r ≡ record { reading = Reading.Refused refusal; kinds = zeros 256 } ⌝ }
 {
     let kinds = [0u8; 256];
     Prepared {
-        refusal: refusal,
-        count: 0,
+        reading: Reading::Refused(refusal),
         kinds: kinds,
     }
 }
 
 // "In order: 1, path slice or program slice too short; 2, formula bytes not as above (size and depth apart); 3, name line
-// not as above; 4 `ExpressionLimit` at `root`". The program slice has so many bytes.
-pub fn prepare(formula: &[u8], names: &[u8], path: &mut [u8], room: usize) -> Prepared
-    ensures { λ r. ⌜ Prepares (now (formula .entry)) (now (names .entry)) room (now (path .entry)) (now (path .exit)) r ⌝ }
+// not as above". Path and program slice have so many bytes.
+pub fn prepare(formula: &[u8], names: &[u8], path: usize, program: usize) -> Prepared
+    ensures { λ r. ⌜ r ≡ preparation (now (formula .entry)) (now (names .entry)) path program ⌝ }
 {
-    if path.len() < 8192 {
-        return unprepared(1);
+    if path < 8192 {
+        return unprepared(SLICE_TOO_SHORT);
     }
-    if room / 240 < (formula.len() + 15) / 16 {
-        return unprepared(1);
+    if program / 240 < (formula.len() + 15) / 16 {
+        return unprepared(SLICE_TOO_SHORT);
     }
     let read = is_formula(formula);
     if !read {
-        return unprepared(2);
+        return unprepared(NO_FORMULA);
     }
     let table = read_names(names);
     if !table.ok {
-        return unprepared(3);
-    }
-    let small = within_limits(formula, 256, 32);
-    if !small {
-        write_root(path);
-        return unprepared(4);
+        return unprepared(MALFORMED_LINE);
     }
     let kinds = table.kinds;
     Prepared {
-        refusal: 0,
-        count: table.count,
+        reading: Reading::Symbols(table.count),
         kinds: kinds,
     }
+}
+
+// "4 `ExpressionLimit` at `root`": whether a formula is within the limits; `root` is written where it is not.
+pub fn within(formula: &[u8], path: &mut [u8]) -> bool
+    requires { ⌜ 4 ≤ length (now path) ⌝ }
+    ensures { λ r. ⌜ (r ≡ limited 256 32 (formula-of (now (formula .entry)))) × (now (path .exit) ≡ cond r (now (path .entry)) (placed (some root) (now (path .entry)))) ⌝ }
+{
+    let small = within_limits(formula, 256, 32);
+    if small {
+        return true;
+    }
+    write_root(path);
+    false
 }
 
 // "Compile (reference `compile_prepared`, limit 256, not generated)": the refusals 1 to 4, "then the first fault in
@@ -181,14 +208,56 @@ pub fn prepare(formula: &[u8], names: &[u8], path: &mut [u8], room: usize) -> Pr
 pub fn compile(formula: &[u8], names: &[u8], path: &mut [u8], program: &mut [u8]) -> Answer
     ensures { λ r. ⌜ (r ≡ answer (compile (now (formula .entry)) (now (names .entry)) (length (now (path .entry))) (length (now (program .entry))))) × (now (path .exit) ≡ path-after (compile (now (formula .entry)) (now (names .entry)) (length (now (path .entry))) (length (now (program .entry)))) (now (path .entry))) × (now (program .exit) ≡ program-after image (compile (now (formula .entry)) (now (names .entry)) (length (now (path .entry))) (length (now (program .entry)))) (now (program .entry))) ⌝ }
 {
-    let prepared = prepare(formula, names, path, program.len());
-    if prepared.refusal != 0 {
-        return Answer::Refused(prepared.refusal);
+    let prepared = prepare(formula, names, path.len(), program.len());
+    let reading = prepared.reading;
+    match reading {
+        Reading::Refused(n) => Answer::Refused(n),
+        Reading::Symbols(count) => {
+            if within(formula, path) {
+                let kinds = prepared.kinds;
+                return write(formula, program, path, &kinds[..count], false, 32);
+            }
+            Answer::Refused(EXPRESSION_LIMIT)
+        }
     }
-    let kinds = prepared.kinds;
-    let n = write(formula, program, path, &kinds[..prepared.count], false, 32);
-    if n == 0 {
-        return Answer::Program;
+}
+
+// ---- a formula lowered for its own sake
+
+// Whether a formula is Boolean, or the refusal of its first fault.
+pub enum Lowered {
+    Kind(bool),
+    Refused(u8),
+}
+
+// Lowers a formula into memory that is not the caller's program slice.
+fn lower_into(formula: &[u8], kinds: &[u8], path: &mut [u8], own: &mut [u8]) -> Lowered
+    requires { ⌜ (15 * length (now formula) ≤ length (now own)) × (8192 ≤ length (now path)) × ((f : Formula) × (ss : List Symbol) × Formed (now formula) (now kinds) f ss) ⌝ }
+    ensures { λ r. ⌜ ((f : Formula) (ss : List Symbol) → Formed (now (formula .entry)) (now (kinds .entry)) f ss → (r ≡ lowered-to f (fault (own-context ss) (term f) root)) × (now (path .exit) ≡ placed (fault-place (fault (own-context ss) (term f) root)) (now (path .entry)))) ⌝ }
+{
+    let a = write(
+        formula,
+        &mut own[..15 * formula.len()],
+        path,
+        kinds,
+        false,
+        32,
+    );
+    match a {
+        Answer::Program => Lowered::Kind(own[20] == 1),
+        Answer::Refused(n) => Lowered::Refused(n),
     }
-    Answer::Refused(n)
+}
+
+// For callers whose refusals leave the program slice unchanged. A small formula has a small array, as all of it is cleared.
+pub fn lower_own(formula: &[u8], kinds: &[u8], path: &mut [u8]) -> Lowered
+    requires { ⌜ (8192 ≤ length (now path)) × ((f : Formula) × (ss : List Symbol) × Formed (now formula) (now kinds) f ss) ⌝ }
+    ensures { λ r. ⌜ ((f : Formula) (ss : List Symbol) → Formed (now (formula .entry)) (now (kinds .entry)) f ss → (r ≡ lowered-to f (fault (own-context ss) (term f) root)) × (now (path .exit) ≡ placed (fault-place (fault (own-context ss) (term f) root)) (now (path .entry)))) ⌝ }
+{
+    if formula.len() <= 512 {
+        let mut small = [0u8; 7680];
+        return lower_into(formula, kinds, path, &mut small);
+    }
+    let mut own = [0u8; 61440];
+    lower_into(formula, kinds, path, &mut own)
 }

@@ -9,7 +9,7 @@ use Rattle.arithmetic.specs.Value.{whole, absolute}
 use Rattle.arithmetic.specs.Constant
 use Rattle.arithmetic.specs.Round.{floor}
 use Rattle.arithmetic.specs.Extremum.{hold}
-use Rattle.formula.specs.Operator.{Operation, binary, call, Power, Modulo, Abs, Min, Hill, InverseGaussianDensity}
+use Rattle.formula.specs.Operator.{Operation, binary, call, Power, Modulo, Abs, Max, Min, Hill, InverseGaussianDensity}
 use Rattle.formula.specs.Formula.{Formula, node, last, symbol, operation, of-list}
 use Rattle.formula.specs.Path.{root, _▸_, argument, else-arm}
 use Rattle.formula.specs.Term.{term}
@@ -47,6 +47,10 @@ abbrev -2e0 : ℕ
 abbrev half : ℕ
 half = 0x3fe0000000000000
 
+-- 1e-8 × 2
+abbrev 2e-8 : ℕ
+2e-8 = 0x3e55798ee2308c3a
+
 pub abs-negative : by 0 false (call Abs) (0 ∷ []) (-2e0 ∷ []) [] ≡ gives -1e0
 unfolding add sub mul div rem neg lt le eq ne ofBits toBits round whole absolute floor hold hill-work density-work density-cost less-one
 abs-negative = refl
@@ -76,13 +80,21 @@ unfolding add sub mul div rem neg lt le eq ne ofBits toBits round whole absolute
 density-zero = refl
 
 -- "a Min or Max tie takes the first argument"
-pub tie-first : by 0 false (call Min) (0 ∷ 1 ∷ []) (2e0 ∷ 2e0 ∷ []) [] ≡ gives 1e0
+pub min-tie-first : by 0 false (call Min) (0 ∷ 1 ∷ []) (2e0 ∷ 2e0 ∷ []) [] ≡ gives 1e0
 unfolding add sub mul div rem neg lt le eq ne ofBits toBits round whole absolute floor hold hill-work density-work density-cost less-one
-tie-first = refl
+min-tie-first = refl
 
-pub tie-second : by 1 false (call Min) (0 ∷ 1 ∷ []) (2e0 ∷ 2e0 ∷ []) [] ≡ gives 0
+pub min-tie-second : by 1 false (call Min) (0 ∷ 1 ∷ []) (2e0 ∷ 2e0 ∷ []) [] ≡ gives 0
 unfolding add sub mul div rem neg lt le eq ne ofBits toBits round whole absolute floor hold hill-work density-work density-cost less-one
-tie-second = refl
+min-tie-second = refl
+
+pub max-tie-first : by 0 false (call Max) (0 ∷ 1 ∷ []) (2e0 ∷ 2e0 ∷ []) [] ≡ gives 1e0
+unfolding add sub mul div rem neg lt le eq ne ofBits toBits round whole absolute floor hold hill-work density-work density-cost less-one
+max-tie-first = refl
+
+pub max-tie-second : by 1 false (call Max) (0 ∷ 1 ∷ []) (2e0 ∷ 2e0 ∷ []) [] ≡ gives 0
+unfolding add sub mul div rem neg lt le eq ne ofBits toBits round whole absolute floor hold hill-work density-work density-cost less-one
+max-tie-second = refl
 
 -- "Hill at x = 0 gives 0 where dx is the literal zero"
 pub hill-constant : by 1 true (call Hill) (0 ∷ 1 ∷ 2 ∷ []) (0 ∷ 1e0 ∷ 2e0 ∷ []) [] ≡ gives 0
@@ -94,15 +106,29 @@ pub hill-above : by 0 false (call Hill) (0 ∷ 1 ∷ 2 ∷ []) (0 ∷ 2e0 ∷ 2e
 unfolding add sub mul div rem neg lt le eq ne ofBits toBits round whole absolute floor hold hill-work density-work density-cost less-one
 hill-above = refl
 
+pub hill-above-state : by 0 true (call Hill) (0 ∷ 1 ∷ 2 ∷ []) (0 ∷ 2e0 ∷ 2e0 ∷ []) [] ≡ gives 0
+unfolding add sub mul div rem neg lt le eq ne ofBits toBits round whole absolute floor hold hill-work density-work density-cost less-one
+hill-above-state = refl
+
 -- "n = 1 by a state gives dx/k"
 pub hill-one : by 0 true (call Hill) (0 ∷ 1 ∷ 2 ∷ []) (0 ∷ 1e0 ∷ 2e0 ∷ []) [] ≡ gives half
 unfolding add sub mul div rem neg lt le eq ne ofBits toBits round whole absolute floor hold hill-work density-work density-cost less-one
 hill-one = refl
 
--- "n < 1 by a state takes dx times the slope at 1e-8·k": it asks the logarithm of 1e-8·k
-pub hill-below : by 0 true (call Hill) (0 ∷ 1 ∷ 2 ∷ []) (0 ∷ half ∷ 1e0 ∷ []) [] ≡ some (question (elementary 1 (Constant.literal 0x3e45798ee2308c3a)))
+-- "n < 1 by a state takes dx times the slope at 1e-8·k", with k = 2: it asks the logarithm of 2e-8,
+pub hill-below : by 0 true (call Hill) (0 ∷ 1 ∷ 2 ∷ []) (0 ∷ half ∷ 2e0 ∷ []) [] ≡ some (question (elementary 1 (Constant.literal 2e-8)))
 unfolding add sub mul div rem neg lt le eq ne ofBits toBits round whole absolute floor hold hill-work density-work density-cost less-one
 hill-below = refl
+
+-- then, with -2 and 0 for the logarithms of 2e-8 and 2, the exponential of z = 0.5 × (-2 - 0),
+pub hill-below-power : by 0 true (call Hill) (0 ∷ 1 ∷ 2 ∷ []) (0 ∷ half ∷ 2e0 ∷ []) (-2e0 ∷ 0 ∷ []) ≡ some (question (elementary 0 (Constant.literal -1e0)))
+unfolding add sub mul div rem neg lt le eq ne ofBits toBits round whole absolute floor hold hill-work density-work density-cost less-one
+hill-below-power = refl
+
+-- and with 1 for it, and the like for the second Hill of the slope, it is 0.5 / 2e-8 × 0.5 × n
+pub hill-below-slope : by 0 true (call Hill) (0 ∷ 1 ∷ 2 ∷ []) (0 ∷ half ∷ 2e0 ∷ []) (-2e0 ∷ 0 ∷ 1e0 ∷ 0 ∷ -2e0 ∷ 1e0 ∷ []) ≡ gives 0x4157d78400000000
+unfolding add sub mul div rem neg lt le eq ne ofBits toBits round whole absolute floor hold hill-work density-work density-cost less-one
+hill-below-slope = refl
 
 -- "otherwise Domain": at the division of 1 by 0
 pub hill-domain : by 0 false (call Hill) (0 ∷ 1 ∷ 2 ∷ []) (0 ∷ 1e0 ∷ 2e0 ∷ []) [] ≡ some (domain (root ▸ argument 1 ▸ else-arm ▸ else-arm ▸ else-arm))

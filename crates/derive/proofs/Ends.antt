@@ -20,13 +20,15 @@ use Rattle.machine.specs.Compile as Compile
 use Rattle.names.specs.Lines.{kind-number}
 use Rattle.paths.specs.Over.{zeroed}
 use Rattle.names.proofs.Told.{number-state}
+use Rattle.compile.specs.Outcome.{fault-place, lowered-to}
+use Rattle.compile.specs.declared.Lowered.{Lowered}
+use Rattle.compile.specs.declared.Lowered.the-variants as Lows
 use Rattle.compile.proofs.Entries.{listed-length}
 use Rattle.derivative.specs.Differentiate.{derivative}
 use Rattle.derivative.specs.Derive.{Derived, by-state, continued, derive, derived, fitted, formula-refused, refused}
-use Rattle.derive.specs.Outcome.{Leaves, Lowers}
+use Rattle.derive.specs.Outcome.{Leaves}
 use Rattle.derive.specs.declared.Answer.{Answer}
 use Rattle.derive.specs.declared.Answer.the-variants as Given
-use Rattle.derive.specs.declared.Lowered.{Lowered}
 use Rattle.derive.proofs.Parts.{leaves}
 
 -- the path slice before is the one that was lent
@@ -77,26 +79,27 @@ module _ (tree program : ℕ) (ss : List Symbol) (o : Option Formula) where
 
 -- ---- after a formula within the limits, over its symbols
 
-module _ (tree program s : ℕ) (f : Formula) (ss : List Symbol) (l : Lowered) (q q′ : List ℕ) where
+module _ (tree program s : ℕ) (f : Formula) (ss : List Symbol) where
   abbrev O : Option Fault
   O = fault (own-context ss) (term f) root
 
   abbrev X : Option Fault → Derived
   X o = continued tree program s (lowered-or f ss o)
 
-  faulty-at : (o : Option Fault) (r : Answer) (t p : List ℕ) → Lowers f o l q q′ → (l .refusal ≡ 0 → ⊥) → r ≡ Given.Refused (l .refusal) → Leaves (X o) r q q′ t t p p
-  faulty-at none r t p L z e = absurd (z (L .0))
-  faulty-at (some x) r t p L z e = (e ∙ ap Given.Refused (L .0), L .2, refl, refl)
+  module _ (l : Lowered) (q q′ : List ℕ) where
+    faulty-at : (o : Option Fault) (n : ℕ) (t p : List ℕ) → l ≡ lowered-to f o → q′ ≡ placed (fault-place o) q → l ≡ Lows.Refused n → Leaves (X o) (Given.Refused n) q q′ t t p p
+    faulty-at none n t p e k h = absurd (let z : _≡_ {A = ℕ} 0 1 = cc in omega arith)
+    faulty-at (some x) n t p e k h = let m : n ≡ x .number = cc in (ap Given.Refused m, k, refl, refl)
 
-  pub faulty : (t p : List ℕ) → Lowers f O l q q′ → (l .refusal ≡ 0 → ⊥) → Leaves (X O) (Given.Refused (l .refusal)) q q′ t t p p
-  faulty t p L z = faulty-at O (Given.Refused (l .refusal)) t p L z refl
+    pub faulty : (n : ℕ) (t p : List ℕ) → l ≡ lowered-to f O → q′ ≡ placed (fault-place O) q → l ≡ Lows.Refused n → Leaves (X O) (Given.Refused n) q q′ t t p p
+    faulty n t p e k h = faulty-at O n t p e k h
 
-  faultless-at : (o : Option Fault) → Lowers f o l q q′ → l .refusal ≡ 0 → (o ≡ none) × (l .boolean ≡ same-kind (kind (term f)) Boolean) × (q′ ≡ q)
-  faultless-at none L z = (refl, L .1, L .2)
-  faultless-at (some x) L z = absurd (omega (arith, L .0, L .1))
+    faultless-at : (o : Option Fault) (b : Bool) → l ≡ lowered-to f o → q′ ≡ placed (fault-place o) q → l ≡ Lows.Kind b → (o ≡ none) × (b ≡ same-kind (kind (term f)) Boolean) × (q′ ≡ q)
+    faultless-at none b e k h = let m : b ≡ same-kind (kind (term f)) Boolean = cc in (refl, m, k)
+    faultless-at (some x) b e k h = absurd (let z : _≡_ {A = ℕ} 0 1 = cc in omega arith)
 
-  pub faultless : Lowers f O l q q′ → l .refusal ≡ 0 → (O ≡ none) × (l .boolean ≡ same-kind (kind (term f)) Boolean) × (q′ ≡ q)
-  faultless L z = faultless-at O L z
+    pub faultless : (b : Bool) → l ≡ lowered-to f O → q′ ≡ placed (fault-place O) q → l ≡ Lows.Kind b → (O ≡ none) × (b ≡ same-kind (kind (term f)) Boolean) × (q′ ≡ q)
+    faultless b e k h = faultless-at O b e k h
 
   module _ (e : O ≡ none) where
     pub boolean-root : same-kind (kind (term f)) Boolean ≡ true → X O ≡ refused 7 (some root)

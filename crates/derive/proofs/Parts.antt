@@ -1,31 +1,18 @@
 -- The parts of derive: the formula itself, what its survey found, and what is written.
-use lib.Seq.{length-take-le}
 use mathlib.Core.Path.{_≡_, refl, sym, ap, _∙_, subst}
 use mathlib.Core.Bool.{Bool, true, false, cond, _&&_}
-use mathlib.Core.List.{List, _++_, append-assoc}
+use mathlib.Core.List.{List}
 use mathlib.Core.Option.{Option, none, some}
-use Prim.Native.Nat.{ℕ, _+_, _-_, _*_, _%_, _≤_, _<_, min}
+use Prim.Native.Nat.{ℕ, _*_, _≤_, _<_, min}
 use native.Mathlib.Omega.{arith}
-use lib.ListN.{length, take, getD, length-append, drop}
-use lib.Dec.{eqb, leb}
+use lib.ListN.{length}
+use lib.Dec.{leb}
 use borrow.Author.Tests.{le-leb, lt-leb}
-use Rattle.formula.specs.Text.{zeros}
-use Rattle.formula.specs.Operator.{Boolean, Number, ValueKind, same-kind}
 use Rattle.formula.specs.Formula.{Formula, depth, derivative-limit, size, within}
-use Rattle.formula.specs.Names.{Symbol}
-use Rattle.formula.specs.Node.{formula-of, tree-at, tree-in}
-use Rattle.formula.specs.Path.{placed, root}
-use Rattle.formula.specs.Term.{term}
-use Rattle.machine.specs.Check.{Fault, fault, kind}
-use Rattle.machine.specs.Compile.{filled, own-context}
-use Rattle.layout.specs.Image.{image}
-use Rattle.layout.specs.Opcode.{kind-number}
+use Rattle.formula.specs.Node.{formula-of, tree-at}
 use Rattle.reader.specs.Read.{is-some}
-use Rattle.reader.proofs.Trees.{size-pos}
 use Rattle.reader.proofs.Scan.{whole}
-use Rattle.lower.specs.Piece.{context-of}
-use Rattle.compile.specs.Outcome.{Fits, fault-place, number-of, slice-after}
-use Rattle.compile.proofs.Entries.{all-fit, few, first-fault, long, low, near-fault, no-fault, same-fault}
+use Rattle.compile.proofs.Entries.{low}
 use Rattle.derivative.specs.Attributes.{Attributes, attributes-of, derivative-attributes, primal-attributes, survey}
 use Rattle.derivative.specs.Differentiate.{and-then, derivative}
 use Rattle.derivative.specs.Derive.{Derived, derive}
@@ -33,74 +20,11 @@ use Rattle.derivative.proofs.Attributes.{derivative-right, map-option}
 use Rattle.survey.specs.Table.{Room, found, reading, tree}
 use Rattle.survey.specs.declared.Attributes as Declared
 use Rattle.survey.specs.declared.Found.{Found}
-use Rattle.derive.specs.Outcome.{Formed, Leaves, Lowers}
+use Rattle.derive.specs.Outcome.{Leaves}
 use Rattle.derive.specs.declared.Answer.{Answer}
 
 pub leaves : (X Y : Derived) (r : Answer) (q q′ t t′ p p′ : List ℕ) → X ≡ Y → Leaves Y r q q′ t t′ p p′ → Leaves X r q q′ t t′ p p′
 leaves X Y r q q′ t t′ p p′ e L = subst (λ (Z : Derived). Leaves Z r q q′ t t′ p p′) (sym e) L
-
--- ---- the formula itself
-
-module _ (b K : List ℕ) (f : Formula) (ss : List Symbol) (F : Formed b K f ss) where
-  pub small : 15 * length b ≤ 61440
-  small = omega (arith, few b f (F .formed) (F .limit), long b f (F .formed) (F .limit))
-
-  pub one-node : 16 ≤ length b
-  one-node = omega (arith, size-pos f, long b f (F .formed) (F .limit))
-
-  -- the kind's byte is in the slice lent for the program, of which `part` is the start
-  pub kind-inside : (part own : List ℕ) → length part ≡ length (take (15 * length b) own) → 15 * length b ≤ length own → 20 < length (part ++ drop (15 * length b) own)
-  kind-inside part own e h =
-      omega (arith, one-node, length-append part (drop (15 * length b) own), length-take-le (15 * length b) own h)
-
-  pub fits-own : (path program : ℕ) → 8192 ≤ path → 15 * length b ≤ program → Fits b 32 program path
-  fits-own = all-fit b f (F .formed) (F .limit)
-
-  header-kind : (rest : List ℕ) → getD (image (own-context ss) f ++ rest) 20 0 ≡ kind-number (kind (term f))
-  unfolding image
-  header-kind rest = go (kind (term f))
-    where
-      go : (k : ValueKind) → kind-number k % 256 ≡ kind-number k
-      go Number = refl
-      go Boolean = refl
-
-  boolean-is : (k : ValueKind) → eqb (kind-number k) 1 ≡ same-kind k Boolean
-  boolean-is Number = refl
-  boolean-is Boolean = refl
-
-  -- what lowering the formula itself came to; own is the slice lent for it, p′ its start
-  module _ (w : ℕ) (q q′ own p′ : List ℕ) (room : 15 * length b ≤ length own)
-      (ew : w ≡ number-of (fault (context-of K false) (term (tree-in 32 b 0)) root))
-      (ep : p′ ≡ slice-after (context-of K false) (tree-in 32 b 0) (fault (context-of K false) (term (tree-in 32 b 0)) root) (take (15 * length b) own))
-      (eq : q′ ≡ placed (fault-place (fault (context-of K false) (term (tree-in 32 b 0)) root)) q) where
-    own-kind : (rest : List ℕ) → p′ ≡ filled (image (own-context ss) f) (take (15 * length b) own) → getD (p′ ++ rest) 20 0 ≡ kind-number (kind (term f))
-    own-kind rest e =
-        let z = zeros (length (take (15 * length b) own) - length (image (own-context ss) f)) in
-        ap (λ (x : List ℕ). getD (x ++ rest) 20 0) e ∙ ap (λ (x : List ℕ). getD x 20 0) (append-assoc (image (own-context ss) f) z rest) ∙ header-kind (z ++ rest)
-
-    lowers-at : (o : Option Fault) → fault (own-context ss) (term f) root ≡ o → (rest : List ℕ)
-        → Lowers f o (record { refusal = w; boolean = eqb (getD (p′ ++ rest) 20 0) 1 }) q q′
-    lowers-at none e rest =
-        let n = no-fault b f (F .formed) (F .limit) K ss (F .listed) w q q q′ (take (15 * length b) own) p′ refl ew ep eq (fault-zero e) in
-        (fault-zero e, ap (λ (x : ℕ). eqb x 1) (own-kind rest (n .1)) ∙ boolean-is (kind (term f)), n .2)
-      where
-        fault-zero : fault (own-context ss) (term f) root ≡ none → w ≡ 0
-        fault-zero e = ew ∙ ap number-of (same-fault b f (F .formed) (F .limit) K ss (F .listed)) ∙ ap number-of e
-    lowers-at (some x) e rest =
-        let n = first-fault b f (F .formed) (F .limit) K ss (F .listed) w q q q′ (take (15 * length b) own) p′ refl ew ep eq fault-number in
-        let y : _≡_ {A = Fault} (record { number = w; place = n .0 }) x = some-of (sym (n .1) ∙ e) in
-        (ap (λ (z : Fault). z .number) y, omega (arith, n .2, ap (λ (z : Fault). z .number) y), n .4 ∙ ap (λ (z : Fault). placed (some (z .place)) q) y)
-      where
-        some-of : {a c : Fault} → _≡_ {A = Option Fault} (some a) (some c) → a ≡ c
-        some-of h = cc
-
-        fault-number : w ≡ 0 → ⊥
-        fault-number z =
-            let m = near-fault b f (F .formed) (F .limit) K ss (F .listed) x e in
-            omega (arith, m .least, ew ∙ ap number-of (same-fault b f (F .formed) (F .limit) K ss (F .listed)) ∙ ap number-of e)
-
-    pub lowers : (rest : List ℕ) → Lowers f (fault (own-context ss) (term f) root) (record { refusal = w; boolean = eqb (getD (p′ ++ rest) 20 0) 1 }) q q′
-    lowers rest = lowers-at (fault (own-context ss) (term f) root) refl rest
 
 -- ---- what the survey found
 

@@ -34,7 +34,8 @@ use Rattle.derivative.proofs.Compiles.{derivative-compiles}
 use Rattle.derivative.proofs.Paths.{derivative-paths}
 use Rattle.survey.specs.Table.{tree}
 use Rattle.differentiate.specs.Written.{Writes}
-use Rattle.derive.specs.Outcome.{Derives, Formed}
+use Rattle.compile.specs.Preparation.{Formed}
+use Rattle.derive.specs.Outcome.{Derives}
 use Rattle.derive.proofs.Parts.{tree-is}
 use Rattle.derive.proofs.Writable.{derivative-writable}
 

@@ -1,25 +1,23 @@
 -- What derive answers and leaves.
 use mathlib.Core.Path.{_≡_}
 use mathlib.Core.Bool.{Bool, true}
-use mathlib.Core.List.{List, map}
-use mathlib.Core.Option.{Option, none, some}
+use mathlib.Core.List.{List}
+use mathlib.Core.Option.{none, some}
 use Prim.Native.Nat.{ℕ, _*_, _≤_, _<_}
 use lib.ListN.{length}
-use Rattle.formula.specs.Operator.{Boolean, Number, same-kind}
-use Rattle.formula.specs.Formula.{Formula, derivative-limit, size, within}
-use Rattle.formula.specs.Names.{Symbol, kinds}
-use Rattle.formula.specs.Node.{formula-of}
-use Rattle.formula.specs.Path.{placed, root}
+use Rattle.formula.specs.Operator.{Number}
+use Rattle.formula.specs.Formula.{Formula, derivative-limit, size}
+use Rattle.formula.specs.Names.{Symbol}
+use Rattle.formula.specs.Path.{root}
 use Rattle.formula.specs.Term.{term}
-use Rattle.machine.specs.Check.{Fault, fault, kind}
+use Rattle.machine.specs.Check.{fault, kind}
 use Rattle.machine.specs.Compile.{own-context}
 use Rattle.layout.specs.Image.{image}
 use Rattle.derivative.specs.Differentiate.{derivative}
 use Rattle.derivative.specs.Derive.{Derived, by-state, derived, formula-refused, path-after, program-after, refused, tree-after}
-use Rattle.names.specs.Lines.{kind-number}
+use Rattle.compile.specs.Preparation.{Formed}
 use Rattle.derive.specs.declared.Answer.{Answer}
 use Rattle.derive.specs.declared.Answer.the-variants as Given
-use Rattle.derive.specs.declared.Lowered.{Lowered}
 
 abbrev pub answer : Derived → Answer
 answer (formula-refused n place) = Given.Refused n
@@ -32,18 +30,7 @@ Leaves X r q q′ t t′ p p′ = (r ≡ answer X) × (q′ ≡ path-after X q) 
 
 -- ---- what the parts are given
 
--- formula bytes within the limits, and the kinds of its symbols
-pub record Formed (b K : List ℕ) (f : Formula) (ss : List Symbol) : Type 0 where
-  pub formed : formula-of b ≡ some f
-  pub limit : within 256 32 f ≡ true
-  pub listed : K ≡ map kind-number (kinds ss)
-
--- the first fault with its number and place, or none and whether the formula is Boolean
-abbrev pub Lowers : Formula → Option Fault → Lowered → List ℕ → List ℕ → Type 0
-Lowers f none r q q′ = (r .refusal ≡ 0) × (r .boolean ≡ same-kind (kind (term f)) Boolean) × (q′ ≡ q)
-Lowers f (some x) r q q′ = (r .refusal ≡ x .number) × (5 ≤ x .number) × (q′ ≡ placed (some (x .place)) q)
-
--- and it compiles to a Number, and the symbol is one of them
+-- a formula within the limits that compiles to a Number, and a symbol that is one of its symbols
 pub record Derivable (b K : List ℕ) (s : ℕ) (state : Bool) (f : Formula) (ss : List Symbol) : Type 0 where
   pub given : Formed b K f ss
   pub faultless : fault (own-context ss) (term f) root ≡ none

@@ -16,12 +16,22 @@ ghost use Rattle.layout.specs.Image.{image};
 ghost use Rattle.derivative.specs.Differentiate.{derivative};
 ghost use Rattle.derivative.specs.Derive.{by-state, continued, derive, fitted, generated-context};
 ghost use Rattle.differentiate.specs.Written.{Job};
-ghost use Rattle.derive.specs.Outcome.{Derivable, Derives, Formed, Leaves, Lowers};
+ghost use Rattle.compile.specs.Preparation.{Formed};
+ghost use Rattle.derive.specs.Outcome.{Derivable, Derives, Leaves};
+use compile::Lowered;
+use compile::Reading;
+use compile::lower_own;
 use compile::prepare;
+use compile::within;
 use compile::write;
 use differentiate::write_derivative;
 use paths::write_root;
 use paths::zero_from;
+use refusals::EXPRESSION_LIMIT;
+use refusals::SLICE_TOO_SHORT;
+use refusals::UNKNOWN_SYMBOL;
+use refusals::UNSUPPORTED;
+use refusals::WRONG_TYPE;
 use survey::By;
 use survey::survey_formula;
 use survey::with_primal;
@@ -77,66 +87,28 @@ fn derive_number(
     let found = survey_formula(formula, 32, by, table);
     if !found.fine {
         refuse_at_root(path, tree);
-        return Answer::Refused(8);
+        return Answer::Refused(UNSUPPORTED);
     }
     let own = found.own;
     let diff = found.diff;
     let whole = with_primal(own, diff);
     if whole.nodes > 16384 {
         refuse_at_root(path, tree);
-        return Answer::Refused(4);
+        return Answer::Refused(EXPRESSION_LIMIT);
     }
     if whole.levels > 128 {
         refuse_at_root(path, tree);
-        return Answer::Refused(4);
+        return Answer::Refused(EXPRESSION_LIMIT);
     }
     if tree.len() / 16 < whole.nodes {
         zero_from(tree, 0);
-        return Answer::Refused(1);
+        return Answer::Refused(SLICE_TOO_SHORT);
     }
     if program.len() / 240 < whole.nodes {
         zero_from(tree, 0);
-        return Answer::Refused(1);
+        return Answer::Refused(SLICE_TOO_SHORT);
     }
     Answer::Derived(write_both(formula, kinds, by, table, path, tree, program))
-}
-
-// The refusal of a formula's first fault, or 0 and whether the formula is Boolean.
-struct Lowered {
-    refusal: u8,
-    boolean: bool,
-}
-
-// Lowers the formula itself into memory that is not the caller's: "Every refusal leaves the program slice unchanged."
-fn lower_into(formula: &[u8], kinds: &[u8], path: &mut [u8], own: &mut [u8]) -> Lowered
-    requires { ⌜ (15 * length (now formula) ≤ length (now own)) × (8192 ≤ length (now path)) × ((f : Formula) × (ss : List Symbol) × Formed (now formula) (now kinds) f ss) ⌝ }
-    ensures { λ r. ⌜ ((f : Formula) (ss : List Symbol) → Formed (now (formula .entry)) (now (kinds .entry)) f ss → Lowers f (fault (own-context ss) (term f) root) r (now (path .entry)) (now (path .exit))) ⌝ }
-{
-    let n = write(
-        formula,
-        &mut own[..15 * formula.len()],
-        path,
-        kinds,
-        false,
-        32,
-    );
-    Lowered {
-        refusal: n,
-        boolean: own[20] == 1,
-    }
-}
-
-// A small formula has a small array, as all of it is cleared.
-fn lower_own(formula: &[u8], kinds: &[u8], path: &mut [u8]) -> Lowered
-    requires { ⌜ (8192 ≤ length (now path)) × ((f : Formula) × (ss : List Symbol) × Formed (now formula) (now kinds) f ss) ⌝ }
-    ensures { λ r. ⌜ ((f : Formula) (ss : List Symbol) → Formed (now (formula .entry)) (now (kinds .entry)) f ss → Lowers f (fault (own-context ss) (term f) root) r (now (path .entry)) (now (path .exit))) ⌝ }
-{
-    if formula.len() <= 512 {
-        let mut small = [0u8; 7680];
-        return lower_into(formula, kinds, path, &mut small);
-    }
-    let mut own = [0u8; 61440];
-    lower_into(formula, kinds, path, &mut own)
 }
 
 // Of a formula within the limits: compile's faults, "then 7 at `root` if it is Boolean (added), 6 at `root` for a symbol number
@@ -153,27 +125,29 @@ fn derive_formula(
     ensures { λ r. ⌜ ((f : Formula) (ss : List Symbol) → Formed (now (formula .entry)) (now (kinds .entry)) f ss → Leaves (continued (length (now (tree .entry))) (length (now (program .entry))) symbol (lowered-or f ss (fault (own-context ss) (term f) root))) r (now (path .entry)) (now (path .exit)) (now (tree .entry)) (now (tree .exit)) (now (program .entry)) (now (program .exit))) ⌝ }
 {
     let lowered = lower_own(formula, kinds, path);
-    if lowered.refusal != 0 {
-        return Answer::Refused(lowered.refusal);
+    match lowered {
+        Lowered::Refused(n) => Answer::Refused(n),
+        Lowered::Kind(boolean) => {
+            if boolean {
+                refuse_at_root(path, tree);
+                return Answer::Refused(WRONG_TYPE);
+            }
+            if symbol >= kinds.len() {
+                refuse_at_root(path, tree);
+                return Answer::Refused(UNKNOWN_SYMBOL);
+            }
+            let by = By {
+                symbol: symbol,
+                state: kinds[symbol] == 1,
+            };
+            if formula.len() <= 512 {
+                let mut small = [0usize; 256];
+                return derive_number(formula, kinds, by, &mut small, path, tree, program);
+            }
+            let mut table = [0usize; 2048];
+            derive_number(formula, kinds, by, &mut table, path, tree, program)
+        }
     }
-    if lowered.boolean {
-        refuse_at_root(path, tree);
-        return Answer::Refused(7);
-    }
-    if symbol >= kinds.len() {
-        refuse_at_root(path, tree);
-        return Answer::Refused(6);
-    }
-    let by = By {
-        symbol: symbol,
-        state: kinds[symbol] == 1,
-    };
-    if formula.len() <= 512 {
-        let mut small = [0usize; 256];
-        return derive_number(formula, kinds, by, &mut small, path, tree, program);
-    }
-    let mut table = [0usize; 2048];
-    derive_number(formula, kinds, by, &mut table, path, tree, program)
 }
 
 // "Derive (reference `derivative_prepared`). Compile's refusals for the formula itself come first".
@@ -187,17 +161,16 @@ pub fn derive(
 ) -> Answer
     ensures { λ r. ⌜ Leaves (derive (now (formula .entry)) (now (names .entry)) symbol (length (now (path .entry))) (length (now (tree .entry))) (length (now (program .entry)))) r (now (path .entry)) (now (path .exit)) (now (tree .entry)) (now (tree .exit)) (now (program .entry)) (now (program .exit)) ⌝ }
 {
-    let prepared = prepare(formula, names, path, program.len());
-    if prepared.refusal != 0 {
-        return Answer::Refused(prepared.refusal);
+    let prepared = prepare(formula, names, path.len(), program.len());
+    let reading = prepared.reading;
+    match reading {
+        Reading::Refused(n) => Answer::Refused(n),
+        Reading::Symbols(count) => {
+            if within(formula, path) {
+                let kinds = prepared.kinds;
+                return derive_formula(formula, &kinds[..count], symbol, path, tree, program);
+            }
+            Answer::Refused(EXPRESSION_LIMIT)
+        }
     }
-    let kinds = prepared.kinds;
-    derive_formula(
-        formula,
-        &kinds[..prepared.count],
-        symbol,
-        path,
-        tree,
-        program,
-    )
 }

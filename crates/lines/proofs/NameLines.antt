@@ -14,7 +14,7 @@ use Rattle.formula.specs.Text.{all, all-some, joined, parted, split}
 use Rattle.formula.specs.Node.{formula-of}
 use Rattle.formula.specs.Names.{Symbol, is-digit, is-letter, is-name, none-twice, symbol-of, symbols-of, table}
 use Rattle.formula.specs.Path.{path-room}
-use Rattle.machine.specs.Compile.{compile, program-room, read, refused}
+use Rattle.machine.specs.Compile.{compile, program-room, read, refused, sized}
 use mathlib.Core.Bool.{_||_}
 use Rattle.listing.specs.Legs.{compiled, formula-room}
 use Rattle.names.proofs.Splits.{and-second, first-piece, later-pieces, no-true, pieces}
@@ -97,5 +97,5 @@ pub compiled-kept : (formula l : List ℕ) (n : ℕ) → 17152 ≤ n → compile
 unfolding compile
 compiled-kept formula l n h =
     ap
-    (λ (o : Option (List Symbol)). cond (ltb path-room path-room || ltb (program-room formula-room) (program-room (length formula))) (refused 1 none) (read (formula-of formula) o))
+    (λ (o : Option (List Symbol)). cond (ltb path-room path-room || ltb (program-room formula-room) (program-room (length formula))) (refused 1 none) (read sized (formula-of formula) o))
     (symbols-kept l n h)

@@ -22,6 +22,7 @@ use Rattle.lower.specs.declared.Cursor.{Cursor}
 use Rattle.lower.specs.declared.Site.{Site}
 use Rattle.lower.specs.declared.Low.{Low}
 use Rattle.lower.specs.declared.Low.the-variants.{Fault as Faulty}
+use Rattle.lower.proofs.Keeps.{kept-here, kept-then}
 use Rattle.lower.proofs.Says.{here}
 use Rattle.lower.proofs.Compose.{ready-from}
 use Rattle.lower.proofs.Kids.{first-well, one-well}
@@ -41,7 +42,7 @@ ready-term {L} {p} {s} {c} t t′ e R n = ready-moved (subst (λ (x : Term). Rea
 
 said-at : (o : Option Fault) (P : Piece) (L : Layout) (c : Cursor) (m : ℕ) (p p′ : List ℕ) (r : Low) → Says-at o P L (moved c m) p p′ r → Says-at o P L c p p′ r
 said-at none P L c m p p′ r S = S
-said-at (some x) P L c m p p′ r S = S
+said-at (some x) P L c m p p′ r (k, a, b, s, h) = (k, a, b, s, kept-then (kept-here L c p) h (omega arith) (omega arith) (omega arith))
 
 says-moved : (L : Layout) (C : Context) (t : Term) (P : Path) (k n m : ℕ) (c : Cursor) (p p′ : List ℕ) (r : Low) → Says (own-piece C t P k (moved c m) n) L (moved c m) p p′ r
     → Says (own-piece C t P k c n) L c p p′ r
@@ -57,7 +58,7 @@ as-node L C t t′ P k n n′ m c p p′ r e f S =
 -- a wrong count of children is refused before they are looked at
 pub miscounted-here : {L : Layout} {p : List ℕ} {s : Site} {c : Cursor} {I Q E : ℕ} (R : Ready L p s c I Q E) (C : Context) (t : Term) (n : ℕ) → t ≡ miscounted
     → Says (own-piece C t (place L p s) (s .path) c n) L c p p (Faulty 5 (s .path))
-miscounted-here {L} {p} {s} {c} {I} {Q} {E} R C t n e = here L p s c I Q E R (own-piece C t (place L p s) (s .path) c n) 5 c p (faulty C t n (place L p s) (s .path) c e)
+miscounted-here {L} {p} {s} {c} {I} {Q} {E} R C t n e = here L p s c I Q E R (own-piece C t (place L p s) (s .path) c n) 5 (faulty C t n (place L p s) (s .path) c e)
   where
     faulty : (C : Context) (t : Term) (n : ℕ) (P : Path) (k : ℕ) (c : Cursor) → t ≡ miscounted → own-piece C t P k c n .fault ≡ some (record { number = 5; place = P })
     faulty C t n P k c e = unfold own-piece in rw e

@@ -1,5 +1,5 @@
 -- The arms of a condition, and a conditional whole.
-use mathlib.Core.Path.{_≡_, refl, ap, subst}
+use mathlib.Core.Path.{_≡_, refl, sym, ap, subst}
 use mathlib.Core.Bool.{_||_}
 use mathlib.Core.List.{List, _++_, append-assoc}
 use mathlib.Core.Option.{none, some}
@@ -14,7 +14,7 @@ use Rattle.machine.specs.Lower.{instruction-count, register-count, result-regis
 use Rattle.layout.specs.Image.{below, entry-count, lists, path-count, path-record, row, rows}
 use Rattle.layout.proofs.Lengths.{length-below, length-lists, length-rows}
 use Rattle.lower.specs.Bytes.{Chunk}
-use Rattle.lower.specs.Piece.{Piece, Says, branch-piece, is-boolean, kind-if, own-piece, term-piece}
+use Rattle.lower.specs.Piece.{Kept, Piece, Says, branch-piece, is-boolean, kind-if, own-piece, term-piece}
 use Rattle.lower.specs.Ready.{Ready}
 use Rattle.lower.specs.declared.Layout.{Layout}
 use Rattle.lower.specs.declared.Cursor.{Cursor}
@@ -24,7 +24,7 @@ use Rattle.lower.specs.declared.Low.{Low}
 use Rattle.lower.specs.declared.Low.the-variants.{Fault as Faulty}
 use Rattle.lower.proofs.Laid.{Fits, chunk-path, joined}
 use Rattle.lower.proofs.Says.{Refused, Taken}
-use Rattle.lower.proofs.Compose.{fits-room, refused-up, says-then}
+use Rattle.lower.proofs.Compose.{fits-room, kept-written, refused-up, says-then}
 
 pub kind-back : (κ : ValueKind) → kind-if (is-boolean κ) ≡ κ
 kind-back Number = refl
@@ -165,14 +165,19 @@ module _ {L : Layout} {p : List ℕ} {s : Site} {c : Cursor} {I Q E : ℕ} (R : 
       let S₁ : Says B L (A .next) p₁ p₂ r =
       subst (λ (x : Cursor). Says (branch-piece C (A .value) y z P k x n₂) L x p₁ p₂ r) (T .next) (subst (λ (x : Value). Says (branch-piece C x y z P k e n₂) L e p₁ p₂ r) (T .value) S) in
       let T₁ : Taken A L c p p₁ (A .value) (A .next) = record { faultless = T .faultless; value = refl; next = refl; bytes = T .bytes; sound = T .sound } in
-      says-then L c (A .next) p p₁ p₂ (A .value) r A B W T₁ S₁ (same-fault (A-fault (T .faultless))) same-value same-next same-chunk
+      says-then L c (A .next) p p₁ p₂ (A .value) r A B W T₁ kept₁ S₁ (same-fault (A-fault (T .faultless))) same-value same-next same-chunk
       (omega (arith, len-code, e-code)) (omega (arith, len-records, e-path)) (omega (arith, len-lists, e-entry)) all-fits
     where
+      kept₁ : Kept L c p p₁
+      kept₁ =
+          subst (λ (x : List ℕ). Kept L c p x) (sym (T .bytes))
+          (kept-written R (A .chunk) _ _ _ len-code len-records len-lists (omega arith) (omega arith) (omega arith))
+
       A-fault : A .fault ≡ none → fault C t (P ▸ condition) ≡ none
       A-fault x = unfold term-piece in x
 
-  pub condition-refused : (p₁ : List ℕ) (r : Low) (m j : ℕ) → Refused A L p₁ m j → r ≡ Faulty m j → Says W L c p p₁ r
-  condition-refused p₁ r m j F e = refused-up L c p p₁ r m j A W F e up
+  pub condition-refused : (p₁ : List ℕ) (r : Low) (m j : ℕ) → Refused A L c p p₁ m j → r ≡ Faulty m j → Says W L c p p₁ r
+  condition-refused p₁ r m j F e = refused-up c p r W F (F .kept) e up
     where
       up : (x : Fault) → A .fault ≡ some x → W .fault ≡ some x
       up x f = unfold own-piece term-piece in rw f

@@ -16,7 +16,7 @@ use Rattle.layout.proofs.Lengths.{length-below, length-lists, length-rows}
 use Rattle.paths.specs.Over.{over}
 use Rattle.paths.proofs.Over.{over-length}
 use Rattle.lower.specs.Bytes.{Chunk, laid, written}
-use Rattle.lower.specs.Piece.{Piece, Says, Sound, arms-answer, arms-bytes, branch-piece, is-boolean, kind-if, place, term-piece}
+use Rattle.lower.specs.Piece.{Kept, Piece, Says, Sound, arms-answer, arms-bytes, branch-piece, is-boolean, kind-if, place, term-piece}
 use Rattle.lower.specs.Ready.{Ready}
 use Rattle.lower.specs.declared.Layout.{Layout}
 use Rattle.lower.specs.declared.Cursor.{Cursor}
@@ -28,7 +28,8 @@ use Rattle.lower.proofs.Laid.{laid-length}
 use Rattle.lower.proofs.Frames.{Same, same-below, same-linked, same-then}
 use Rattle.lower.proofs.Says.{Refused, Taken, here, says-done, says-fault}
 use Rattle.lower.proofs.Ends.{not-false, not-true}
-use Rattle.lower.proofs.Compose.{fewer-registers, fits-room, place-same, ready-from, refused-up, same-written}
+use Rattle.lower.proofs.Keeps.{kept-code, kept-here, kept-then}
+use Rattle.lower.proofs.Compose.{fewer-registers, fits-room, kept-written, place-same, ready-from, refused-up, same-written}
 use Rattle.lower.proofs.Branches.{kind-back}
 use Rattle.lower.proofs.Arms.{both-arms, first-arm}
 
@@ -54,7 +55,7 @@ module _ {L : Layout} {p : List ℕ} {s : Site} {c : Cursor} (ks : Context) (g :
 
   pub not-boolean : v .boolean ≡ false → Says W L c p p (Faulty 7 k)
   unfolding branch-piece
-  not-boolean e = here L p s c _ _ _ R W 7 c p (rw e)
+  not-boolean e = here L p s c _ _ _ R W 7 (rw e)
 
   module _ (tb : v .boolean ≡ true) (u : Bool) (eu : u ≡ not (L .generated || not (true && v .dynamic))) where
     eu′ : u ≡ not (ks .generated || not (v .dynamic))
@@ -62,7 +63,7 @@ module _ {L : Layout} {p : List ℕ} {s : Site} {c : Cursor} (ks : Context) (g :
 
     pub unsupported-here : u ≡ true → Says W L c p p (Faulty 8 k)
     unfolding branch-piece
-    unsupported-here t = here L p s c _ _ _ R W 8 c p (rw (tb, not-true (ks .generated || not (v .dynamic)) u eu′ t))
+    unsupported-here t = here L p s c _ _ _ R W 8 (rw (tb, not-true (ks .generated || not (v .dynamic)) u eu′ t))
 
     module _ (tu : u ≡ false) where
       fine : (ks .generated || not (v .dynamic)) ≡ true
@@ -80,8 +81,8 @@ module _ {L : Layout} {p : List ℕ} {s : Site} {c : Cursor} (ks : Context) (g :
       ready-first =
           ready-from R p c₁ _ _ _ (λ i b e. refl) refl (omega arith) (omega arith) (omega arith) (omega arith) (omega (arith, R .registers)) (R .sound)
 
-      pub first-refused : (p₁ : List ℕ) (r : Low) (m j : ℕ) → Refused Y L p₁ m j → r ≡ Faulty m j → Says W L c p p₁ r
-      first-refused p₁ r m j F e = refused-up L c p p₁ r m j Y W F e up
+      pub first-refused : (p₁ : List ℕ) (r : Low) (m j : ℕ) → Refused Y L c₁ p p₁ m j → r ≡ Faulty m j → Says W L c p p₁ r
+      first-refused p₁ r m j F e = refused-up c p r W F (kept-then (kept-here L c p) (F .kept) (omega arith) (omega arith) (omega arith)) e up
         where
           up : (x : Fault) → Y .fault ≡ some x → W .fault ≡ some x
           up x f = unfold branch-piece term-piece in rw (tb, fine, f)
@@ -148,6 +149,23 @@ module _ {L : Layout} {p : List ℕ} {s : Site} {c : Cursor} (ks : Context) (g :
           pub same₃ : Same (L .paths) p p₃ (c .path)
           same₃ = same-then (L .paths) p p₁ p₃ (c .path) same₁ (same-rows (c .path))
 
+          kept₁ : Kept L c p p₁
+          kept₁ =
+              subst (λ (x : List ℕ). Kept L c p x) (sym (T .bytes))
+              (kept-then (kept-here L c p) (kept-written ready-first (Y .chunk) _ _ _ (len-y .0) (len-y .1) (len-y .2) (omega arith) (omega arith) (omega arith)) (omega arith) (omega arith) (omega arith))
+
+          kept₂ : Kept L c p₁ p₂
+          kept₂ =
+              subst (λ (x : List ℕ). Kept L c p₁ x) (sym e₂)
+              (kept-code L c p₁ (32 + 24 * c .code) (row 3 0 (c .reg) (v .a) 0 (e .code + 2) k) (omega (arith, n₁′, R .code, R .records, R .lists)) (omega arith) (omega (arith, R .code)) (omega (arith, R .records)))
+
+          kept₃ : Kept L c p p₃
+          kept₃ =
+              kept-then (kept-then kept₁ kept₂ (omega arith) (omega arith) (omega arith))
+              (subst (λ (x : List ℕ). Kept L c p₂ x) (sym e₃)
+              (kept-code L c p₂ (32 + 24 * e .code) (row 2 0 (e .reg) (vy .a) 0 0 k) (omega (arith, n₂′, is-code, R .code, R .records, R .lists)) (omega (arith, is-code)) (omega (arith, is-code, R .code)) (omega (arith, R .records))))
+              (omega arith) (omega arith) (omega arith)
+
           sound₁ : Sound L p₁ (e .path)
           sound₁ = subst (λ (x : Cursor). Sound L p₁ (x .path)) (sym (T .next)) (T .sound)
 
@@ -183,8 +201,9 @@ module _ {L : Layout} {p : List ℕ} {s : Site} {c : Cursor} (ks : Context) (g :
           unfolding branch-piece
           second-fault x f = rw (tb, fine, no-fault-y, f)
 
-          pub second-refused : (p₄ : List ℕ) (r : Low) (m j : ℕ) → Refused Z L p₄ m j → r ≡ Faulty m j → Says W L c p p₄ r
-          second-refused p₄ r m j F x = refused-up L c p p₄ r m j Z W F x (λ y f. second-fault y (sym Z-fault ∙ f))
+          pub second-refused : (p₄ : List ℕ) (r : Low) (m j : ℕ) → Refused Z L c₂ p₃ p₄ m j → r ≡ Faulty m j → Says W L c p p₄ r
+          second-refused p₄ r m j F x =
+              refused-up c p r W F (kept-then kept₃ (F .kept) (omega (arith, is-code)) (omega (arith, is-path)) (omega (arith, is-entry))) x (λ y f. second-fault y (sym Z-fault ∙ f))
 
           module _ (p₄ : List ℕ) (vz : Value) (h : Cursor) (U : Taken Z L c₂ p₃ p₄ vz h) (b : Bool) (eb : b ≡ same-kind (kind-if (vy .boolean)) (kind-if (vz .boolean))) where
             no-fault-z : fault ks z (P ▸ else-arm) ≡ none
@@ -245,6 +264,13 @@ module _ {L : Layout} {p : List ℕ} {s : Site} {c : Cursor} (ks : Context) (g :
             sound₄ : Sound L p₄ (h .path)
             sound₄ = subst (λ (x : Cursor). Sound L p₄ (x .path)) (sym (U .next)) (U .sound)
 
+            kept₄ : Kept L c p p₄
+            kept₄ =
+                kept-then kept₃
+                (subst (λ (x : List ℕ). Kept L c₂ p₃ x) (sym (U .bytes))
+                (kept-written ready-second (Z .chunk) _ _ _ (len-z .0) (len-z .1) (len-z .2) (omega arith) (omega arith) (omega arith)))
+                (omega (arith, is-code)) (omega (arith, is-path)) (omega (arith, is-entry))
+
             place₄ : place L p₄ s ≡ P
             place₄ = place-same ready-second p₄ same₄ ∙ same-place
 
@@ -252,7 +278,7 @@ module _ {L : Layout} {p : List ℕ} {s : Site} {c : Cursor} (ks : Context) (g :
             unfolding branch-piece
             unlike t =
                 says-fault W L c p p₄ (Faulty 7 k) (record { number = 7; place = P }) k (rw (tb, fine, no-fault-y, no-fault-z, sym alike ∙ t)) refl place₄
-                (λ j l. sound₄ j (omega (arith, z-path, is-path, R .site)))
+                (λ j l. sound₄ j (omega (arith, z-path, is-path, R .site))) kept₄
 
             pub both-done : (p₅ p₆ : List ℕ) (r : Low) (d : Bool) → b ≡ true → p₅ ≡ over p₄ (32 + 24 * (e .code + 1)) (row 4 0 (e .reg + 1) 0 0 (h .code + 1) k)
                 → p₆ ≡ over p₅ (32 + 24 * h .code) (row 2 0 (e .reg) (vz .a) 0 0 k) → d ≡ (v .dynamic || vy .dynamic || vz .dynamic)

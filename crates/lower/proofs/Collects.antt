@@ -18,7 +18,7 @@ use Rattle.paths.specs.Over.{over}
 use Rattle.paths.specs.Table.{Linked, path-in-table}
 use Rattle.paths.proofs.Over.{over-before, over-nil}
 use Rattle.lower.specs.Bytes.{Chunk, laid, written}
-use Rattle.lower.specs.Piece.{without-operands, Lists, Lists-at, Piece, Sound, is-boolean, kind-if, listed, operands-piece, operands-value, place, term-piece}
+use Rattle.lower.specs.Piece.{without-operands, Kept, Lists, Lists-at, Piece, Sound, is-boolean, kind-if, listed, operands-piece, operands-value, place, term-piece}
 use Rattle.lower.specs.Ready.{Ready}
 use Rattle.lower.specs.declared.Layout.{Layout}
 use Rattle.lower.specs.declared.Cursor.{Cursor}
@@ -29,7 +29,8 @@ use Rattle.lower.specs.declared.Low.the-variants.{Done, Fault as Faulty}
 use Rattle.lower.proofs.Laid.{Fits, joined, laid-length, laid-then}
 use Rattle.lower.proofs.Frames.{Same, same-above, same-linked}
 use Rattle.lower.proofs.Says.{Refused, Taken}
-use Rattle.lower.proofs.Compose.{fewer-registers, fits-room, place-same, ready-from, same-written}
+use Rattle.lower.proofs.Keeps.{kept-then}
+use Rattle.lower.proofs.Compose.{fewer-registers, fits-room, kept-written, place-same, ready-from, same-written}
 use Rattle.lower.proofs.Branches.{kind-back}
 
 -- ---- answers
@@ -40,9 +41,9 @@ unfolding Lists
 lists-done L b ts i P c p p′ r e x y s = subst (λ (o : Option Fault). Lists-at o L b ts i P c p p′ r) (sym e) (x, y, s)
 
 pub lists-fault : (L : Layout) (b : Bool) (ts : Terms) (i : ℕ) (P : Piece) (c : Cursor) (p p′ : List ℕ) (r : Low) (x : Fault) (k : ℕ) → P .fault ≡ some x → r ≡ Faulty (x .number) k
-    → path-in-table p′ (L .paths) k ≡ x .place → Linked p′ (L .paths) k → Lists L b ts i P c p p′ r
+    → path-in-table p′ (L .paths) k ≡ x .place → Linked p′ (L .paths) k → Kept L c p p′ → Lists L b ts i P c p p′ r
 unfolding Lists
-lists-fault L b ts i P c p p′ r x k e y z s = subst (λ (o : Option Fault). Lists-at o L b ts i P c p p′ r) (sym e) (k, y, z, s)
+lists-fault L b ts i P c p p′ r x k e y z s h = subst (λ (o : Option Fault). Lists-at o L b ts i P c p p′ r) (sym e) (k, y, z, s, h)
 
 pub record Collected (L : Layout) (b : Bool) (ts : Terms) (i : ℕ) (P : Piece) (c : Cursor) (p p′ : List ℕ) (v : Value) (e : Cursor) : Type 0 where
   pub faultless : P .fault ≡ none
@@ -54,7 +55,7 @@ pub record Collected (L : Layout) (b : Bool) (ts : Terms) (i : ℕ) (P : Piece) 
 collected-at : (o : Option Fault) (L : Layout) (b : Bool) (ts : Terms) (i : ℕ) (P : Piece) (c : Cursor) (p p′ : List ℕ) (r : Low) (v : Value) (e : Cursor) → P .fault ≡ o
     → Lists-at o L b ts i P c p p′ r → r ≡ Done v e → Collected L b ts i P c p p′ v e
 collected-at none L b ts i P c p p′ r v e f (x, y, s) d = record { faultless = f; value = cc; next = cc; bytes = y; sound = s }
-collected-at (some x) L b ts i P c p p′ r v e f (k, y, z, s) d = absurd (let z : _≡_ {A = ℕ} 0 1 = cc in omega arith)
+collected-at (some x) L b ts i P c p p′ r v e f (k, y, z, s, h) d = absurd (let z : _≡_ {A = ℕ} 0 1 = cc in omega arith)
 
 pub collected : (L : Layout) (b : Bool) (ts : Terms) (i : ℕ) (P : Piece) (c : Cursor) (p p′ : List ℕ) (r : Low) (v : Value) (e : Cursor) → Lists L b ts i P c p p′ r → r ≡ Done v e
     → Collected L b ts i P c p p′ v e
@@ -62,9 +63,9 @@ unfolding Lists
 collected L b ts i P c p p′ r v e s d = collected-at (P .fault) L b ts i P c p p′ r v e refl s d
 
 turned-at : (o : Option Fault) (L : Layout) (b : Bool) (ts : Terms) (i : ℕ) (P : Piece) (c : Cursor) (p p′ : List ℕ) (r : Low) (n k : ℕ) → P .fault ≡ o → Lists-at o L b ts i P c p p′ r
-    → r ≡ Faulty n k → Refused P L p′ n k
+    → r ≡ Faulty n k → Refused P L c p p′ n k
 turned-at none L b ts i P c p p′ r n k f (x, y, s) d = absurd (let z : _≡_ {A = ℕ} 0 1 = cc in omega arith)
-turned-at (some x) L b ts i P c p p′ r n k f (j, y, z, s) d =
+turned-at (some x) L b ts i P c p p′ r n k f (j, y, z, s, h) d =
     let e : j ≡ k = cc in
     record {
       x = x;
@@ -72,9 +73,10 @@ turned-at (some x) L b ts i P c p p′ r n k f (j, y, z, s) d =
       number = cc;
       place = subst (λ (m : ℕ). path-in-table p′ (L .paths) m ≡ x .place) e z;
       linked = subst (λ (m : ℕ). Linked p′ (L .paths) m) e s;
+      kept = h;
     }
 
-pub turned : (L : Layout) (b : Bool) (ts : Terms) (i : ℕ) (P : Piece) (c : Cursor) (p p′ : List ℕ) (r : Low) (n k : ℕ) → Lists L b ts i P c p p′ r → r ≡ Faulty n k → Refused P L p′ n k
+pub turned : (L : Layout) (b : Bool) (ts : Terms) (i : ℕ) (P : Piece) (c : Cursor) (p p′ : List ℕ) (r : Low) (n k : ℕ) → Lists L b ts i P c p p′ r → r ≡ Faulty n k → Refused P L c p p′ n k
 unfolding Lists
 turned L b ts i P c p p′ r n k s d = turned-at (P .fault) L b ts i P c p p′ r n k refl s d
 
@@ -153,9 +155,9 @@ module _ {L : Layout} {p : List ℕ} {s : Site} {c : Cursor} (b : Bool) (C : Con
   pub ready-child : Ready L p s c (instruction-count t) (path-count t) (entry-count t)
   ready-child = ready-from R p c _ _ _ (λ j x y. refl) refl (omega arith) (omega arith) (omega arith) (omega arith) (R .registers) (R .sound)
 
-  pub child-refused : (p₁ : List ℕ) (r : Low) (m j : ℕ) → Refused A L p₁ m j → r ≡ Faulty m j → Lists L b (t and ts) i W c p p₁ r
+  pub child-refused : (p₁ : List ℕ) (r : Low) (m j : ℕ) → Refused A L c p p₁ m j → r ≡ Faulty m j → Lists L b (t and ts) i W c p p₁ r
   child-refused p₁ r m j F e =
-      lists-fault L b (t and ts) i W c p p₁ r (F .x) j (up (F .x) (F .is-fault)) (e ∙ ap (λ (z : ℕ). Faulty z j) (F .number)) (F .place) (F .linked)
+      lists-fault L b (t and ts) i W c p p₁ r (F .x) j (up (F .x) (F .is-fault)) (e ∙ ap (λ (z : ℕ). Faulty z j) (F .number)) (F .place) (F .linked) (F .kept)
     where
       up : (x : Fault) → A .fault ≡ some x → W .fault ≡ some x
       up x f = unfold operands-piece term-piece in rw f
@@ -204,6 +206,11 @@ module _ {L : Layout} {p : List ℕ} {s : Site} {c : Cursor} (b : Bool) (C : Con
         subst (λ (x : List ℕ). Same (L .paths) p x (c .path)) (sym (T .bytes))
         (same-written ready-child (A .chunk) _ _ _ (len-a .0) (len-a .1) (len-a .2) (omega arith) (omega arith) (omega arith))
 
+    kept₁ : Kept L c p p₁
+    kept₁ =
+        subst (λ (x : List ℕ). Kept L c p x) (sym (T .bytes))
+        (kept-written ready-child (A .chunk) _ _ _ (len-a .0) (len-a .1) (len-a .2) (omega arith) (omega arith) (omega arith))
+
     sound₁ : Sound L p₁ (e .path)
     sound₁ = subst (λ (x : Cursor). Sound L p₁ (x .path)) (sym (T .next)) (T .sound)
 
@@ -233,9 +240,10 @@ module _ {L : Layout} {p : List ℕ} {s : Site} {c : Cursor} (b : Bool) (C : Con
     unfolding operands-piece
     rest-fault o f = rw (no-fault, f)
 
-    pub rest-refused : (p₂ : List ℕ) (r : Low) (m j : ℕ) → Refused B L p₂ m j → r ≡ Faulty m j → Lists L b (t and ts) i W c p p₂ r
+    pub rest-refused : (p₂ : List ℕ) (r : Low) (m j : ℕ) → Refused B L e p₁ p₂ m j → r ≡ Faulty m j → Lists L b (t and ts) i W c p p₂ r
     rest-refused p₂ r m j F x =
         lists-fault L b (t and ts) i W c p p₂ r (F .x) j (rest-fault (some (F .x)) (sym B-fault ∙ F .is-fault)) (x ∙ ap (λ (z : ℕ). Faulty z j) (F .number)) (F .place) (F .linked)
+        (kept-then kept₁ (F .kept) (omega (arith, is-code)) (omega (arith, is-path)) (omega (arith, is-entry)))
 
     module _ (p₂ : List ℕ) (u : Value) (g : Cursor) (kept : length p₂ ≡ length p₁) (U : Collected L b ts (i + 1) B e p₁ p₂ u g) where
       g-entry : g .entry ≡ e .entry + entry-counts ts

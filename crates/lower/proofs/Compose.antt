@@ -18,7 +18,7 @@ use Rattle.paths.specs.Over.{over}
 use Rattle.paths.specs.Table.{length-in, linked}
 use Rattle.paths.proofs.Over.{over-length, over-nil}
 use Rattle.lower.specs.Bytes.{Chunk, laid, written}
-use Rattle.lower.specs.Piece.{Piece, Says, Says-at, Sound, inner-count, own-piece, place, term-piece}
+use Rattle.lower.specs.Piece.{Kept, Piece, Says, Says-at, Sound, inner-count, own-piece, place, term-piece}
 use Rattle.lower.specs.Ready.{Ready}
 use Rattle.lower.specs.declared.Layout.{Layout}
 use Rattle.lower.specs.declared.Cursor.{Cursor}
@@ -28,6 +28,7 @@ use Rattle.lower.specs.declared.Low.{Low}
 use Rattle.lower.specs.declared.Low.the-variants.{Done, Fault as Faulty}
 use Rattle.lower.proofs.Laid.{Fits, joined, laid-then}
 use Rattle.lower.proofs.Frames.{Same, entered-linked, entered-path, entered-record, is-length, same-laid, same-length, same-path}
+use Rattle.lower.proofs.Keeps.{kept-laid, kept-record, kept-then}
 use Rattle.lower.proofs.Says.{Refused, Taken, says-done, says-fault}
 
 -- ---- counts
@@ -85,37 +86,43 @@ pub same-written : {L : Layout} {p : List ℕ} {s : Site} {c : Cursor} {I Q E : 
 same-written {L} {p} {s} {c} R w i q e a b d ui uq ue =
     same-laid (L .paths) p (32 + 24 * c .code) (L .paths + 12 * c .path) (L .lists + 4 * c .entry) w (c .path) (fits-room R w i q e a b d ui uq ue) (omega (arith, R .code)) (omega arith)
 
+pub kept-written : {L : Layout} {p : List ℕ} {s : Site} {c : Cursor} {I Q E : ℕ} → Ready L p s c I Q E → (w : Chunk) (i q e : ℕ) → length (w .code) ≡ 24 * i → length (w .records) ≡ 12 * q
+    → length (w .lists) ≡ 4 * e → i ≤ I → q ≤ Q → e ≤ E → Kept L c p (written L c p w)
+kept-written {L} {p} {s} {c} R w i q e a b d ui uq ue =
+    kept-laid L c p w (fits-room R w i q e a b d ui uq ue) (omega (arith, R .code)) (omega (arith, R .records))
+
 pub place-same : {L : Layout} {p : List ℕ} {s : Site} {c : Cursor} {I Q E : ℕ} → Ready L p s c I Q E → (p₁ : List ℕ) → Same (L .paths) p p₁ (c .path) → place L p₁ s ≡ place L p s
 place-same {L} {p} {s} {c} R p₁ same = same-path (L .paths) p p₁ (c .path) same (R .sound) (s .path) (R .site)
 
 -- ---- two pieces
 
-then-at : (o : Option Fault) (L : Layout) (c e : Cursor) (p p₁ p₂ : List ℕ) (v : Value) (r : Low) (A B W : Piece) → B .fault ≡ o → Taken A L c p p₁ v e → Says-at o B L e p₁ p₂ r
+then-at : (o : Option Fault) (L : Layout) (c e : Cursor) (p p₁ p₂ : List ℕ) (v : Value) (r : Low) (A B W : Piece) → B .fault ≡ o → Taken A L c p p₁ v e → Kept L c p p₁ → Says-at o B L e p₁ p₂ r
     → W .fault ≡ B .fault → W .value ≡ B .value → W .next ≡ B .next → W .chunk ≡ joined (A .chunk) (B .chunk)
     → 32 + 24 * e .code ≡ 32 + 24 * c .code + length (A .chunk .code) → L .paths + 12 * e .path ≡ L .paths + 12 * c .path + length (A .chunk .records)
     → L .lists + 4 * e .entry ≡ L .lists + 4 * c .entry + length (A .chunk .lists)
     → Fits (length p) (32 + 24 * c .code) (L .paths + 12 * c .path) (L .lists + 4 * c .entry) (joined (A .chunk) (B .chunk)) → Says W L c p p₂ r
-then-at none L c e p p₁ p₂ v r A B W eb T (a, b, s) ef ev en ec x y z f =
+then-at none L c e p p₁ p₂ v r A B W eb T K (a, b, s) ef ev en ec x y z f =
     says-done W L c p p₂ r (ef ∙ eb) (a ∙ ap₂ (λ (u : Value) (w : Cursor). Done u w) (sym ev) (sym en))
     (b
     ∙ ap (λ (q : List ℕ). written L e q (B .chunk)) (T .bytes)
     ∙ laid-then p (32 + 24 * c .code) (L .paths + 12 * c .path) (L .lists + 4 * c .entry) (32 + 24 * e .code) (L .paths + 12 * e .path) (L .lists + 4 * e .entry) (A .chunk) (B .chunk) x y z f
     ∙ ap (λ (w : Chunk). written L c p w) (sym ec))
     (subst (λ (w : Cursor). Sound L p₂ (w .path)) (sym en) s)
-then-at (some k) L c e p p₁ p₂ v r A B W eb T (j, a, b, s) ef ev en ec x y z f = says-fault W L c p p₂ r k j (ef ∙ eb) a b s
+then-at (some k) L c e p p₁ p₂ v r A B W eb T K (j, a, b, s, h) ef ev en ec x y z f =
+    says-fault W L c p p₂ r k j (ef ∙ eb) a b s (kept-then K h (omega arith) (omega arith) (omega arith))
 
-pub says-then : (L : Layout) (c e : Cursor) (p p₁ p₂ : List ℕ) (v : Value) (r : Low) (A B W : Piece) → Taken A L c p p₁ v e → Says B L e p₁ p₂ r
+pub says-then : (L : Layout) (c e : Cursor) (p p₁ p₂ : List ℕ) (v : Value) (r : Low) (A B W : Piece) → Taken A L c p p₁ v e → Kept L c p p₁ → Says B L e p₁ p₂ r
     → W .fault ≡ B .fault → W .value ≡ B .value → W .next ≡ B .next → W .chunk ≡ joined (A .chunk) (B .chunk)
     → 32 + 24 * e .code ≡ 32 + 24 * c .code + length (A .chunk .code) → L .paths + 12 * e .path ≡ L .paths + 12 * c .path + length (A .chunk .records)
     → L .lists + 4 * e .entry ≡ L .lists + 4 * c .entry + length (A .chunk .lists)
     → Fits (length p) (32 + 24 * c .code) (L .paths + 12 * c .path) (L .lists + 4 * c .entry) (joined (A .chunk) (B .chunk)) → Says W L c p p₂ r
 unfolding Says
-says-then L c e p p₁ p₂ v r A B W T S ef ev en ec x y z f = then-at (B .fault) L c e p p₁ p₂ v r A B W refl T S ef ev en ec x y z f
+says-then L c e p p₁ p₂ v r A B W T K S ef ev en ec x y z f = then-at (B .fault) L c e p p₁ p₂ v r A B W refl T K S ef ev en ec x y z f
 
-pub refused-up : (L : Layout) (c : Cursor) (p p₁ : List ℕ) (r : Low) (n k : ℕ) (A W : Piece) → Refused A L p₁ n k → r ≡ Faulty n k
+pub refused-up : {L : Layout} {e : Cursor} {p₀ p₁ : List ℕ} {n k : ℕ} {A : Piece} (c : Cursor) (p : List ℕ) (r : Low) (W : Piece) → Refused A L e p₀ p₁ n k → Kept L c p p₁ → r ≡ Faulty n k
     → ((x : Fault) → A .fault ≡ some x → W .fault ≡ some x) → Says W L c p p₁ r
-refused-up L c p p₁ r n k A W F e up =
-    says-fault W L c p p₁ r (F .x) k (up (F .x) (F .is-fault)) (e ∙ ap (λ (m : ℕ). Faulty m k) (F .number)) (F .place) (F .linked)
+refused-up {L} {e} {p₀} {p₁} {n} {k} c p r W F K is up =
+    says-fault W L c p p₁ r (F .x) k (up (F .x) (F .is-fault)) (is ∙ ap (λ (m : ℕ). Faulty m k) (F .number)) (F .place) (F .linked) K
 
 -- ---- a node's own record
 
@@ -211,7 +218,8 @@ module _ {L : Layout} {p : List ℕ} {s : Site} {c : Cursor} {I Q E : ℕ} (R : 
     with-record p₂ r S =
         let z : c .path + path-count t ≡ c .path + 1 + inner-count t = omega (arith, inner-is t) in
         says-then L c c₁ p p₁ p₂ (W .value) r A B W
-        (record { faultless = refl; value = refl; next = refl; bytes = A-bytes; sound = entered-sound }) S
+        (record { faultless = refl; value = refl; next = refl; bytes = A-bytes; sound = entered-sound })
+        (kept-record L c p (L .paths + 12 * c .path) three h₁ (omega (arith, R .code)) (omega arith) (omega (arith, R .records))) S
         (ap (λ (y : Path). fault C t y) (sym entered-place)) refl
         (ap (λ (y : ℕ). record { node = node; reg = c .reg + register-count t; code = c .code + instruction-count t; path = y; entry = c .entry + entry-count t }) z)
         same-chunk (omega arith) (omega arith) (omega arith) fits-all

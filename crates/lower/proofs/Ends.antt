@@ -58,12 +58,12 @@ module _ (L : Layout) (p : List ℕ) (s : Site) (c : Cursor) (I : ℕ) (R : Read
 
     pub wrong-arity : (a : Bool) → a ≡ arity-at K O (f .children) → a ≡ false → Says P L c p p (Faulty 5 (s .path))
     unfolding finish-piece
-    wrong-arity a e t = here L p s c I 0 0 R P 5 c p (rw (sym e ∙ t))
+    wrong-arity a e t = here L p s c I 0 0 R P 5 (rw (sym e ∙ t))
 
     module _ (a : Bool) (ea : a ≡ arity-at K O (f .children)) (ta : a ≡ true) where
       pub wrong-kind : v .boolean ≡ false → Says P L c p p (Faulty 7 (s .path))
       unfolding finish-piece
-      wrong-kind t = here L p s c I 0 0 R P 7 c p (rw (sym ea ∙ ta, t))
+      wrong-kind t = here L p s c I 0 0 R P 7 (rw (sym ea ∙ ta, t))
 
       module _ (tb : v .boolean ≡ true) (j u : Bool) (ej : j ≡ stepped-at K O) (eu : u ≡ not (L .generated || not (j && v .dynamic))) where
         alike : u ≡ not (L .generated || not (stepped-at K O && v .dynamic))
@@ -71,7 +71,7 @@ module _ (L : Layout) (p : List ℕ) (s : Site) (c : Cursor) (I : ℕ) (R : Read
 
         pub wrong-step : u ≡ true → Says P L c p p (Faulty 8 (s .path))
         unfolding finish-piece
-        wrong-step t = here L p s c I 0 0 R P 8 c p (rw (sym ea ∙ ta, tb, not-true (L .generated || not (stepped-at K O && v .dynamic)) u alike t))
+        wrong-step t = here L p s c I 0 0 R P 8 (rw (sym ea ∙ ta, tb, not-true (L .generated || not (stepped-at K O && v .dynamic)) u alike t))
 
         module _ (tu : u ≡ false) (one : 1 ≤ I) (l b : Bool) (o : ℕ) (el : l ≡ listing-at K O) (eo : o ≡ opcode-at K O) (eb : b ≡ gives-boolean K O)
             (p′ : List ℕ) (r : Low) where
@@ -134,7 +134,7 @@ module _ (L : Layout) (p : List ℕ) (s : Site) (c : Cursor) (I : ℕ) (R : Read
     number-refused x g e ex eg t =
         let h : finite (ofBits binary64 (f .value)) ≡ false = ap finite (sym ex) ∙ sym eg ∙ t in
         as-leaf (literal (f .value)) (is-number e) p (Faulty 9 (s .path))
-        (here L p s c I 0 0 R (U (literal (f .value)) (is-number e)) 9 c p (rw h))
+        (here L p s c I 0 0 R (U (literal (f .value)) (is-number e)) 9 (rw h))
 
     pub number-made : (x : Float) (g : Bool) (p′ : List ℕ) (r : Low) → f .kind ≡ 0 → x ≡ ofBits binary64 (f .value) → g ≡ finite x → g ≡ true
         → r ≡ made false false → p′ ≡ over p (32 + 24 * c .code) (constant-row (f .value) (c .reg) (s .path)) → Says T L c p p′ r
@@ -181,4 +181,4 @@ module _ (L : Layout) (p : List ℕ) (s : Site) (c : Cursor) (I : ℕ) (R : Read
         as-leaf (symbol (f .symbol)) (is-symbol m n) p′ r
         (subst (λ (z : Low). Says (U (symbol (f .symbol)) (is-symbol m n)) L c p p′ z) (sym d)
         (subst (λ (z : List ℕ). Says (U (symbol (f .symbol)) (is-symbol m n)) L c p z (Faulty 6 (s .path))) (sym x)
-        (here L p s c I 0 0 R (U (symbol (f .symbol)) (is-symbol m n)) 6 c p (rw (length-kinds kinds, e)))))
+        (here L p s c I 0 0 R (U (symbol (f .symbol)) (is-symbol m n)) 6 (rw (length-kinds kinds, e)))))

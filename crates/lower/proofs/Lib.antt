@@ -2,6 +2,7 @@ pub mod Laid
 pub mod Rows
 pub mod Leaves
 pub mod Frames
+pub mod Keeps
 pub mod Says
 pub mod Ends
 pub mod Kids

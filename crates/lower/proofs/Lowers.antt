@@ -131,7 +131,7 @@ module _ {L : Layout} {p : List ℕ} {s : Site} {c : Cursor} (C : Context) (t y 
   pub ready-condition : Ready L p s c (instruction-count t) (path-count t) (entry-count t)
   ready-condition = ready-from R p c _ _ _ (λ i x w. refl) refl (omega arith) (omega arith) (omega arith) (omega arith) (R .registers) (R .sound)
 
-  pub condition-fault : (p₁ : List ℕ) (r : Low) (m k : ℕ) → Refused A L p₁ m k → r ≡ Faulty m k → Says X L c p p₁ r
+  pub condition-fault : (p₁ : List ℕ) (r : Low) (m k : ℕ) → Refused A L c p p₁ m k → r ≡ Faulty m k → Says X L c p p₁ r
   condition-fault p₁ r m k F e = condition-refused R C t y z (place L p s) n₁ n₂ (omega arith) (omega arith) (omega arith) p₁ r m k F e
 
   module _ (p₁ : List ℕ) (v : Value) (e : Cursor) (T : Taken A L c p p₁ v e) where
@@ -253,7 +253,7 @@ module _ {L : Layout} {p : List ℕ} {s : Site} {c : Cursor} (b : List ℕ) (d :
   pub split-first : Ready L p s c (instruction-count T₁) (path-count T₁) (entry-count T₁)
   split-first = ready-condition C T₁ Y Z at₁ (past b d n₀ (past b d y₀ at₁)) R′
 
-  pub split-refused : (p₁ : List ℕ) (r : Low) (i k : ℕ) → Refused A₁ L p₁ i k → r ≡ Faulty i k → Says U L c p p₁ r
+  pub split-refused : (p₁ : List ℕ) (r : Low) (i k : ℕ) → Refused A₁ L c p p₁ i k → r ≡ Faulty i k → Says U L c p p₁ r
   split-refused p₁ r i k F e = as-split p₁ r (condition-fault C T₁ Y Z at₁ (past b d n₀ (past b d y₀ at₁)) R′ p₁ r i k F e)
 
   module _ (p₁ : List ℕ) (v : Value) (e : Cursor) (K : Taken A₁ L c p p₁ v e) where

@@ -10,7 +10,7 @@ use Rattle.paths.specs.Over.{over}
 use Rattle.paths.specs.Table.{Linked, linked, path-in-table}
 use Rattle.paths.proofs.Over.{over-nil}
 use Rattle.lower.specs.Bytes.{Chunk, laid, written}
-use Rattle.lower.specs.Piece.{Piece, Says, Says-at, Sound, place}
+use Rattle.lower.specs.Piece.{Kept, Piece, Says, Says-at, Sound, place}
 use Rattle.lower.specs.Ready.{Ready}
 use Rattle.lower.specs.declared.Layout.{Layout}
 use Rattle.lower.specs.declared.Cursor.{Cursor}
@@ -19,6 +19,7 @@ use Rattle.lower.specs.declared.Value.{Value}
 use Rattle.lower.specs.declared.Low.{Low}
 use Rattle.lower.specs.declared.Low.the-variants.{Done, Fault as Faulty}
 use Rattle.lower.proofs.Frames.{Same, same-below, same-linked}
+use Rattle.lower.proofs.Keeps.{kept-here}
 
 pub says-done : (P : Piece) (L : Layout) (c : Cursor) (p p′ : List ℕ) (r : Low) → P .fault ≡ none → r ≡ Done (P .value) (P .next) → p′ ≡ written L c p (P .chunk)
     → Sound L p′ (P .next .path) → Says P L c p p′ r
@@ -26,9 +27,9 @@ unfolding Says
 says-done P L c p p′ r e a b s = subst (λ (o : Option Fault). Says-at o P L c p p′ r) (sym e) (a, b, s)
 
 pub says-fault : (P : Piece) (L : Layout) (c : Cursor) (p p′ : List ℕ) (r : Low) (x : Fault) (k : ℕ) → P .fault ≡ some x → r ≡ Faulty (x .number) k
-    → path-in-table p′ (L .paths) k ≡ x .place → Linked p′ (L .paths) k → Says P L c p p′ r
+    → path-in-table p′ (L .paths) k ≡ x .place → Linked p′ (L .paths) k → Kept L c p p′ → Says P L c p p′ r
 unfolding Says
-says-fault P L c p p′ r x k e a b s = subst (λ (o : Option Fault). Says-at o P L c p p′ r) (sym e) (k, a, b, s)
+says-fault P L c p p′ r x k e a b s h = subst (λ (o : Option Fault). Says-at o P L c p p′ r) (sym e) (k, a, b, s, h)
 
 -- what a caller has of an answer
 pub record Taken (P : Piece) (L : Layout) (c : Cursor) (p p′ : List ℕ) (v : Value) (e : Cursor) : Type 0 where
@@ -38,26 +39,27 @@ pub record Taken (P : Piece) (L : Layout) (c : Cursor) (p p′ : List ℕ) (v : 
   pub bytes : p′ ≡ written L c p (P .chunk)
   pub sound : Sound L p′ (P .next .path)
 
-pub record Refused (P : Piece) (L : Layout) (p′ : List ℕ) (n k : ℕ) : Type 0 where
+pub record Refused (P : Piece) (L : Layout) (c : Cursor) (p p′ : List ℕ) (n k : ℕ) : Type 0 where
   pub x : Fault
   pub is-fault : P .fault ≡ some x
   pub number : n ≡ x .number
   pub place : path-in-table p′ (L .paths) k ≡ x .place
   pub linked : Linked p′ (L .paths) k
+  pub kept : Kept L c p p′
 
 taken-at : (o : Option Fault) (P : Piece) (L : Layout) (c : Cursor) (p p′ : List ℕ) (r : Low) (v : Value) (e : Cursor) → P .fault ≡ o → Says-at o P L c p p′ r → r ≡ Done v e
     → Taken P L c p p′ v e
 taken-at none P L c p p′ r v e f (a, b, s) d = record { faultless = f; value = cc; next = cc; bytes = b; sound = s }
-taken-at (some x) P L c p p′ r v e f (k, a, b, s) d = absurd (let z : _≡_ {A = ℕ} 0 1 = cc in omega arith)
+taken-at (some x) P L c p p′ r v e f (k, a, b, s, h) d = absurd (let z : _≡_ {A = ℕ} 0 1 = cc in omega arith)
 
 pub taken : (P : Piece) (L : Layout) (c : Cursor) (p p′ : List ℕ) (r : Low) (v : Value) (e : Cursor) → Says P L c p p′ r → r ≡ Done v e → Taken P L c p p′ v e
 unfolding Says
 taken P L c p p′ r v e s d = taken-at (P .fault) P L c p p′ r v e refl s d
 
 refused-at : (o : Option Fault) (P : Piece) (L : Layout) (c : Cursor) (p p′ : List ℕ) (r : Low) (n k : ℕ) → P .fault ≡ o → Says-at o P L c p p′ r → r ≡ Faulty n k
-    → Refused P L p′ n k
+    → Refused P L c p p′ n k
 refused-at none P L c p p′ r n k f (a, b, s) d = absurd (let z : _≡_ {A = ℕ} 0 1 = cc in omega arith)
-refused-at (some x) P L c p p′ r n k f (j, a, b, s) d =
+refused-at (some x) P L c p p′ r n k f (j, a, b, s, h) d =
     let e : j ≡ k = cc in
     record {
       x = x;
@@ -65,9 +67,10 @@ refused-at (some x) P L c p p′ r n k f (j, a, b, s) d =
       number = cc;
       place = subst (λ (i : ℕ). path-in-table p′ (L .paths) i ≡ x .place) e b;
       linked = subst (λ (i : ℕ). Linked p′ (L .paths) i) e s;
+      kept = h;
     }
 
-pub refused : (P : Piece) (L : Layout) (c : Cursor) (p p′ : List ℕ) (r : Low) (n k : ℕ) → Says P L c p p′ r → r ≡ Faulty n k → Refused P L p′ n k
+pub refused : (P : Piece) (L : Layout) (c : Cursor) (p p′ : List ℕ) (r : Low) (n k : ℕ) → Says P L c p p′ r → r ≡ Faulty n k → Refused P L c p p′ n k
 unfolding Says
 refused P L c p p′ r n k s d = refused-at (P .fault) P L c p p′ r n k refl s d
 
@@ -75,8 +78,9 @@ refused P L c p p′ r n k s d = refused-at (P .fault) P L c p p′ r n k refl s
 
 module _ (L : Layout) (p : List ℕ) (s : Site) (c : Cursor) (I Q E : ℕ) (R : Ready L p s c I Q E) where
   -- a refusal at the site
-  pub here : (P : Piece) (n : ℕ) (c′ : Cursor) (p₀ : List ℕ) → P .fault ≡ some (record { number = n; place = place L p s }) → Says P L c′ p₀ p (Faulty n (s .path))
-  here P n c′ p₀ e = says-fault P L c′ p₀ p (Faulty n (s .path)) _ (s .path) e refl refl (λ j l. R .sound j (omega (arith, R .site)))
+  pub here : (P : Piece) (n : ℕ) → P .fault ≡ some (record { number = n; place = place L p s }) → Says P L c p p (Faulty n (s .path))
+  here P n e =
+      says-fault P L c p p (Faulty n (s .path)) _ (s .path) e refl refl (λ j l. R .sound j (omega (arith, R .site))) (kept-here L c p)
 
   -- an instruction
   module _ (row : List ℕ) (len : length row ≡ 24) (one : 1 ≤ I) (p′ : List ℕ) (stored : p′ ≡ over p (32 + 24 * c .code) row) where

@@ -27,7 +27,7 @@ use Rattle.reader.specs.Read.{written as written-fields}
 use Rattle.reader.specs.declared.Fields.{Fields}
 use Rattle.lower.specs.Bytes.{Chunk, laid, written}
 use Rattle.lower.specs.Operators.{arity-at, chooses-at, gives-boolean, listing-at, opcode-at, stepped-at, takes-boolean}
-use Rattle.lower.specs.Piece.{Piece, Says, Says-at, Sound, arm, context-of, finish-piece, inner-count, is-boolean, joined, junction-of, kids, kind-if, leaf, listed, operands-piece, own-piece, past, place}
+use Rattle.lower.specs.Piece.{Kept, Piece, Says, Says-at, Sound, arm, context-of, finish-piece, inner-count, is-boolean, joined, junction-of, kids, kind-if, leaf, listed, operands-piece, own-piece, past, place}
 use Rattle.lower.specs.Ready.{Ready}
 use Rattle.lower.specs.declared.Layout.{Layout}
 use Rattle.lower.specs.declared.Cursor.{Cursor}
@@ -37,6 +37,7 @@ use Rattle.lower.specs.declared.Low.{Low}
 use Rattle.lower.specs.declared.Low.the-variants.{Done, Fault as Faulty}
 use Rattle.lower.proofs.Laid.{Fits, laid-after}
 use Rattle.lower.proofs.Frames.{Same}
+use Rattle.lower.proofs.Keeps.{kept-laid, kept-then}
 use Rattle.lower.proofs.Says.{Refused, says-done, says-fault}
 use Rattle.lower.proofs.Kids.{Known, Node, arm-one, boolean-head-is, choice-head-is, kids-none, kids-step, known, number-head-is, past-one, stands, symbol-head-is, truth-head-is}
 use Rattle.lower.proofs.Compose.{fewer-registers-all, fits-room, place-same, ready-from, refused-up}
@@ -222,8 +223,8 @@ module _ {L : Layout} {p : List ℕ} {s : Site} {c : Cursor} (C : Context) (g : 
       ap₂ (λ (x : Bool) (y : ℕ). cond x y 0) (sym lists-is) (cnt ∙ (let z : f .children ≡ 0 + f .children = omega arith in z)) in
       ready-from R p c _ _ _ (λ j x y. refl) refl (omega arith) (omega arith) (omega arith) (omega (arith, e)) (R .registers) (R .sound)
 
-  pub operands-refused : (p₁ : List ℕ) (r : Low) (m j : ℕ) → Refused A L p₁ m j → r ≡ Faulty m j → Says W L c p p₁ r
-  operands-refused p₁ r m j F e = refused-up L c p p₁ r m j A W F e up
+  pub operands-refused : (p₁ : List ℕ) (r : Low) (m j : ℕ) → Refused A L c p p₁ m j → r ≡ Faulty m j → Says W L c p p₁ r
+  operands-refused p₁ r m j F e = refused-up c p r W F (F .kept) e up
     where
       up : (x : Fault) → A .fault ≡ some x → W .fault ≡ some x
       up x z = unfold own-piece operands-piece in rw z
@@ -313,6 +314,11 @@ module _ {L : Layout} {p : List ℕ} {s : Site} {c : Cursor} (C : Context) (g : 
         subst (λ (x : List ℕ). Same (L .paths) p x (c .path)) (sym bytes₁)
         (Rattle.lower.proofs.Frames.same-laid (L .paths) p (32 + 24 * c .code) (L .paths + 12 * c .path) (L .lists + 4 * c .entry) with-own (c .path) own-fits
         (omega (arith, len-a .0, R .code)) (omega arith))
+
+    kept₁ : Kept L c p p₁
+    kept₁ =
+        subst (λ (x : List ℕ). Kept L c p x) (sym bytes₁)
+        (kept-laid L c p with-own own-fits (omega (arith, len-a .0, R .code)) (omega (arith, len-a .1, R .records)))
 
     sound₁ : Sound L p₁ (e .path)
     sound₁ = subst (λ (x : Cursor). Sound L p₁ (x .path)) (sym (U .next)) (U .sound)
@@ -420,7 +426,8 @@ module _ {L : Layout} {p : List ℕ} {s : Site} {c : Cursor} (C : Context) (g : 
     finish-at : (x : Option Fault) (p₂ : List ℕ) (r : Low) → F .fault ≡ x → Says-at x F L e p₁ p₂ r → Says W L c p p₂ r
     finish-at none p₂ r y (d, b, t) =
         says-done W L c p p₂ r (sym fault-is ∙ y) (d ∙ ap₂ (λ (u : Value) (w : Cursor). Done u w) value-is next-is) (bytes-is p₂ b) (subst (λ (u : Cursor). Sound L p₂ (u .path)) next-is t)
-    finish-at (some x) p₂ r y (j, d, b, t) = says-fault W L c p p₂ r x j (sym fault-is ∙ y) d b t
+    finish-at (some x) p₂ r y (j, d, b, t, z) =
+        says-fault W L c p p₂ r x j (sym fault-is ∙ y) d b t (kept-then kept₁ z (omega (arith, e-code)) (omega (arith, e-path)) (omega (arith, e-entry)))
 
     pub finished : (p₂ : List ℕ) (r : Low) → Says F L e p₁ p₂ r → Says W L c p p₂ r
     unfolding Says

@@ -3,9 +3,10 @@ use mathlib.Core.Path.{_≡_}
 use mathlib.Core.Bool.{Bool, true, false, cond, _&&_, _||_}
 use mathlib.Core.List.{List, [], _++_, map}
 use mathlib.Core.Option.{Option, none, some}
-use Prim.Native.Nat.{ℕ, _+_, _*_, _<_}
-use lib.ListN.{getD}
+use Prim.Native.Nat.{ℕ, _+_, _*_, _≤_, _<_}
+use lib.ListN.{getD, length}
 use lib.Dec.{eqb}
+use Rattle.refusals.specs.Numbers.{invalid-input, unsupported, wrong-type}
 use Rattle.formula.specs.Operator.{Boolean, Number, ValueKind, Junction, And, Or, same-kind}
 use Rattle.formula.specs.Names.{Input, Parameter, State, SymbolKind, Time}
 use Rattle.formula.specs.Path.{Path, _▸_, else-arm, then-arm}
@@ -54,11 +55,18 @@ pub record Piece : Type 0 where
 abbrev pub Sound : Layout → List ℕ → ℕ → Type 0
 Sound L p q = (k : ℕ) → k < q → linked p (L .paths) k ≡ true
 
--- a refusal carries the number of its path's record
+-- what stands before all that is next free is as it was: header and instructions, path records, list entries
+pub record Kept (L : Layout) (c : Cursor) (p p′ : List ℕ) : Type 0 where
+  pub long : length p′ ≡ length p
+  pub code : (i : ℕ) → i < 32 + 24 * c .code → getD p′ i 0 ≡ getD p i 0
+  pub records : (i : ℕ) → L .paths ≤ i → i < L .paths + 12 * c .path → getD p′ i 0 ≡ getD p i 0
+  pub lists : (i : ℕ) → L .lists ≤ i → i < L .lists + 4 * c .entry → getD p′ i 0 ≡ getD p i 0
+
+-- a refusal carries the number of its path's record, and leaves free what it wrote beside the records of that path
 abbrev pub Says-at : Option Fault → Piece → Layout → Cursor → List ℕ → List ℕ → Low → Type 0
 Says-at none P L c p p′ r = (r ≡ Done (P .value) (P .next)) × (p′ ≡ written L c p (P .chunk)) × Sound L p′ (P .next .path)
 Says-at (some x) P L c p p′ r =
-    (k : ℕ) × (r ≡ Faulty (x .number) k) × (path-in-table p′ (L .paths) k ≡ x .place) × Linked p′ (L .paths) k
+    (k : ℕ) × (r ≡ Faulty (x .number) k) × (path-in-table p′ (L .paths) k ≡ x .place) × Linked p′ (L .paths) k × Kept L c p p′
 
 unfoldable pub Says : Piece → Layout → Cursor → List ℕ → List ℕ → Low → Type 0
 Says P L c p p′ r = Says-at (P .fault) P L c p p′ r
@@ -133,9 +141,9 @@ junction-of false = Or
 -- ---- the arms of a condition that is lowered already
 abbrev pub branch-fault : Context → ValueKind → Bool → Term → Term → Path → Option Fault
 branch-fault C κ varies y e p =
-    or-else (unless (same-kind κ Boolean) 7 p)
-    (or-else (unless (supported C varies) 8 p)
-    (or-else (fault C y (p ▸ then-arm)) (or-else (fault C e (p ▸ else-arm)) (unless (same-kind (kind e) (kind y)) 7 p))))
+    or-else (unless (same-kind κ Boolean) wrong-type p)
+    (or-else (unless (supported C varies) unsupported p)
+    (or-else (fault C y (p ▸ then-arm)) (or-else (fault C e (p ▸ else-arm)) (unless (same-kind (kind e) (kind y)) wrong-type p))))
 
 unfoldable pub branch-piece : Context → Value → Term → Term → Path → ℕ → Cursor → ℕ → Piece
 branch-piece C v y z p k c node =
@@ -176,7 +184,7 @@ arms-answer k v y z e g =
     cond (same-kind (kind-if (y .boolean)) (kind-if (z .boolean)))
     (Done (record { a = e .reg; b = 0; c = 0; boolean = y .boolean; dynamic = v .dynamic || y .dynamic || z .dynamic })
     (record { node = g .node; reg = g .reg; code = g .code + 1; path = g .path; entry = g .entry }))
-    (Faulty 7 k)
+    (Faulty wrong-type k)
 
 -- a jump after the first arm's copy, to behind the second's
 abbrev pub arms-bytes : ℕ → Value → Value → Cursor → Cursor → List ℕ → List ℕ
@@ -226,7 +234,7 @@ Lists-at none L listing ts i P c p p′ r =
     (r ≡ Done (P .value) (P .next)) × (p′ ≡ listed L listing i (P .next .entry) (result-registers ts (c .reg)) (written L c p (P .chunk)))
     × Sound L p′ (P .next .path)
 Lists-at (some x) L listing ts i P c p p′ r =
-    (k : ℕ) × (r ≡ Faulty (x .number) k) × (path-in-table p′ (L .paths) k ≡ x .place) × Linked p′ (L .paths) k
+    (k : ℕ) × (r ≡ Faulty (x .number) k) × (path-in-table p′ (L .paths) k ≡ x .place) × Linked p′ (L .paths) k × Kept L c p p′
 
 unfoldable pub Lists : Layout → Bool → Terms → ℕ → Piece → Cursor → List ℕ → List ℕ → Low → Type 0
 Lists L listing ts i P c p p′ r = Lists-at (P .fault) L listing ts i P c p p′ r
@@ -259,8 +267,8 @@ finish-piece C f v p k c =
     let lists? = listing-at (f .kind) (f .operator) in
     record {
       fault =
-          or-else (unless (arity-at (f .kind) (f .operator) (f .children)) 5 p)
-          (or-else (unless (v .boolean) 7 p) (unless (supported C (stepped-at (f .kind) (f .operator) && v .dynamic)) 8 p));
+          or-else (unless (arity-at (f .kind) (f .operator) (f .children)) invalid-input p)
+          (or-else (unless (v .boolean) wrong-type p) (unless (supported C (stepped-at (f .kind) (f .operator) && v .dynamic)) unsupported p));
       chunk =
           record {
             code =

@@ -21,6 +21,11 @@ ghost use Rattle.lower.specs.Leaf.{Loads};
 ghost use lib.Dec.{ltb};
 ghost use Rattle.formula.specs.Path.{step-text};
 ghost use Rattle.lower.specs.Operators.{arity-at, gives-boolean, listing-at, opcode-at, stepped-at, takes-boolean, chooses-at};
+use refusals::INVALID_INPUT;
+use refusals::OUTSIDE_DOMAIN;
+use refusals::UNKNOWN_SYMBOL;
+use refusals::UNSUPPORTED;
+use refusals::WRONG_TYPE;
 
 // Where path records and list entries begin, and whether the formula is a derivative.
 pub struct Layout {
@@ -374,7 +379,7 @@ fn load(p: &mut [u8], kinds: &[u8], s: Site, i: usize, c: Cursor) -> Low
             },
         );
     }
-    Low::Fault(6, k)
+    Low::Fault(UNKNOWN_SYMBOL, k)
 }
 
 // A number, a truth value or a symbol.
@@ -389,7 +394,7 @@ fn lower_leaf(p: &mut [u8], kinds: &[u8], l: Layout, s: Site, f: reader::Fields,
         if finite {
             return constant(p, s, f.value, false, c);
         }
-        return Low::Fault(9, k);
+        return Low::Fault(OUTSIDE_DOMAIN, k);
     }
     if f.kind == 1 {
         if f.value == 1 {
@@ -439,7 +444,7 @@ fn finish(p: &mut [u8], l: Layout, s: Site, f: reader::Fields, v: Value, c: Curs
             let jumps = stepped(f.kind, f.operator);
             let bad = unsupported(jumps, v.dynamic, l.generated);
             if bad {
-                return Low::Fault(8, k);
+                return Low::Fault(UNSUPPORTED, k);
             }
             let lists = listing(f.kind, f.operator);
             let o = opcode(f.kind, f.operator);
@@ -451,9 +456,9 @@ fn finish(p: &mut [u8], l: Layout, s: Site, f: reader::Fields, v: Value, c: Curs
             put_row(p, n, o, 0, r, v.a, v.b, v.c, k);
             return done(b, v.dynamic, c, e);
         }
-        return Low::Fault(7, k);
+        return Low::Fault(WRONG_TYPE, k);
     }
-    Low::Fault(5, k)
+    Low::Fault(INVALID_INPUT, k)
 }
 
 // ---- the cycle
@@ -516,7 +521,7 @@ pub fn node(b: &[u8], p: &mut [u8], kinds: &[u8], l: Layout, s: Site, d: usize, 
     }
     if f.kind == 6 {
         if f.children < 2 {
-            return Low::Fault(5, s.path);
+            return Low::Fault(INVALID_INPUT, s.path);
         }
         let conjunction = f.operator == 0;
         return link(b, p, kinds, l, s, conjunction, f.children, d - 1, next);
@@ -530,7 +535,7 @@ pub fn node(b: &[u8], p: &mut [u8], kinds: &[u8], l: Layout, s: Site, d: usize, 
             };
             return branch(b, p, kinds, l, s, v, true, 1, 1, d - 1, e);
         }
-        return Low::Fault(5, s.path);
+        return Low::Fault(INVALID_INPUT, s.path);
     }
     let want = takes(f.kind, f.operator);
     let lists = listing(f.kind, f.operator);
@@ -607,7 +612,7 @@ fn join(p: &mut [u8], k: usize, v: Value, y: Value, z: Value, e: Cursor, g: Curs
             },
         );
     }
-    Low::Fault(7, k)
+    Low::Fault(WRONG_TYPE, k)
 }
 
 // The arms of a condition. A jump is written once its target is known.
@@ -632,7 +637,7 @@ fn branch(
     if v.boolean {
         let bad = unsupported(true, v.dynamic, l.generated);
         if bad {
-            return Low::Fault(8, k);
+            return Low::Fault(UNSUPPORTED, k);
         }
         let first = ahead(c, 1);
         let a = lower(b, p, kinds, l, s, 1, conjunction, yes, d, first);
@@ -648,7 +653,7 @@ fn branch(
         };
         return join(p, k, v, y, z, e, g);
     }
-    Low::Fault(7, k)
+    Low::Fault(WRONG_TYPE, k)
 }
 
 // An operation without children, or past its last one.

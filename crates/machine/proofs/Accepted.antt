@@ -33,13 +33,13 @@ from-sized : (f g : Formula) (ss ts : List Symbol) (b : Bool) → formula-limit 
 from-sized f g ss ts true l h = from-lowered f g ss ts (fault (own-context ss) (term f) root) refl l h
 from-sized f g ss ts false l h = absurd (let z : _≡_ {A = ℕ} 0 1 = cc in omega arith)
 
-from-read : (o : Option Formula) (n : Option (List Symbol)) (g : Formula) (ts : List Symbol) → read o n ≡ accepted g ts → Accepted g ts
+from-read : (o : Option Formula) (n : Option (List Symbol)) (g : Formula) (ts : List Symbol) → read sized o n ≡ accepted g ts → Accepted g ts
 from-read none n g ts h = absurd (let z : _≡_ {A = ℕ} 0 1 = cc in omega arith)
 from-read (some f) none g ts h = absurd (let z : _≡_ {A = ℕ} 0 1 = cc in omega arith)
 from-read (some f) (some ss) g ts h = from-sized f g ss ts (formula-limit f) refl h
 
 from-rooms : (b : Bool) (o : Option Formula) (n : Option (List Symbol)) (g : Formula) (ts : List Symbol)
-    → cond b (refused 1 none) (read o n) ≡ accepted g ts → Accepted g ts
+    → cond b (refused 1 none) (read sized o n) ≡ accepted g ts → Accepted g ts
 from-rooms true o n g ts h = absurd (let z : _≡_ {A = ℕ} 0 1 = cc in omega arith)
 from-rooms false o n g ts h = from-read o n g ts h
 

@@ -37,17 +37,20 @@ lowered-or f symbols (some x) = refused (x .number) (some (x .place))
 abbrev pub sized : Formula → List Symbol → Compiled
 sized f symbols = cond (formula-limit f) (lowered-or f symbols (fault (own-context symbols) (term f) root)) (refused expression-limit (some root))
 
--- "2, formula bytes not as above (size and depth apart); 3, name line not as above"
-abbrev pub read : Option Formula → Option (List Symbol) → Compiled
-read none symbols = refused no-formula none
-read (some f) none = refused malformed-line none
-read (some f) (some symbols) = sized f symbols
+-- "2, formula bytes not as above (size and depth apart); 3, name line not as above", and what comes after these
+abbrev pub read : (Formula → List Symbol → Compiled) → Option Formula → Option (List Symbol) → Compiled
+read after none symbols = refused no-formula none
+read after (some f) none = refused malformed-line none
+read after (some f) (some symbols) = after f symbols
 
--- of formula bytes and a name line, with slices of these lengths: "1, path slice or program slice too short"
-unfoldable pub compile : List ℕ → List ℕ → ℕ → ℕ → Compiled
-compile formula names path-length program-length =
+-- of formula bytes and a name line, with slices of these lengths: "1, path slice or program slice too short", then 2 and 3
+abbrev pub prepared : (Formula → List Symbol → Compiled) → List ℕ → List ℕ → ℕ → ℕ → Compiled
+prepared after formula names path-length program-length =
     cond (ltb path-length path-room || ltb program-length (program-room (length formula))) (refused slice-too-short none)
-    (read (formula-of formula) (symbols-of names))
+    (read after (formula-of formula) (symbols-of names))
+
+unfoldable pub compile : List ℕ → List ℕ → ℕ → ℕ → Compiled
+compile formula names path-length program-length = prepared sized formula names path-length program-length
 
 -- ---- what the slices hold after
 

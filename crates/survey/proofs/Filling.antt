@@ -253,6 +253,7 @@ module _ (s : ℕ) (b : Bool) (f T₀ : List ℕ) (k d : ℕ) (room : Room f T�
     pub own : (j : ℕ) → k < j → j < at → Own f T j
     pub survey : (j : ℕ) → k < j → j < at → Surveyed s b f T j
     pub before : (m : ℕ) → m < 8 * k → getD T m 0 ≡ getD T₀ m 0
+    pub beyond : (m : ℕ) → 8 * (k + size (tree f k)) ≤ m → getD T m 0 ≡ getD T₀ m 0
 
   pub going-start : (has : Bool) (n : ℕ) → has ≡ is-symbol s (head-of-tree (tree f k)) → n ≡ half-at f (16 * k + 2) → Going T₀ has true 0 (k + 1) n
   going-start has n p q =
@@ -271,6 +272,7 @@ module _ (s : ℕ) (b : Bool) (f T₀ : List ℕ) (k d : ℕ) (room : Room f T�
         own = λ j x y. absurd (omega arith);
         survey = λ j x y. absurd (omega arith);
         before = λ m l. refl;
+        beyond = λ m l. refl;
       }
 
   module _ (T : List ℕ) (has fine : Bool) (levels at left : ℕ) (g : Going T has fine levels at left) where
@@ -323,6 +325,7 @@ module _ (s : ℕ) (b : Bool) (f T₀ : List ℕ) (k d : ℕ) (room : Room f T�
             own = λ j x w. own-row j x w (leb at j) refl;
             survey = λ j x w. survey-row j x w (leb at j) refl;
             before = λ m n. i .before m (omega (arith, g .after)) ∙ g .before m n;
+            beyond = λ m n. i .after m (omega (arith, g .ends, ap sizes q)) ∙ g .beyond m n;
           }
         where
           kept : (j : ℕ) → j < at → Kept T T′ j
@@ -405,4 +408,5 @@ module _ (s : ℕ) (b : Bool) (f T₀ : List ℕ) (k d : ℕ) (room : Room f T�
                 own = λ j x w. own-end j x w (leb j k) refl;
                 survey = λ j x w. survey-end j x w (leb j k) refl;
                 before = λ m l. r .before m (omega arith) ∙ p .others m (λ e. omega arith) (λ e. omega arith) ∙ g .before m l;
+                after = λ m l. let y = size-pos (tree f k) in r .after m (omega arith) ∙ p .others m (λ e. omega arith) (λ e. omega arith) ∙ g .beyond m l;
               }

@@ -117,8 +117,9 @@ pub record Room (f T : List ℕ) (k levels : ℕ) : Type 0 where
   pub deep : depth (tree f k) ≤ levels
   pub long : 8 * (k + size (tree f k)) ≤ length T
 
--- the rows of a node and of all below it are filled, those before it as they were
+-- the rows of a node and of all below it are filled, those before and after them as they were
 pub record Filled (s : ℕ) (by-state : Bool) (f T T′ : List ℕ) (k : ℕ) : Type 0 where
   pub own : (j : ℕ) → k ≤ j → j < k + size (tree f k) → Own f T′ j
   pub survey : (j : ℕ) → k ≤ j → j < k + size (tree f k) → Surveyed s by-state f T′ j
   pub before : (m : ℕ) → m < 8 * k → getD T′ m 0 ≡ getD T m 0
+  pub after : (m : ℕ) → 8 * (k + size (tree f k)) ≤ m → getD T′ m 0 ≡ getD T m 0

@@ -554,7 +554,7 @@ fn put_diff(table: &mut [usize], k: usize, has: bool, fine: bool, d: Attributes)
     table[8 * k + 7] = d.bits as usize;
 }
 
-// Fills the rows of a node and of all below it; the rows before it stay as they are.
+// Fills the rows of a node and of all below it; the rows before and after them stay as they are.
 pub fn survey(f: &[u8], k: usize, depth: usize, by: By, table: &mut [usize])
     requires { ⌜ Room (now f) (now table) k depth ⌝ }
     ensures { λ r. ⌜ Filled (by .symbol) (by .state) (now (f .entry)) (now (table .entry)) (now (table .exit)) k ⌝ }

@@ -1,60 +1,126 @@
-use mathlib.Core.Path.{ap}
+use mathlib.Core.Path.{refl, ap}
+use mathlib.Core.Option.{none, some}
 use native.Mathlib.Omega.{arith}
 use lib.ListN.{length, take}
-use Rattle.compile.proofs.Entries.{all-fit, early, is-program, is-refused, prefix, prefix-long, refusal-of, source-of, within-table}
+use Rattle.formula.specs.Path.{root}
+use Rattle.compile.proofs.Entries.{above-limit, all-fit, early, faults-left, limit-of, path-kept, path-rooted, prefix, prefix-long, refusal-of, source-of, within-table, written}
 use borrow.Author.Needs.{needs}
 use Rattle.compile.proofs.compile.Statement.{statement}
 use Rattle.compile.proofs.compile.Tie as tie
+use Rattle.compile.proofs.compile.Reads as reads
+use Rattle.compile.proofs.compile.Lts as lts
+use Rattle.compile.proofs.prepare.Reads as prepare-reads
+use Rattle.compile.proofs.within.Reads as within-reads
+use Rattle.compile.proofs.write.Reads as write-reads
 
 prepare-requires : tie.Need-prepare-requires
 prepare-requires c κs = search needs
 
-same-length : tie.Need-same-length
-same-length c = search needs
+enum-known-reading : tie.Need-enum-known-reading
+enum-known-reading c = search needs
 
-returns : tie.Need-returns
-returns c = let R = refusal-of (c .before .before .before .before .before .before .before .before .before .before .args .formula .now) (c .before .before .before .before .before .before .before .before .before .before .args .names .now) (length (c .before .before .before .before .before .before .before .before .before .before .args .program .now)) (c .before .before .before .before .before .before .before .before .before .before .args .path .now) (c .before .before .before .before .prepare .last .1 .1 .0) (c .before .before .before .before .prepare .result) (c .before .before .before .before .prepare .ensures) (c .if1 .taken) in early _ _ (R .0) (c .before .before .before .before .before .before .before .before .before .before .args .path .now) _ (c .before .before .before .before .before .before .before .before .before .before .args .program .now) (R .1) (R .2) (R .3)
+enum-known-reading-2 : tie.Need-enum-known-reading-2
+enum-known-reading-2 c = search needs
+
+within-requires : tie.Need-within-requires
+within-requires c κs =
+    let args = c .before .before .before .before .before .before .before .before .before .args in
+    let prepare = c .before .before .before .before .prepare in
+    let S = source-of (args .formula .now) (args .names .now) (length (args .path .now)) (length (args .program .now)) (prepare .result)
+    (prepare .ensures) (c .before .before .reading2 .given .0 .0) (c .before .before .reading2 .given .1) in
+    omega (arith, S .places)
 
 array-share-prefix-kinds : tie.Need-array-share-prefix-kinds
-array-share-prefix-kinds c = let S = source-of (c .before .before .before .before .before .before .before .before .before .before .before .before .before .args .formula .now) (c .before .before .before .before .before .before .before .before .before .before .before .before .before .args .names .now) (length (c .before .before .before .before .before .before .before .before .before .before .before .before .before .args .program .now)) (c .before .before .before .before .before .before .before .before .before .before .before .before .before .args .path .now) (c .before .before .before .before .before .before .before .prepare .last .1 .1 .0) (c .before .before .before .before .before .before .before .prepare .result) (c .before .before .before .before .before .before .before .prepare .ensures) (c .before .before .before .if1 .left) .0 in within-table (c .before .before .before .before .before .before .before .prepare .result) (S .symbols) (S .count) (S .kinds-are)
+array-share-prefix-kinds c =
+    let args = c .before .before .before .before .before .before .before .before .before .before .before .before .before .before .before .before .args in
+    let prepare = c .before .before .before .before .before .before .before .before .before .before .before .prepare in
+    let reading2 = c .before .before .before .before .before .before .before .before .before .reading2 in
+    let S = source-of (args .formula .now) (args .names .now) (length (args .path .now)) (length (args .program .now)) (prepare .result)
+    (prepare .ensures) (reading2 .given .0 .0) (reading2 .given .1) in
+    within-table (reading2 .given .0 .0) (prepare .result .kinds) (S .symbols) (S .count) (S .kinds-are)
 
 slice-aggregate-write : tie.Need-slice-aggregate-write
-slice-aggregate-write c = let S = source-of (c .before .before .before .before .before .before .before .before .before .before .before .before .before .before .args .formula .now) (c .before .before .before .before .before .before .before .before .before .before .before .before .before .before .args .names .now) (length (c .before .before .before .before .before .before .before .before .before .before .before .before .before .before .args .program .now)) (c .before .before .before .before .before .before .before .before .before .before .before .before .before .before .args .path .now) (c .before .before .before .before .before .before .before .before .prepare .last .1 .1 .0) (c .before .before .before .before .before .before .before .before .prepare .result) (c .before .before .before .before .before .before .before .before .prepare .ensures) (c .before .before .before .before .if1 .left) .0 in prefix-long (c .before .before .before .before .before .before .before .before .prepare .result) (S .symbols) (S .count) (S .kinds-are)
+slice-aggregate-write c =
+    let args = c .before .before .before .before .before .before .before .before .before .before .before .before .before .before .before .before .before .args in
+    let prepare = c .before .before .before .before .before .before .before .before .before .before .before .before .prepare in
+    let reading2 = c .before .before .before .before .before .before .before .before .before .before .reading2 in
+    let S = source-of (args .formula .now) (args .names .now) (length (args .path .now)) (length (args .program .now)) (prepare .result)
+    (prepare .ensures) (reading2 .given .0 .0) (reading2 .given .1) in
+    prefix-long (reading2 .given .0 .0) (prepare .result .kinds) (S .symbols) (S .count) (S .kinds-are)
 
 write-requires : tie.Need-write-requires
-write-requires c κs = let S = source-of (c .before .before .before .before .before .before .before .before .before .before .before .before .before .before .args .formula .now) (c .before .before .before .before .before .before .before .before .before .before .before .before .before .before .args .names .now) (length (c .before .before .before .before .before .before .before .before .before .before .before .before .before .before .args .program .now)) (c .before .before .before .before .before .before .before .before .before .before .before .before .before .before .args .path .now) (c .before .before .before .before .before .before .before .before .prepare .last .1 .1 .0) (c .before .before .before .before .before .before .before .before .prepare .result) (c .before .before .before .before .before .before .before .before .prepare .ensures) (c .before .before .before .before .if1 .left) in all-fit (c .before .before .before .before .before .before .before .before .before .before .before .before .before .before .args .formula .now) (S .0 .f) (S .0 .formed) (S .0 .limit) _ _ (omega (arith, S .0 .places, ap length (S .1))) (S .0 .room)
+write-requires c κs =
+    let args = c .before .before .before .before .before .before .before .before .before .before .before .before .before .before .before .before .before .args in
+    let prepare = c .before .before .before .before .before .before .before .before .before .before .before .before .prepare in
+    let reading2 = c .before .before .before .before .before .before .before .before .before .before .reading2 in
+    let within = c .before .before .before .before .before .before .before .within in
+    let if1 = c .before .before .before .before .if1 in
+    let S = source-of (args .formula .now) (args .names .now) (length (args .path .now)) (length (args .program .now)) (prepare .result)
+    (prepare .ensures) (reading2 .given .0 .0) (reading2 .given .1) in
+    all-fit (args .formula .now) (S .f) (S .formed) (limit-of S (within .result) (within .ensures .0) (if1 .taken)) _ _ (omega
+    (arith, S .places, ap length (path-kept (args .path .now) (within .last .1 .0) (within .result) (within .ensures .1) (if1 .taken)))) (S .room)
+
+same-length : tie.Need-same-length
+same-length c = search needs
 
 same-length-2 : tie.Need-same-length-2
 same-length-2 c = search needs
 
+returns : tie.Need-returns
+returns c =
+    let args = c .before .before .before .before .before .before .before .before .before .before .before .before .before .before .before .before .before .before .before .before .before .before .args in
+    let prepare = c .before .before .before .before .before .before .before .before .before .before .before .before .before .before .before .before .before .prepare in
+    let reading2 = c .before .before .before .before .before .before .before .before .before .before .before .before .before .before .before .reading2 in
+    let within = c .before .before .before .before .before .before .before .before .before .before .before .before .within in
+    let if1 = c .before .before .before .before .before .before .before .before .before .if1 in
+    let S = source-of (args .formula .now) (args .names .now) (length (args .path .now)) (length (args .program .now)) (prepare .result)
+    (prepare .ensures) (reading2 .given .0 .0) (reading2 .given .1) in
+    let n = reading2 .given .0 .0 in
+    let K = prepare .result .kinds in
+    let write = c .before .before .before .before .write in
+    let limit = limit-of S (within .result) (within .ensures .0) (if1 .taken) in
+    written (args .formula .now) (S .f) (S .formed) limit (take n K) (S .symbols) (prefix n K (S .symbols) (S .count) (S .kinds-are)) (write .result)
+    (args .path .now) (within .last .1 .0) (write .last .1 .1 .0) (args .program .now) (write .last .1 .0)
+    (path-kept (args .path .now) (within .last .1 .0) (within .result) (within .ensures .1) (if1 .taken)) (write .ensures .0) (write .ensures .1)
+    (write .ensures .2) _ (faults-left S (within .result) (within .ensures .0) (if1 .taken))
+
+returns-2 : tie.Need-returns-2
+returns-2 c =
+    let args = c .before .before .before .before .before .before .before .before .args in
+    let prepare = c .before .before .before .prepare in
+    let n = c .before .reading .given .0 .0 in
+    let R = refusal-of (args .formula .now) (args .names .now) (length (args .path .now)) (length (args .program .now)) (prepare .result)
+    (prepare .ensures) n (c .before .reading .given .1) in
+    early _ n none (args .path .now) _ (args .program .now) (R .0) (R .1) refl
+
 same-length-3 : tie.Need-same-length-3
 same-length-3 c = search needs
 
-returns-2 : tie.Need-returns-2
-returns-2 c = let S = source-of (c .before .before .before .before .before .before .before .before .before .before .before .before .before .before .before .before .before .before .before .before .args .formula .now) (c .before .before .before .before .before .before .before .before .before .before .before .before .before .before .before .before .before .before .before .before .args .names .now) (length (c .before .before .before .before .before .before .before .before .before .before .before .before .before .before .before .before .before .before .before .before .args .program .now)) (c .before .before .before .before .before .before .before .before .before .before .before .before .before .before .before .before .before .before .before .before .args .path .now) (c .before .before .before .before .before .before .before .before .before .before .before .before .before .before .prepare .last .1 .1 .0) (c .before .before .before .before .before .before .before .before .before .before .before .before .before .before .prepare .result) (c .before .before .before .before .before .before .before .before .before .before .before .before .before .before .prepare .ensures) (c .before .before .before .before .before .before .before .before .before .before .if1 .left) in is-program (c .before .before .before .before .before .before .before .before .before .before .before .before .before .before .before .before .before .before .before .before .args .formula .now) (S .0 .f) (S .0 .formed) (S .0 .limit) (take (c .before .before .before .before .before .before .before .before .before .before .before .before .before .before .prepare .result .count) (c .before .before .before .before .before .before .before .before .before .before .before .before .before .before .prepare .result .kinds)) (S .0 .symbols) (prefix (c .before .before .before .before .before .before .before .before .before .before .before .before .before .before .prepare .result) (S .0 .symbols) (S .0 .count) (S .0 .kinds-are)) (c .before .before .before .before .before .write .result) (c .before .before .before .before .before .before .before .before .before .before .before .before .before .before .before .before .before .before .before .before .args .path .now) (c .before .before .before .before .before .before .before .before .before .before .before .before .before .before .prepare .last .1 .1 .0) (c .before .before .before .before .before .write .last .1 .1 .0) (c .before .before .before .before .before .before .before .before .before .before .before .before .before .before .before .before .before .before .before .before .args .program .now) (c .before .before .before .before .before .write .last .1 .0) (S .1) (c .before .before .before .before .before .write .ensures .0) (c .before .before .before .before .before .write .ensures .1) (c .before .before .before .before .before .write .ensures .2) _ (S .0 .comes-to) (c .if2 .taken)
-
-same-length-4 : tie.Need-same-length-4
-same-length-4 c = search needs
-
-same-length-5 : tie.Need-same-length-5
-same-length-5 c = search needs
-
 returns-3 : tie.Need-returns-3
-returns-3 c = let S = source-of (c .before .before .before .before .before .before .before .before .before .before .before .before .before .before .before .before .before .before .before .before .args .formula .now) (c .before .before .before .before .before .before .before .before .before .before .before .before .before .before .before .before .before .before .before .before .args .names .now) (length (c .before .before .before .before .before .before .before .before .before .before .before .before .before .before .before .before .before .before .before .before .args .program .now)) (c .before .before .before .before .before .before .before .before .before .before .before .before .before .before .before .before .before .before .before .before .args .path .now) (c .before .before .before .before .before .before .before .before .before .before .before .before .before .before .prepare .last .1 .1 .0) (c .before .before .before .before .before .before .before .before .before .before .before .before .before .before .prepare .result) (c .before .before .before .before .before .before .before .before .before .before .before .before .before .before .prepare .ensures) (c .before .before .before .before .before .before .before .before .before .before .if1 .left) in is-refused (c .before .before .before .before .before .before .before .before .before .before .before .before .before .before .before .before .before .before .before .before .args .formula .now) (S .0 .f) (S .0 .formed) (S .0 .limit) (take (c .before .before .before .before .before .before .before .before .before .before .before .before .before .before .prepare .result .count) (c .before .before .before .before .before .before .before .before .before .before .before .before .before .before .prepare .result .kinds)) (S .0 .symbols) (prefix (c .before .before .before .before .before .before .before .before .before .before .before .before .before .before .prepare .result) (S .0 .symbols) (S .0 .count) (S .0 .kinds-are)) (c .before .before .before .before .before .write .result) (c .before .before .before .before .before .before .before .before .before .before .before .before .before .before .before .before .before .before .before .before .args .path .now) (c .before .before .before .before .before .before .before .before .before .before .before .before .before .before .prepare .last .1 .1 .0) (c .before .before .before .before .before .write .last .1 .1 .0) (c .before .before .before .before .before .before .before .before .before .before .before .before .before .before .before .before .before .before .before .before .args .program .now) (c .before .before .before .before .before .write .last .1 .0) (S .1) (c .before .before .before .before .before .write .ensures .0) (c .before .before .before .before .before .write .ensures .1) (c .before .before .before .before .before .write .ensures .2) _ (S .0 .comes-to) (c .if2 .left)
+returns-3 c =
+    let args = c .before .before .before .before .before .before .before .before .before .before .before .before .before .args in
+    let prepare = c .before .before .before .before .before .before .before .before .prepare in
+    let reading2 = c .before .before .before .before .before .before .reading2 in
+    let S = source-of (args .formula .now) (args .names .now) (length (args .path .now)) (length (args .program .now)) (prepare .result)
+    (prepare .ensures) (reading2 .given .0 .0) (reading2 .given .1) in
+    let within = c .before .before .before .within in
+    early _ 4 (some root) (args .path .now) _ (args .program .now) (above-limit S (within .result) (within .ensures .0) (c .if1 .left)) (omega arith)
+    (path-rooted (args .path .now) (within .last .1 .0) (within .result) (within .ensures .1) (c .if1 .left))
 
 pub compile-spec : {M : Type 1} → statement M
 compile-spec =
     tie.close
     (tie.spec
     prepare-requires
-    same-length
-    returns
+    enum-known-reading
+    enum-known-reading-2
+    within-requires
     array-share-prefix-kinds
     slice-aggregate-write
     write-requires
+    same-length
     same-length-2
-    same-length-3
+    returns
     returns-2
-    same-length-4
-    same-length-5
+    same-length-3
     returns-3)

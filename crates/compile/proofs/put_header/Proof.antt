@@ -32,7 +32,20 @@ same-length : tie.Need-same-length
 same-length c = search needs
 
 returns : tie.Need-returns
-returns c = header-stored (c .before .before .before .before .before .before .before .before .before .before .before .before .before .before .before .before .before .before .before .before .before .before .before .before .before .before .before .before .before .before .before .before .before .args .p .now) (c .before .before .before .before .before .before .before .before .before .before .before .before .before .before .before .before .before .before .before .before .before .before .before .before .before .before .before .before .before .before .put-word .last .0) (c .before .before .before .before .before .before .before .before .before .before .before .before .before .before .before .before .before .before .before .before .before .before .before .before .before .before .put-word2 .last .0) (c .before .before .before .before .before .before .before .before .before .before .before .before .before .before .before .before .before .before .before .before .before .before .put-word3 .last .0) (c .before .before .before .before .before .before .before .before .before .before .before .before .before .before .before .before .before .before .put-word4 .last .0) (c .before .before .before .before .before .before .before .before .before .before .before .before .before .before .put-word5 .last .0) (c .before .before .before .before .before .before .before .before .before .before .put-word6 .last .0) (c .before .before .before .before .before .before .put-word7 .last .0) (c .before .before .put-word8 .last .0) magic (c .before .before .before .before .before .before .before .before .before .before .before .before .before .before .before .before .before .before .before .before .before .before .before .before .before .before .before .before .before .before .before .before .before .args .code) (c .before .before .before .before .before .before .before .before .before .before .before .before .before .before .before .before .before .before .before .before .before .before .before .before .before .before .before .before .before .before .before .before .before .args .registers) (c .before .before .before .before .before .before .before .before .before .before .before .before .before .before .before .before .before .before .before .before .before .before .before .before .before .before .before .before .before .before .before .before .before .args .result) (c .before .before .before .before .before .before .before .before .before .before .before .before .before .before .before .before .before .before .before .before .before .before .before .before .before .before .before .before .before .before .before .before .before .args .inputs) (c .before .before .before .before .before .before .before .before .before .before .before .before .before .before .before .before .before .before .before .before .before .before .before .before .before .before .before .before .before .before .before .before .before .args .kind) (c .before .before .before .before .before .before .before .before .before .before .before .before .before .before .before .before .before .before .before .before .before .before .before .before .before .before .before .before .before .before .before .before .before .args .paths) (c .before .before .before .before .before .before .before .before .before .before .before .before .before .before .before .before .before .before .before .before .before .before .before .before .before .before .before .before .before .before .before .before .before .args .entries) (c .before .before .before .before .before .before .before .before .before .before .before .before .before .before .before .before .before .before .before .before .before .before .before .before .before .before .before .before .before .before .before .before .before .pre) (c .before .before .before .before .before .before .before .before .before .before .before .before .before .before .before .before .before .before .before .before .before .before .before .before .before .before .before .before .before .before .put-word .ensures) (c .before .before .before .before .before .before .before .before .before .before .before .before .before .before .before .before .before .before .before .before .before .before .before .before .before .before .put-word2 .ensures) (c .before .before .before .before .before .before .before .before .before .before .before .before .before .before .before .before .before .before .before .before .before .before .put-word3 .ensures) (c .before .before .before .before .before .before .before .before .before .before .before .before .before .before .before .before .before .before .put-word4 .ensures) (c .before .before .before .before .before .before .before .before .before .before .before .before .before .before .put-word5 .ensures) (c .before .before .before .before .before .before .before .before .before .before .put-word6 .ensures) (c .before .before .before .before .before .before .put-word7 .ensures) (c .before .before .put-word8 .ensures)
+returns c =
+    let args = c .before .before .before .before .before .before .before .before .before .before .before .before .before .before .before .before .before .before .before .before .before .before .before .before .before .before .before .before .before .before .before .before .before .args in
+    let pre = c .before .before .before .before .before .before .before .before .before .before .before .before .before .before .before .before .before .before .before .before .before .before .before .before .before .before .before .before .before .before .before .before .before .pre in
+    let put-word = c .before .before .before .before .before .before .before .before .before .before .before .before .before .before .before .before .before .before .before .before .before .before .before .before .before .before .before .before .before .before .put-word in
+    let put-word2 = c .before .before .before .before .before .before .before .before .before .before .before .before .before .before .before .before .before .before .before .before .before .before .before .before .before .before .put-word2 in
+    let put-word3 = c .before .before .before .before .before .before .before .before .before .before .before .before .before .before .before .before .before .before .before .before .before .before .put-word3 in
+    let put-word4 = c .before .before .before .before .before .before .before .before .before .before .before .before .before .before .before .before .before .before .put-word4 in
+    let put-word5 = c .before .before .before .before .before .before .before .before .before .before .before .before .before .before .put-word5 in
+    let put-word6 = c .before .before .before .before .before .before .before .before .before .before .put-word6 in
+    let put-word7 = c .before .before .before .before .before .before .put-word7 in
+    header-stored (args .p .now) (put-word .last .0) (put-word2 .last .0) (put-word3 .last .0) (put-word4 .last .0) (put-word5 .last .0)
+    (put-word6 .last .0) (put-word7 .last .0) (c .before .before .put-word8 .last .0) magic (args .code) (args .registers) (args .result)
+    (args .inputs) (args .kind) (args .paths) (args .entries) (pre) (put-word .ensures) (put-word2 .ensures) (put-word3 .ensures) (put-word4 .ensures)
+    (put-word5 .ensures) (put-word6 .ensures) (put-word7 .ensures) (c .before .before .put-word8 .ensures)
 
 pub put-header-spec : {M : Type 1} → statement M
 put-header-spec =

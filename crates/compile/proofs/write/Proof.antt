@@ -7,10 +7,22 @@ use Rattle.compile.proofs.write.Statement.{statement}
 use Rattle.compile.proofs.write.Tie as tie
 
 tally-requires : tie.Need-tally-requires
-tally-requires c κs = one-well (c .before .before .before .before .args .b .now) (c .before .before .before .before .args .d) 1 0 refl (c .before .before .before .before .pre .well)
+tally-requires c κs =
+    let args = c .before .before .before .before .args in
+    one-well (args .b .now) (args .d) 1 0 refl (c .before .before .before .before .pre .well)
 
 write-counted-requires : tie.Need-write-counted-requires
-write-counted-requires c κs = (c .before .before .before .before .before .before .before .pre, (ap (λ (x : Counts). x .code) (c .before .before .tally .ensures) ∙ counts-one (c .before .before .before .before .before .before .before .args .b .now) (c .before .before .before .before .before .before .before .args .d) .0, ap (λ (x : Counts). x .paths) (c .before .before .tally .ensures) ∙ counts-one (c .before .before .before .before .before .before .before .args .b .now) (c .before .before .before .before .before .before .before .args .d) .1, ap (λ (x : Counts). x .entries) (c .before .before .tally .ensures) ∙ counts-one (c .before .before .before .before .before .before .before .args .b .now) (c .before .before .before .before .before .before .before .args .d) .2))
+write-counted-requires c κs =
+    let pre = c .before .before .before .before .before .before .before .pre in
+    let args = c .before .before .before .before .before .before .before .args in
+    let tally = c .before .before .tally in (
+      pre,
+      (
+        ap (λ (x : Counts). x .code) (tally .ensures) ∙ counts-one (args .b .now) (args .d) .0,
+        ap (λ (x : Counts). x .paths) (tally .ensures) ∙ counts-one (args .b .now) (args .d) .1,
+        ap (λ (x : Counts). x .entries) (tally .ensures) ∙ counts-one (args .b .now) (args .d) .2,
+      ),
+    )
 
 same-length : tie.Need-same-length
 same-length c = search needs

@@ -1,4 +1,5 @@
-use mathlib.Core.Path.{ap}
+use mathlib.Core.Path.{refl, ap}
+use mathlib.Core.Option.{none, some}
 use native.Mathlib.Omega.{arith}
 use lib.ListN.{length}
 use Rattle.formula.specs.Path.{root}
@@ -6,30 +7,73 @@ use Rattle.formula.specs.Term.{term}
 use Rattle.machine.specs.Check.{fault}
 use Rattle.machine.specs.Compile.{lowered-or, own-context}
 use Rattle.derivative.specs.Derive.{continued}
-use Rattle.compile.proofs.Entries.{prefix, prefix-long, refusal-of, source-of, within-table}
+use Rattle.compile.proofs.Entries.{above-limit, faults-left, limit-of, path-kept, path-rooted, prefix, prefix-long, refusal-of, source-of, within-table}
 use Rattle.derive.proofs.Parts.{leaves}
 use Rattle.derive.proofs.Ends.{from-path, goes-on, refused-first}
 use borrow.Author.Needs.{needs}
 use Rattle.derive.proofs.derive.Statement.{statement}
 use Rattle.derive.proofs.derive.Tie as tie
+use Rattle.derive.proofs.derive.Reads as reads
+use Rattle.derive.proofs.derive.Lts as lts
+use Rattle.compile.proofs.prepare.Reads as prepare-reads
+use Rattle.compile.proofs.within.Reads as within-reads
+use Rattle.derive.proofs.derive_formula.Reads as derive-formula-reads
 
 prepare-requires : tie.Need-prepare-requires
 prepare-requires c κs = search needs
 
-same-length : tie.Need-same-length
-same-length c = search needs
+enum-known-reading : tie.Need-enum-known-reading
+enum-known-reading c = search needs
 
-returns : tie.Need-returns
-returns c = let R = refusal-of (c .before .before .before .before .before .before .before .before .before .before .before .args .formula .now) (c .before .before .before .before .before .before .before .before .before .before .before .args .names .now) (length (c .before .before .before .before .before .before .before .before .before .before .before .args .program .now)) (c .before .before .before .before .before .before .before .before .before .before .before .args .path .now) (c .before .before .before .before .prepare .last .1 .1 .0) (c .before .before .before .before .prepare .result) (c .before .before .before .before .prepare .ensures) (c .if1 .taken) in refused-first (c .before .before .before .before .before .before .before .before .before .before .before .args .formula .now) (c .before .before .before .before .before .before .before .before .before .before .before .args .names .now) (c .before .before .before .before .before .before .before .before .before .before .before .args .symbol) (c .before .before .before .before .before .before .before .before .before .before .before .args .path .now) _ _ _ _ (R .0) (c .before .before .before .before .before .before .before .before .before .before .before .args .tree .now) (c .before .before .before .before .before .before .before .before .before .before .before .args .program .now) (R .1) (R .3)
+enum-known-reading-2 : tie.Need-enum-known-reading-2
+enum-known-reading-2 c = search needs
+
+within-requires : tie.Need-within-requires
+within-requires c κs =
+    let args = c .before .before .before .before .before .before .before .before .before .before .args in
+    let prepare = c .before .before .before .before .prepare in
+    let n = c .before .before .reading2 .given .0 .0 in
+    let S = source-of (args .formula .now) (args .names .now) (length (args .path .now)) (length (args .program .now)) (prepare .result)
+    (prepare .ensures) n (c .before .before .reading2 .given .1) in
+    omega (arith, S .places)
 
 array-share-prefix-kinds : tie.Need-array-share-prefix-kinds
-array-share-prefix-kinds c = let S = source-of (c .before .before .before .before .before .before .before .before .before .before .before .before .args .formula .now) (c .before .before .before .before .before .before .before .before .before .before .before .before .args .names .now) (length (c .before .before .before .before .before .before .before .before .before .before .before .before .args .program .now)) (c .before .before .before .before .before .before .before .before .before .before .before .before .args .path .now) (c .before .before .before .before .before .prepare .last .1 .1 .0) (c .before .before .before .before .before .prepare .result) (c .before .before .before .before .before .prepare .ensures) (c .before .if1 .left) in within-table (c .before .before .before .before .before .prepare .result) (S .0 .symbols) (S .0 .count) (S .0 .kinds-are)
+array-share-prefix-kinds c =
+    let args = c .before .before .before .before .before .before .before .before .before .before .before .before .before .before .before .args in
+    let prepare = c .before .before .before .before .before .before .before .before .before .prepare in
+    let reading2 = c .before .before .before .before .before .before .before .reading2 in
+    let n = reading2 .given .0 .0 in
+    let S = source-of (args .formula .now) (args .names .now) (length (args .path .now)) (length (args .program .now)) (prepare .result)
+    (prepare .ensures) n (reading2 .given .1) in
+    within-table n (prepare .result .kinds) (S .symbols) (S .count) (S .kinds-are)
 
 slice-aggregate-derive-formula : tie.Need-slice-aggregate-derive-formula
-slice-aggregate-derive-formula c = let S = source-of (c .before .before .before .before .before .before .before .before .before .before .before .before .before .args .formula .now) (c .before .before .before .before .before .before .before .before .before .before .before .before .before .args .names .now) (length (c .before .before .before .before .before .before .before .before .before .before .before .before .before .args .program .now)) (c .before .before .before .before .before .before .before .before .before .before .before .before .before .args .path .now) (c .before .before .before .before .before .before .prepare .last .1 .1 .0) (c .before .before .before .before .before .before .prepare .result) (c .before .before .before .before .before .before .prepare .ensures) (c .before .before .if1 .left) in prefix-long (c .before .before .before .before .before .before .prepare .result) (S .0 .symbols) (S .0 .count) (S .0 .kinds-are)
+slice-aggregate-derive-formula c =
+    let args = c .before .before .before .before .before .before .before .before .before .before .before .before .before .before .before .before .args in
+    let prepare = c .before .before .before .before .before .before .before .before .before .before .prepare in
+    let reading2 = c .before .before .before .before .before .before .before .before .reading2 in
+    let n = reading2 .given .0 .0 in
+    let S = source-of (args .formula .now) (args .names .now) (length (args .path .now)) (length (args .program .now)) (prepare .result)
+    (prepare .ensures) n (reading2 .given .1) in
+    prefix-long n (prepare .result .kinds) (S .symbols) (S .count) (S .kinds-are)
 
 derive-formula-requires : tie.Need-derive-formula-requires
-derive-formula-requires c κs = let S = source-of (c .before .before .before .before .before .before .before .before .before .before .before .before .before .before .before .before .args .formula .now) (c .before .before .before .before .before .before .before .before .before .before .before .before .before .before .before .before .args .names .now) (length (c .before .before .before .before .before .before .before .before .before .before .before .before .before .before .before .before .args .program .now)) (c .before .before .before .before .before .before .before .before .before .before .before .before .before .before .before .before .args .path .now) (c .before .before .before .before .before .before .before .before .before .prepare .last .1 .1 .0) (c .before .before .before .before .before .before .before .before .before .prepare .result) (c .before .before .before .before .before .before .before .before .before .prepare .ensures) (c .before .before .before .before .before .if1 .left) in (omega (arith, S .0 .places, ap length (S .1)), (S .0 .f, S .0 .symbols, (record { formed = S .0 .formed; limit = S .0 .limit; listed = prefix (c .before .before .before .before .before .before .before .before .before .prepare .result) (S .0 .symbols) (S .0 .count) (S .0 .kinds-are) })))
+derive-formula-requires c κs =
+    let args = c .before .before .before .before .before .before .before .before .before .before .before .before .before .before .before .before .before .before .before .args in
+    let prepare = c .before .before .before .before .before .before .before .before .before .before .before .before .before .prepare in
+    let reading2 = c .before .before .before .before .before .before .before .before .before .before .before .reading2 in
+    let within = c .before .before .before .before .before .before .before .before .within in
+    let if1 = c .before .before .before .before .before .if1 in
+    let n = reading2 .given .0 .0 in
+    let S = source-of (args .formula .now) (args .names .now) (length (args .path .now)) (length (args .program .now)) (prepare .result)
+    (prepare .ensures) n (reading2 .given .1) in
+    let limit = limit-of S (within .result) (within .ensures .0) (if1 .taken) in
+    let kept = path-kept (args .path .now) (within .last .1 .0) (within .result) (within .ensures .1) (if1 .taken) in
+    let listed = prefix n (prepare .result .kinds) (S .symbols) (S .count) (S .kinds-are) in
+    (omega (arith, S .places, ap length kept), (S .f, S .symbols, record { formed = S .formed; limit = limit; listed = listed }))
+
+same-length : tie.Need-same-length
+same-length c = search needs
 
 same-length-2 : tie.Need-same-length-2
 same-length-2 c = search needs
@@ -37,23 +81,72 @@ same-length-2 c = search needs
 same-length-3 : tie.Need-same-length-3
 same-length-3 c = search needs
 
+returns : tie.Need-returns
+returns c =
+    let args = c .before .before .before .before .before .before .before .before .before .before .before .before .before .before .before .before .before .before .before .before .before .before .before .before .before .before .args in
+    let prepare = c .before .before .before .before .before .before .before .before .before .before .before .before .before .before .before .before .before .before .before .before .prepare in
+    let reading2 = c .before .before .before .before .before .before .before .before .before .before .before .before .before .before .before .before .before .before .reading2 in
+    let within = c .before .before .before .before .before .before .before .before .before .before .before .before .before .before .before .within in
+    let if1 = c .before .before .before .before .before .before .before .before .before .before .before .before .if1 in
+    let formula = c .before .before .before .before .before .before .derive-formula in
+    let n = reading2 .given .0 .0 in
+    let S = source-of (args .formula .now) (args .names .now) (length (args .path .now)) (length (args .program .now)) (prepare .result)
+    (prepare .ensures) n (reading2 .given .1) in
+    let limit = limit-of S (within .result) (within .ensures .0) (if1 .taken) in
+    let kept = path-kept (args .path .now) (within .last .1 .0) (within .result) (within .ensures .1) (if1 .taken) in
+    let listed = prefix n (prepare .result .kinds) (S .symbols) (S .count) (S .kinds-are) in
+    let q = args .path .now in
+    let tree = args .tree .now in
+    let program = args .program .now in
+    leaves _ _ _ q (formula .last .1 .1 .1 .0) tree (formula .last .1 .1 .1 .1 .0) program (formula .last .1 .1 .1 .1 .1 .0) (goes-on
+    (args .formula .now) (args .names .now) (args .symbol) q q (length tree) (length program) _
+    (faults-left S (within .result) (within .ensures .0) (if1 .taken))) (from-path (continued (length tree) (length program) (args .symbol)
+    (lowered-or (S .f) (S .symbols) (fault (own-context (S .symbols)) (term (S .f)) root))) (formula .result) q (within .last .1 .0)
+    (formula .last .1 .1 .1 .0) tree (formula .last .1 .1 .1 .1 .0) program (formula .last .1 .1 .1 .1 .1 .0) kept
+    (formula .ensures (S .f) (S .symbols) (record { formed = S .formed; limit = limit; listed = listed })))
+
+returns-2 : tie.Need-returns-2
+returns-2 c =
+    let args = c .before .before .before .before .before .before .before .before .before .args in
+    let prepare = c .before .before .before .prepare in
+    let n = c .before .reading .given .0 .0 in
+    let R = refusal-of (args .formula .now) (args .names .now) (length (args .path .now)) (length (args .program .now)) (prepare .result)
+    (prepare .ensures) n (c .before .reading .given .1) in
+    refused-first (args .formula .now) (args .names .now) (args .symbol) (args .path .now) (args .path .now) (length (args .tree .now))
+    (length (args .program .now)) n none (args .tree .now) (args .program .now) (R .0) refl
+
 same-length-4 : tie.Need-same-length-4
 same-length-4 c = search needs
 
-returns-2 : tie.Need-returns-2
-returns-2 c = let S = source-of (c .before .before .before .before .before .before .before .before .before .before .before .before .before .before .before .before .before .before .before .before .before .before .before .args .formula .now) (c .before .before .before .before .before .before .before .before .before .before .before .before .before .before .before .before .before .before .before .before .before .before .before .args .names .now) (length (c .before .before .before .before .before .before .before .before .before .before .before .before .before .before .before .before .before .before .before .before .before .before .before .args .program .now)) (c .before .before .before .before .before .before .before .before .before .before .before .before .before .before .before .before .before .before .before .before .before .before .before .args .path .now) (c .before .before .before .before .before .before .before .before .before .before .before .before .before .before .before .before .prepare .last .1 .1 .0) (c .before .before .before .before .before .before .before .before .before .before .before .before .before .before .before .before .prepare .result) (c .before .before .before .before .before .before .before .before .before .before .before .before .before .before .before .before .prepare .ensures) (c .before .before .before .before .before .before .before .before .before .before .before .before .if1 .left) in leaves _ _ _ (c .before .before .before .before .before .before .before .before .before .before .before .before .before .before .before .before .before .before .before .before .before .before .before .args .path .now) (c .before .before .before .before .before .before .derive-formula .last .1 .1 .1 .0) (c .before .before .before .before .before .before .before .before .before .before .before .before .before .before .before .before .before .before .before .before .before .before .before .args .tree .now) (c .before .before .before .before .before .before .derive-formula .last .1 .1 .1 .1 .0) (c .before .before .before .before .before .before .before .before .before .before .before .before .before .before .before .before .before .before .before .before .before .before .before .args .program .now) (c .before .before .before .before .before .before .derive-formula .last .1 .1 .1 .1 .1 .0) (goes-on (c .before .before .before .before .before .before .before .before .before .before .before .before .before .before .before .before .before .before .before .before .before .before .before .args .formula .now) (c .before .before .before .before .before .before .before .before .before .before .before .before .before .before .before .before .before .before .before .before .before .before .before .args .names .now) (c .before .before .before .before .before .before .before .before .before .before .before .before .before .before .before .before .before .before .before .before .before .before .before .args .symbol) (c .before .before .before .before .before .before .before .before .before .before .before .before .before .before .before .before .before .before .before .before .before .before .before .args .path .now) (c .before .before .before .before .before .before .before .before .before .before .before .before .before .before .before .before .before .before .before .before .before .before .before .args .path .now) (length (c .before .before .before .before .before .before .before .before .before .before .before .before .before .before .before .before .before .before .before .before .before .before .before .args .tree .now)) (length (c .before .before .before .before .before .before .before .before .before .before .before .before .before .before .before .before .before .before .before .before .before .before .before .args .program .now)) _ (S .0 .comes-to)) (from-path (continued (length (c .before .before .before .before .before .before .before .before .before .before .before .before .before .before .before .before .before .before .before .before .before .before .before .args .tree .now)) (length (c .before .before .before .before .before .before .before .before .before .before .before .before .before .before .before .before .before .before .before .before .before .before .before .args .program .now)) (c .before .before .before .before .before .before .before .before .before .before .before .before .before .before .before .before .before .before .before .before .before .before .before .args .symbol) (lowered-or (S .0 .f) (S .0 .symbols) (fault (own-context (S .0 .symbols)) (term (S .0 .f)) root))) (c .before .before .before .before .before .before .derive-formula .result) (c .before .before .before .before .before .before .before .before .before .before .before .before .before .before .before .before .before .before .before .before .before .before .before .args .path .now) (c .before .before .before .before .before .before .before .before .before .before .before .before .before .before .before .before .prepare .last .1 .1 .0) (c .before .before .before .before .before .before .derive-formula .last .1 .1 .1 .0) (c .before .before .before .before .before .before .before .before .before .before .before .before .before .before .before .before .before .before .before .before .before .before .before .args .tree .now) (c .before .before .before .before .before .before .derive-formula .last .1 .1 .1 .1 .0) (c .before .before .before .before .before .before .before .before .before .before .before .before .before .before .before .before .before .before .before .before .before .before .before .args .program .now) (c .before .before .before .before .before .before .derive-formula .last .1 .1 .1 .1 .1 .0) (S .1) (c .before .before .before .before .before .before .derive-formula .ensures (S .0 .f) (S .0 .symbols) (record { formed = S .0 .formed; limit = S .0 .limit; listed = prefix (c .before .before .before .before .before .before .before .before .before .before .before .before .before .before .before .before .prepare .result) (S .0 .symbols) (S .0 .count) (S .0 .kinds-are) })))
+returns-3 : tie.Need-returns-3
+returns-3 c =
+    let args = c .before .before .before .before .before .before .before .before .before .before .before .before .before .before .args in
+    let prepare = c .before .before .before .before .before .before .before .before .prepare in
+    let reading2 = c .before .before .before .before .before .before .reading2 in
+    let n = reading2 .given .0 .0 in
+    let S = source-of (args .formula .now) (args .names .now) (length (args .path .now)) (length (args .program .now)) (prepare .result)
+    (prepare .ensures) n (reading2 .given .1) in
+    let within = c .before .before .before .within in
+    refused-first (args .formula .now) (args .names .now) (args .symbol) (args .path .now) (within .last .1 .0) (length (args .tree .now))
+    (length (args .program .now)) 4 (some root) (args .tree .now) (args .program .now)
+    (above-limit S (within .result) (within .ensures .0) (c .if1 .left))
+    (path-rooted (args .path .now) (within .last .1 .0) (within .result) (within .ensures .1) (c .if1 .left))
 
 pub derive-spec : {M : Type 1} → statement M
 derive-spec =
     tie.close
     (tie.spec
     prepare-requires
-    same-length
-    returns
+    enum-known-reading
+    enum-known-reading-2
+    within-requires
     array-share-prefix-kinds
     slice-aggregate-derive-formula
     derive-formula-requires
+    same-length
     same-length-2
     same-length-3
+    returns
+    returns-2
     same-length-4
-    returns-2)
+    returns-3)

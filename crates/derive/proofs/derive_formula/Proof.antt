@@ -1,57 +1,126 @@
 use mathlib.Core.Path.{refl, sym, ap, _∙_}
 use mathlib.Core.Option.{some}
+use Prim.Native.Nat.{_<_}
 use native.Mathlib.Omega.{arith}
 use lib.ListN.{length}
 use Rattle.formula.specs.Path.{placed, root}
 use Rattle.derivative.specs.Derive.{by-state, fitted}
 use Rattle.derivative.specs.Differentiate.{derivative}
-use Rattle.derive.proofs.Parts.{leaves, small}
+use Rattle.compile.proofs.Own.{small}
+use Rattle.derive.proofs.Parts.{leaves}
 use Rattle.derive.proofs.Ends.{boolean-root, faultless, faulty, from-path, kinds-length, known-symbol, not-boolean, state-is, unknown-symbol}
 use borrow.Author.Needs.{needs}
 use Rattle.derive.proofs.derive_formula.Statement.{statement}
 use Rattle.derive.proofs.derive_formula.Tie as tie
+use Rattle.derive.proofs.derive_formula.Reads as reads
+use Rattle.derive.proofs.derive_formula.Lts as lts
+use Rattle.compile.proofs.lower_own.Reads as lower-own-reads
+use Rattle.derive.proofs.derive_number.Reads as derive-number-reads
+use Rattle.derive.proofs.refuse_at_root.Reads as refuse-at-root-reads
 
 lower-own-requires : tie.Need-lower-own-requires
 lower-own-requires c κs = search needs
 
-same-length : tie.Need-same-length
-same-length c = search needs
+enum-known-lowered : tie.Need-enum-known-lowered
+enum-known-lowered c = search needs
 
-returns : tie.Need-returns
-returns c = λ f ss F. faulty (length (c .before .before .before .before .before .before .before .before .before .before .before .args .tree .now)) (length (c .before .before .before .before .before .before .before .before .before .before .before .args .program .now)) (c .before .before .before .before .before .before .before .before .before .before .before .args .symbol) f ss (c .before .before .before .before .lower-own .result) (c .before .before .before .before .before .before .before .before .before .before .before .args .path .now) (c .before .before .before .before .lower-own .last .1 .1 .0) (c .before .before .before .before .before .before .before .before .before .before .before .args .tree .now) (c .before .before .before .before .before .before .before .before .before .before .before .args .program .now) (c .before .before .before .before .lower-own .ensures f ss F) (c .if1 .taken)
+enum-known-lowered-2 : tie.Need-enum-known-lowered-2
+enum-known-lowered-2 c = search needs
 
 refuse-at-root-requires : tie.Need-refuse-at-root-requires
 refuse-at-root-requires c κs = search needs
 
+same-length : tie.Need-same-length
+same-length c = search needs
+
 same-length-2 : tie.Need-same-length-2
 same-length-2 c = search needs
 
-same-length-3 : tie.Need-same-length-3
-same-length-3 c = search needs
-
-returns-2 : tie.Need-returns-2
-returns-2 c = λ f ss F. let N = faultless (length (c .before .before .before .before .before .before .before .before .before .before .before .before .before .before .before .before .before .before .before .args .tree .now)) (length (c .before .before .before .before .before .before .before .before .before .before .before .before .before .before .before .before .before .before .before .args .program .now)) (c .before .before .before .before .before .before .before .before .before .before .before .before .before .before .before .before .before .before .before .args .symbol) f ss (c .before .before .before .before .before .before .before .before .before .before .before .before .lower-own .result) (c .before .before .before .before .before .before .before .before .before .before .before .before .before .before .before .before .before .before .before .args .path .now) (c .before .before .before .before .before .before .before .before .before .before .before .before .lower-own .last .1 .1 .0) (c .before .before .before .before .before .before .before .before .before .before .before .before .lower-own .ensures f ss F) (c .before .before .before .before .before .before .before .before .if1 .left) in leaves _ _ _ (c .before .before .before .before .before .before .before .before .before .before .before .before .before .before .before .before .before .before .before .args .path .now) (c .before .before .before .before .refuse-at-root .last .0) (c .before .before .before .before .before .before .before .before .before .before .before .before .before .before .before .before .before .before .before .args .tree .now) (c .before .before .before .before .refuse-at-root .last .1 .0) (c .before .before .before .before .before .before .before .before .before .before .before .before .before .before .before .before .before .before .before .args .program .now) (c .before .before .before .before .before .before .before .before .before .before .before .before .before .before .before .before .before .before .before .args .program .now) (boolean-root (length (c .before .before .before .before .before .before .before .before .before .before .before .before .before .before .before .before .before .before .before .args .tree .now)) (length (c .before .before .before .before .before .before .before .before .before .before .before .before .before .before .before .before .before .before .before .args .program .now)) (c .before .before .before .before .before .before .before .before .before .before .before .before .before .before .before .before .before .before .before .args .symbol) f ss (c .before .before .before .before .before .before .before .before .before .before .before .before .lower-own .result) (c .before .before .before .before .before .before .before .before .before .before .before .before .before .before .before .before .before .before .before .args .path .now) (c .before .before .before .before .before .before .before .before .before .before .before .before .lower-own .last .1 .1 .0) (N .0) (sym (N .1) ∙ c .before .before .before .before .before .before .before .if2 .taken)) (refl, c .before .before .before .before .refuse-at-root .ensures .0 ∙ ap (placed (some root)) (N .2), c .before .before .before .before .refuse-at-root .ensures .1, refl)
+returns : tie.Need-returns
+returns c =
+    let args = c .before .before .before .before .before .before .before .before .before .before .before .before .before .before .before .before .before .before .before .before .args in
+    let lower-own = c .before .before .before .before .before .before .before .before .before .before .before .before .before .lower-own in
+    let lowered = c .before .before .before .before .before .before .before .before .before .lowered2 in
+    let if1 = c .before .before .before .before .before .before .before .if1 in
+    let q = args .path .now in
+    let q₁ = lower-own .last .1 .1 .0 in
+    let tree = args .tree .now in
+    let program = args .program .now in
+    let root-refused = c .before .before .before .before .refuse-at-root in
+    λ f ss F.
+    let E = lower-own .ensures f ss F in
+    let N = faultless (length tree) (length program) (args .symbol) f ss (lower-own .result) q q₁ (lowered .given .0 .0) (E .0) (E .1)
+    (lowered .given .1) in
+    leaves _ _ _ q (root-refused .last .0) tree (root-refused .last .1 .0) program program
+    (boolean-root (length tree) (length program) (args .symbol) f ss (N .0) (sym (N .1) ∙ if1 .taken))
+    (refl, root-refused .ensures .0 ∙ ap (placed (some root)) (N .2), root-refused .ensures .1, refl)
 
 refuse-at-root-requires-2 : tie.Need-refuse-at-root-requires-2
 refuse-at-root-requires-2 c κs = search needs
 
+same-length-3 : tie.Need-same-length-3
+same-length-3 c = search needs
+
 same-length-4 : tie.Need-same-length-4
 same-length-4 c = search needs
 
-same-length-5 : tie.Need-same-length-5
-same-length-5 c = search needs
+returns-2 : tie.Need-returns-2
+returns-2 c =
+    let args = c .before .before .before .before .before .before .before .before .before .before .before .before .before .before .before .before .before .before .before .before .before .args in
+    let lower-own = c .before .before .before .before .before .before .before .before .before .before .before .before .before .before .lower-own in
+    let lowered = c .before .before .before .before .before .before .before .before .before .before .lowered2 in
+    let if1 = c .before .before .before .before .before .before .before .before .if1 in
+    let if2 = c .before .before .before .before .before .before .before .if2 in
+    let q = args .path .now in
+    let q₁ = lower-own .last .1 .1 .0 in
+    let tree = args .tree .now in
+    let program = args .program .now in
+    let root-refused = c .before .before .before .before .refuse-at-root2 in
+    λ f ss F.
+    let E = lower-own .ensures f ss F in
+    let N = faultless (length tree) (length program) (args .symbol) f ss (lower-own .result) q q₁ (lowered .given .0 .0) (E .0) (E .1)
+    (lowered .given .1) in
+    leaves _ _ _ q (root-refused .last .0) tree (root-refused .last .1 .0) program program (unknown-symbol (length tree) (length program)
+    (args .symbol) f ss (N .0) (sym (N .1) ∙ if1 .left) (omega (arith, if2 .taken, kinds-length (args .kinds .now) ss (F .listed))))
+    (refl, root-refused .ensures .0 ∙ ap (placed (some root)) (N .2), root-refused .ensures .1, refl)
 
-returns-3 : tie.Need-returns-3
-returns-3 c = λ f ss F. let N = faultless (length (c .before .before .before .before .before .before .before .before .before .before .before .before .before .before .before .before .before .before .before .before .args .tree .now)) (length (c .before .before .before .before .before .before .before .before .before .before .before .before .before .before .before .before .before .before .before .before .args .program .now)) (c .before .before .before .before .before .before .before .before .before .before .before .before .before .before .before .before .before .before .before .before .args .symbol) f ss (c .before .before .before .before .before .before .before .before .before .before .before .before .before .lower-own .result) (c .before .before .before .before .before .before .before .before .before .before .before .before .before .before .before .before .before .before .before .before .args .path .now) (c .before .before .before .before .before .before .before .before .before .before .before .before .before .lower-own .last .1 .1 .0) (c .before .before .before .before .before .before .before .before .before .before .before .before .before .lower-own .ensures f ss F) (c .before .before .before .before .before .before .before .before .before .if1 .left) in leaves _ _ _ (c .before .before .before .before .before .before .before .before .before .before .before .before .before .before .before .before .before .before .before .before .args .path .now) (c .before .before .before .before .refuse-at-root2 .last .0) (c .before .before .before .before .before .before .before .before .before .before .before .before .before .before .before .before .before .before .before .before .args .tree .now) (c .before .before .before .before .refuse-at-root2 .last .1 .0) (c .before .before .before .before .before .before .before .before .before .before .before .before .before .before .before .before .before .before .before .before .args .program .now) (c .before .before .before .before .before .before .before .before .before .before .before .before .before .before .before .before .before .before .before .before .args .program .now) (unknown-symbol (length (c .before .before .before .before .before .before .before .before .before .before .before .before .before .before .before .before .before .before .before .before .args .tree .now)) (length (c .before .before .before .before .before .before .before .before .before .before .before .before .before .before .before .before .before .before .before .before .args .program .now)) (c .before .before .before .before .before .before .before .before .before .before .before .before .before .before .before .before .before .before .before .before .args .symbol) f ss (c .before .before .before .before .before .before .before .before .before .before .before .before .before .lower-own .result) (c .before .before .before .before .before .before .before .before .before .before .before .before .before .before .before .before .before .before .before .before .args .path .now) (c .before .before .before .before .before .before .before .before .before .before .before .before .before .lower-own .last .1 .1 .0) (N .0) (sym (N .1) ∙ c .before .before .before .before .before .before .before .before .if2 .left) (omega (arith, c .before .before .before .before .before .before .before .if3 .taken, kinds-length (c .before .before .before .before .before .before .before .before .before .before .before .before .before .before .before .before .before .before .before .before .args .kinds .now) ss (F .listed)))) (refl, c .before .before .before .before .refuse-at-root2 .ensures .0 ∙ ap (placed (some root)) (N .2), c .before .before .before .before .refuse-at-root2 .ensures .1, refl)
-
-shared-slice-read-if4 : tie.Need-shared-slice-read-if4
-shared-slice-read-if4 c = search needs
+shared-slice-read-if3 : tie.Need-shared-slice-read-if3
+shared-slice-read-if3 c = search needs
 
 slice-aggregate-derive-number : tie.Need-slice-aggregate-derive-number
 slice-aggregate-derive-number c = search needs
 
 derive-number-requires : tie.Need-derive-number-requires
-derive-number-requires c κs = let N = faultless (length (c .before .before .before .before .before .before .before .before .before .before .before .before .before .before .before .before .before .before .before .args .tree .now)) (length (c .before .before .before .before .before .before .before .before .before .before .before .before .before .before .before .before .before .before .before .args .program .now)) (c .before .before .before .before .before .before .before .before .before .before .before .before .before .before .before .before .before .before .before .args .symbol) (c .before .before .before .before .before .before .before .before .before .before .before .before .before .before .before .before .before .before .before .pre .1 .0) (c .before .before .before .before .before .before .before .before .before .before .before .before .before .before .before .before .before .before .before .pre .1 .1) (c .before .before .before .before .before .before .before .before .before .before .before .before .lower-own .result) (c .before .before .before .before .before .before .before .before .before .before .before .before .before .before .before .before .before .before .before .args .path .now) (c .before .before .before .before .before .before .before .before .before .before .before .before .lower-own .last .1 .1 .0) (c .before .before .before .before .before .before .before .before .before .before .before .before .lower-own .ensures (c .before .before .before .before .before .before .before .before .before .before .before .before .before .before .before .before .before .before .before .pre .1 .0) (c .before .before .before .before .before .before .before .before .before .before .before .before .before .before .before .before .before .before .before .pre .1 .1) (c .before .before .before .before .before .before .before .before .before .before .before .before .before .before .before .before .before .before .before .pre .1 .2)) (c .before .before .before .before .before .before .before .before .if1 .left) in (omega (arith, c .before .before .before .before .if4 .taken), omega (arith, c .before .before .before .before .before .before .before .before .before .before .before .before .before .before .before .before .before .before .before .pre .0, ap length (N .2)), (c .before .before .before .before .before .before .before .before .before .before .before .before .before .before .before .before .before .before .before .pre .1 .0, c .before .before .before .before .before .before .before .before .before .before .before .before .before .before .before .before .before .before .before .pre .1 .1, (record { given = (c .before .before .before .before .before .before .before .before .before .before .before .before .before .before .before .before .before .before .before .pre .1 .2); faultless = N .0; number = not-boolean _ (sym (N .1) ∙ c .before .before .before .before .before .before .before .if2 .left); known = (omega (arith, c .before .before .before .before .before .before .if3 .left, kinds-length (c .before .before .before .before .before .before .before .before .before .before .before .before .before .before .before .before .before .before .before .args .kinds .now) (c .before .before .before .before .before .before .before .before .before .before .before .before .before .before .before .before .before .before .before .pre .1 .1) ((c .before .before .before .before .before .before .before .before .before .before .before .before .before .before .before .before .before .before .before .pre .1 .2) .listed))); is-state = state-is (c .before .before .before .before .before .before .before .before .before .before .before .before .before .before .before .before .before .before .before .args .kinds .now) (c .before .before .before .before .before .before .before .before .before .before .before .before .before .before .before .before .before .before .before .pre .1 .1) (c .before .before .before .before .before .before .before .before .before .before .before .before .before .before .before .before .before .before .before .args .symbol) ((c .before .before .before .before .before .before .before .before .before .before .before .before .before .before .before .before .before .before .before .pre .1 .2) .listed) (omega (arith, c .before .before .before .before .before .before .if3 .left, kinds-length (c .before .before .before .before .before .before .before .before .before .before .before .before .before .before .before .before .before .before .before .args .kinds .now) (c .before .before .before .before .before .before .before .before .before .before .before .before .before .before .before .before .before .before .before .pre .1 .1) ((c .before .before .before .before .before .before .before .before .before .before .before .before .before .before .before .before .before .before .before .pre .1 .2) .listed))) })))
+derive-number-requires c κs =
+    let args = c .before .before .before .before .before .before .before .before .before .before .before .before .before .before .before .before .before .before .before .before .args in
+    let pre = c .before .before .before .before .before .before .before .before .before .before .before .before .before .before .before .before .before .before .before .before .pre in
+    let lower-own = c .before .before .before .before .before .before .before .before .before .before .before .before .before .lower-own in
+    let lowered = c .before .before .before .before .before .before .before .before .before .lowered2 in
+    let if1 = c .before .before .before .before .before .before .before .if1 in
+    let if2 = c .before .before .before .before .before .before .if2 in
+    let q = args .path .now in
+    let q₁ = lower-own .last .1 .1 .0 in
+    let tree = args .tree .now in
+    let program = args .program .now in
+    let f = pre .1 .0 in
+    let ss = pre .1 .1 in
+    let F = pre .1 .2 in
+    let E = lower-own .ensures f ss F in
+    let N = faultless (length tree) (length program) (args .symbol) f ss (lower-own .result) q q₁ (lowered .given .0 .0) (E .0) (E .1)
+    (lowered .given .1) in
+    let known : args .symbol < length ss = omega (arith, if2 .left, kinds-length (args .kinds .now) ss (F .listed)) in (
+      omega (arith, c .before .before .before .before .if3 .taken),
+      omega (arith, pre .0, ap length (N .2)),
+      (
+        f,
+        ss,
+        record
+            { given = F; faultless = N .0; number = not-boolean _ (sym (N .1) ∙ if1 .left); known = known; is-state = state-is (args .kinds .now) ss (args .symbol) (F .listed) known },
+      ),
+    )
+
+same-length-5 : tie.Need-same-length-5
+same-length-5 c = search needs
 
 same-length-6 : tie.Need-same-length-6
 same-length-6 c = search needs
@@ -59,17 +128,74 @@ same-length-6 c = search needs
 same-length-7 : tie.Need-same-length-7
 same-length-7 c = search needs
 
-same-length-8 : tie.Need-same-length-8
-same-length-8 c = search needs
-
-returns-4 : tie.Need-returns-4
-returns-4 c = λ f ss F. let N = faultless (length (c .before .before .before .before .before .before .before .before .before .before .before .before .before .before .before .before .before .before .before .before .before .before .before .before .before .before .before .args .tree .now)) (length (c .before .before .before .before .before .before .before .before .before .before .before .before .before .before .before .before .before .before .before .before .before .before .before .before .before .before .before .args .program .now)) (c .before .before .before .before .before .before .before .before .before .before .before .before .before .before .before .before .before .before .before .before .before .before .before .before .before .before .before .args .symbol) f ss (c .before .before .before .before .before .before .before .before .before .before .before .before .before .before .before .before .before .before .before .before .lower-own .result) (c .before .before .before .before .before .before .before .before .before .before .before .before .before .before .before .before .before .before .before .before .before .before .before .before .before .before .before .args .path .now) (c .before .before .before .before .before .before .before .before .before .before .before .before .before .before .before .before .before .before .before .before .lower-own .last .1 .1 .0) (c .before .before .before .before .before .before .before .before .before .before .before .before .before .before .before .before .before .before .before .before .lower-own .ensures f ss F) (c .before .before .before .before .before .before .before .before .before .before .before .before .before .before .before .before .if1 .left) in leaves _ _ _ (c .before .before .before .before .before .before .before .before .before .before .before .before .before .before .before .before .before .before .before .before .before .before .before .before .before .before .before .args .path .now) (c .before .before .before .before .before .before .before .derive-number .last .1 .1 .1 .1 .0) (c .before .before .before .before .before .before .before .before .before .before .before .before .before .before .before .before .before .before .before .before .before .before .before .before .before .before .before .args .tree .now) (c .before .before .before .before .before .before .before .derive-number .last .1 .1 .1 .1 .1 .0) (c .before .before .before .before .before .before .before .before .before .before .before .before .before .before .before .before .before .before .before .before .before .before .before .before .before .before .before .args .program .now) (c .before .before .before .before .before .before .before .derive-number .last .1 .1 .1 .1 .1 .1 .0) (known-symbol (length (c .before .before .before .before .before .before .before .before .before .before .before .before .before .before .before .before .before .before .before .before .before .before .before .before .before .before .before .args .tree .now)) (length (c .before .before .before .before .before .before .before .before .before .before .before .before .before .before .before .before .before .before .before .before .before .before .before .before .before .before .before .args .program .now)) (c .before .before .before .before .before .before .before .before .before .before .before .before .before .before .before .before .before .before .before .before .before .before .before .before .before .before .before .args .symbol) f ss (c .before .before .before .before .before .before .before .before .before .before .before .before .before .before .before .before .before .before .before .before .lower-own .result) (c .before .before .before .before .before .before .before .before .before .before .before .before .before .before .before .before .before .before .before .before .before .before .before .before .before .before .before .args .path .now) (c .before .before .before .before .before .before .before .before .before .before .before .before .before .before .before .before .before .before .before .before .lower-own .last .1 .1 .0) (N .0) (sym (N .1) ∙ c .before .before .before .before .before .before .before .before .before .before .before .before .before .before .before .if2 .left) (omega (arith, c .before .before .before .before .before .before .before .before .before .before .before .before .before .before .if3 .left, kinds-length (c .before .before .before .before .before .before .before .before .before .before .before .before .before .before .before .before .before .before .before .before .before .before .before .before .before .before .before .args .kinds .now) ss (F .listed)))) (from-path (fitted (length (c .before .before .before .before .before .before .before .before .before .before .before .before .before .before .before .before .before .before .before .before .before .before .before .before .before .before .before .args .tree .now)) (length (c .before .before .before .before .before .before .before .before .before .before .before .before .before .before .before .before .before .before .before .before .before .before .before .before .before .before .before .args .program .now)) ss (derivative (c .before .before .before .before .before .before .before .before .before .before .before .before .before .before .before .before .before .before .before .before .before .before .before .before .before .before .before .args .symbol) (by-state ss (c .before .before .before .before .before .before .before .before .before .before .before .before .before .before .before .before .before .before .before .before .before .before .before .before .before .before .before .args .symbol)) f)) (c .before .before .before .before .before .before .before .derive-number .result) (c .before .before .before .before .before .before .before .before .before .before .before .before .before .before .before .before .before .before .before .before .before .before .before .before .before .before .before .args .path .now) (c .before .before .before .before .before .before .before .before .before .before .before .before .before .before .before .before .before .before .before .before .lower-own .last .1 .1 .0) (c .before .before .before .before .before .before .before .derive-number .last .1 .1 .1 .1 .0) (c .before .before .before .before .before .before .before .before .before .before .before .before .before .before .before .before .before .before .before .before .before .before .before .before .before .before .before .args .tree .now) (c .before .before .before .before .before .before .before .derive-number .last .1 .1 .1 .1 .1 .0) (c .before .before .before .before .before .before .before .before .before .before .before .before .before .before .before .before .before .before .before .before .before .before .before .before .before .before .before .args .program .now) (c .before .before .before .before .before .before .before .derive-number .last .1 .1 .1 .1 .1 .1 .0) (N .2) (c .before .before .before .before .before .before .before .derive-number .ensures f ss (record { given = F; faultless = N .0; number = not-boolean _ (sym (N .1) ∙ c .before .before .before .before .before .before .before .before .before .before .before .before .before .before .before .if2 .left); known = (omega (arith, c .before .before .before .before .before .before .before .before .before .before .before .before .before .before .if3 .left, kinds-length (c .before .before .before .before .before .before .before .before .before .before .before .before .before .before .before .before .before .before .before .before .before .before .before .before .before .before .before .args .kinds .now) ss (F .listed))); is-state = state-is (c .before .before .before .before .before .before .before .before .before .before .before .before .before .before .before .before .before .before .before .before .before .before .before .before .before .before .before .args .kinds .now) ss (c .before .before .before .before .before .before .before .before .before .before .before .before .before .before .before .before .before .before .before .before .before .before .before .before .before .before .before .args .symbol) (F .listed) (omega (arith, c .before .before .before .before .before .before .before .before .before .before .before .before .before .before .if3 .left, kinds-length (c .before .before .before .before .before .before .before .before .before .before .before .before .before .before .before .before .before .before .before .before .before .before .before .before .before .before .before .args .kinds .now) ss (F .listed))) })))
+returns-3 : tie.Need-returns-3
+returns-3 c =
+    let args = c .before .before .before .before .before .before .before .before .before .before .before .before .before .before .before .before .before .before .before .before .before .before .before .before .before .before .before .before .args in
+    let lower-own = c .before .before .before .before .before .before .before .before .before .before .before .before .before .before .before .before .before .before .before .before .before .lower-own in
+    let lowered = c .before .before .before .before .before .before .before .before .before .before .before .before .before .before .before .before .before .lowered2 in
+    let if1 = c .before .before .before .before .before .before .before .before .before .before .before .before .before .before .before .if1 in
+    let if2 = c .before .before .before .before .before .before .before .before .before .before .before .before .before .before .if2 in
+    let number = c .before .before .before .before .before .before .before .derive-number in
+    let q = args .path .now in
+    let q₁ = lower-own .last .1 .1 .0 in
+    let tree = args .tree .now in
+    let program = args .program .now in
+    λ f ss F.
+    let E = lower-own .ensures f ss F in
+    let N = faultless (length tree) (length program) (args .symbol) f ss (lower-own .result) q q₁ (lowered .given .0 .0) (E .0) (E .1)
+    (lowered .given .1) in
+    let known : args .symbol < length ss = omega (arith, if2 .left, kinds-length (args .kinds .now) ss (F .listed)) in
+    leaves _ _ _ q (number .last .1 .1 .1 .1 .0) tree (number .last .1 .1 .1 .1 .1 .0) program (number .last .1 .1 .1 .1 .1 .1 .0)
+    (known-symbol (length tree) (length program) (args .symbol) f ss (N .0) (sym (N .1) ∙ if1 .left) known) (from-path
+    (fitted (length tree) (length program) ss (derivative (args .symbol) (by-state ss (args .symbol)) f)) (number .result) q q₁
+    (number .last .1 .1 .1 .1 .0) tree (number .last .1 .1 .1 .1 .1 .0) program (number .last .1 .1 .1 .1 .1 .1 .0) (N .2) (number .ensures f ss
+    (record
+    { given = F; faultless = N .0; number = not-boolean _ (sym (N .1) ∙ if1 .left); known = known; is-state = state-is (args .kinds .now) ss (args .symbol) (F .listed) known })))
 
 slice-aggregate-derive-number-2 : tie.Need-slice-aggregate-derive-number-2
 slice-aggregate-derive-number-2 c = search needs
 
 derive-number-requires-2 : tie.Need-derive-number-requires-2
-derive-number-requires-2 c κs = let N = faultless (length (c .before .before .before .before .before .before .before .before .before .before .before .before .before .before .before .before .before .before .before .args .tree .now)) (length (c .before .before .before .before .before .before .before .before .before .before .before .before .before .before .before .before .before .before .before .args .program .now)) (c .before .before .before .before .before .before .before .before .before .before .before .before .before .before .before .before .before .before .before .args .symbol) (c .before .before .before .before .before .before .before .before .before .before .before .before .before .before .before .before .before .before .before .pre .1 .0) (c .before .before .before .before .before .before .before .before .before .before .before .before .before .before .before .before .before .before .before .pre .1 .1) (c .before .before .before .before .before .before .before .before .before .before .before .before .lower-own .result) (c .before .before .before .before .before .before .before .before .before .before .before .before .before .before .before .before .before .before .before .args .path .now) (c .before .before .before .before .before .before .before .before .before .before .before .before .lower-own .last .1 .1 .0) (c .before .before .before .before .before .before .before .before .before .before .before .before .lower-own .ensures (c .before .before .before .before .before .before .before .before .before .before .before .before .before .before .before .before .before .before .before .pre .1 .0) (c .before .before .before .before .before .before .before .before .before .before .before .before .before .before .before .before .before .before .before .pre .1 .1) (c .before .before .before .before .before .before .before .before .before .before .before .before .before .before .before .before .before .before .before .pre .1 .2)) (c .before .before .before .before .before .before .before .before .if1 .left) in (omega (arith, small (c .before .before .before .before .before .before .before .before .before .before .before .before .before .before .before .before .before .before .before .args .formula .now) (c .before .before .before .before .before .before .before .before .before .before .before .before .before .before .before .before .before .before .before .args .kinds .now) (c .before .before .before .before .before .before .before .before .before .before .before .before .before .before .before .before .before .before .before .pre .1 .0) (c .before .before .before .before .before .before .before .before .before .before .before .before .before .before .before .before .before .before .before .pre .1 .1) (c .before .before .before .before .before .before .before .before .before .before .before .before .before .before .before .before .before .before .before .pre .1 .2)), omega (arith, c .before .before .before .before .before .before .before .before .before .before .before .before .before .before .before .before .before .before .before .pre .0, ap length (N .2)), (c .before .before .before .before .before .before .before .before .before .before .before .before .before .before .before .before .before .before .before .pre .1 .0, c .before .before .before .before .before .before .before .before .before .before .before .before .before .before .before .before .before .before .before .pre .1 .1, (record { given = (c .before .before .before .before .before .before .before .before .before .before .before .before .before .before .before .before .before .before .before .pre .1 .2); faultless = N .0; number = not-boolean _ (sym (N .1) ∙ c .before .before .before .before .before .before .before .if2 .left); known = (omega (arith, c .before .before .before .before .before .before .if3 .left, kinds-length (c .before .before .before .before .before .before .before .before .before .before .before .before .before .before .before .before .before .before .before .args .kinds .now) (c .before .before .before .before .before .before .before .before .before .before .before .before .before .before .before .before .before .before .before .pre .1 .1) ((c .before .before .before .before .before .before .before .before .before .before .before .before .before .before .before .before .before .before .before .pre .1 .2) .listed))); is-state = state-is (c .before .before .before .before .before .before .before .before .before .before .before .before .before .before .before .before .before .before .before .args .kinds .now) (c .before .before .before .before .before .before .before .before .before .before .before .before .before .before .before .before .before .before .before .pre .1 .1) (c .before .before .before .before .before .before .before .before .before .before .before .before .before .before .before .before .before .before .before .args .symbol) ((c .before .before .before .before .before .before .before .before .before .before .before .before .before .before .before .before .before .before .before .pre .1 .2) .listed) (omega (arith, c .before .before .before .before .before .before .if3 .left, kinds-length (c .before .before .before .before .before .before .before .before .before .before .before .before .before .before .before .before .before .before .before .args .kinds .now) (c .before .before .before .before .before .before .before .before .before .before .before .before .before .before .before .before .before .before .before .pre .1 .1) ((c .before .before .before .before .before .before .before .before .before .before .before .before .before .before .before .before .before .before .before .pre .1 .2) .listed))) })))
+derive-number-requires-2 c κs =
+    let args = c .before .before .before .before .before .before .before .before .before .before .before .before .before .before .before .before .before .before .before .before .args in
+    let pre = c .before .before .before .before .before .before .before .before .before .before .before .before .before .before .before .before .before .before .before .before .pre in
+    let lower-own = c .before .before .before .before .before .before .before .before .before .before .before .before .before .lower-own in
+    let lowered = c .before .before .before .before .before .before .before .before .before .lowered2 in
+    let if1 = c .before .before .before .before .before .before .before .if1 in
+    let if2 = c .before .before .before .before .before .before .if2 in
+    let q = args .path .now in
+    let q₁ = lower-own .last .1 .1 .0 in
+    let tree = args .tree .now in
+    let program = args .program .now in
+    let f = pre .1 .0 in
+    let ss = pre .1 .1 in
+    let F = pre .1 .2 in
+    let E = lower-own .ensures f ss F in
+    let N = faultless (length tree) (length program) (args .symbol) f ss (lower-own .result) q q₁ (lowered .given .0 .0) (E .0) (E .1)
+    (lowered .given .1) in
+    let known : args .symbol < length ss = omega (arith, if2 .left, kinds-length (args .kinds .now) ss (F .listed)) in (
+      omega (arith, small (args .formula .now) (args .kinds .now) f ss F),
+      omega (arith, pre .0, ap length (N .2)),
+      (
+        f,
+        ss,
+        record
+            { given = F; faultless = N .0; number = not-boolean _ (sym (N .1) ∙ if1 .left); known = known; is-state = state-is (args .kinds .now) ss (args .symbol) (F .listed) known },
+      ),
+    )
+
+same-length-8 : tie.Need-same-length-8
+same-length-8 c = search needs
+
+returns-4 : tie.Need-returns-4
+returns-4 c =
+    let args = c .before .before .before .before .before .before .before .before .before .before .before .before .args in
+    let lower-own = c .before .before .before .before .before .lower-own in
+    let n = c .before .lowered .given .0 .0 in
+    λ f ss F.
+    let E = lower-own .ensures f ss F in
+    faulty (length (args .tree .now)) (length (args .program .now)) (args .symbol) f ss (lower-own .result) (args .path .now)
+    (lower-own .last .1 .1 .0) n (args .tree .now) (args .program .now) (E .0) (E .1) (c .before .lowered .given .1)
 
 same-length-9 : tie.Need-same-length-9
 same-length-9 c = search needs
@@ -81,32 +207,55 @@ same-length-11 : tie.Need-same-length-11
 same-length-11 c = search needs
 
 returns-5 : tie.Need-returns-5
-returns-5 c = λ f ss F. let N = faultless (length (c .before .before .before .before .before .before .before .before .before .before .before .before .before .before .before .before .before .before .before .before .before .before .before .before .before .before .before .args .tree .now)) (length (c .before .before .before .before .before .before .before .before .before .before .before .before .before .before .before .before .before .before .before .before .before .before .before .before .before .before .before .args .program .now)) (c .before .before .before .before .before .before .before .before .before .before .before .before .before .before .before .before .before .before .before .before .before .before .before .before .before .before .before .args .symbol) f ss (c .before .before .before .before .before .before .before .before .before .before .before .before .before .before .before .before .before .before .before .before .lower-own .result) (c .before .before .before .before .before .before .before .before .before .before .before .before .before .before .before .before .before .before .before .before .before .before .before .before .before .before .before .args .path .now) (c .before .before .before .before .before .before .before .before .before .before .before .before .before .before .before .before .before .before .before .before .lower-own .last .1 .1 .0) (c .before .before .before .before .before .before .before .before .before .before .before .before .before .before .before .before .before .before .before .before .lower-own .ensures f ss F) (c .before .before .before .before .before .before .before .before .before .before .before .before .before .before .before .before .if1 .left) in leaves _ _ _ (c .before .before .before .before .before .before .before .before .before .before .before .before .before .before .before .before .before .before .before .before .before .before .before .before .before .before .before .args .path .now) (c .before .before .before .before .before .before .before .derive-number2 .last .1 .1 .1 .1 .0) (c .before .before .before .before .before .before .before .before .before .before .before .before .before .before .before .before .before .before .before .before .before .before .before .before .before .before .before .args .tree .now) (c .before .before .before .before .before .before .before .derive-number2 .last .1 .1 .1 .1 .1 .0) (c .before .before .before .before .before .before .before .before .before .before .before .before .before .before .before .before .before .before .before .before .before .before .before .before .before .before .before .args .program .now) (c .before .before .before .before .before .before .before .derive-number2 .last .1 .1 .1 .1 .1 .1 .0) (known-symbol (length (c .before .before .before .before .before .before .before .before .before .before .before .before .before .before .before .before .before .before .before .before .before .before .before .before .before .before .before .args .tree .now)) (length (c .before .before .before .before .before .before .before .before .before .before .before .before .before .before .before .before .before .before .before .before .before .before .before .before .before .before .before .args .program .now)) (c .before .before .before .before .before .before .before .before .before .before .before .before .before .before .before .before .before .before .before .before .before .before .before .before .before .before .before .args .symbol) f ss (c .before .before .before .before .before .before .before .before .before .before .before .before .before .before .before .before .before .before .before .before .lower-own .result) (c .before .before .before .before .before .before .before .before .before .before .before .before .before .before .before .before .before .before .before .before .before .before .before .before .before .before .before .args .path .now) (c .before .before .before .before .before .before .before .before .before .before .before .before .before .before .before .before .before .before .before .before .lower-own .last .1 .1 .0) (N .0) (sym (N .1) ∙ c .before .before .before .before .before .before .before .before .before .before .before .before .before .before .before .if2 .left) (omega (arith, c .before .before .before .before .before .before .before .before .before .before .before .before .before .before .if3 .left, kinds-length (c .before .before .before .before .before .before .before .before .before .before .before .before .before .before .before .before .before .before .before .before .before .before .before .before .before .before .before .args .kinds .now) ss (F .listed)))) (from-path (fitted (length (c .before .before .before .before .before .before .before .before .before .before .before .before .before .before .before .before .before .before .before .before .before .before .before .before .before .before .before .args .tree .now)) (length (c .before .before .before .before .before .before .before .before .before .before .before .before .before .before .before .before .before .before .before .before .before .before .before .before .before .before .before .args .program .now)) ss (derivative (c .before .before .before .before .before .before .before .before .before .before .before .before .before .before .before .before .before .before .before .before .before .before .before .before .before .before .before .args .symbol) (by-state ss (c .before .before .before .before .before .before .before .before .before .before .before .before .before .before .before .before .before .before .before .before .before .before .before .before .before .before .before .args .symbol)) f)) (c .before .before .before .before .before .before .before .derive-number2 .result) (c .before .before .before .before .before .before .before .before .before .before .before .before .before .before .before .before .before .before .before .before .before .before .before .before .before .before .before .args .path .now) (c .before .before .before .before .before .before .before .before .before .before .before .before .before .before .before .before .before .before .before .before .lower-own .last .1 .1 .0) (c .before .before .before .before .before .before .before .derive-number2 .last .1 .1 .1 .1 .0) (c .before .before .before .before .before .before .before .before .before .before .before .before .before .before .before .before .before .before .before .before .before .before .before .before .before .before .before .args .tree .now) (c .before .before .before .before .before .before .before .derive-number2 .last .1 .1 .1 .1 .1 .0) (c .before .before .before .before .before .before .before .before .before .before .before .before .before .before .before .before .before .before .before .before .before .before .before .before .before .before .before .args .program .now) (c .before .before .before .before .before .before .before .derive-number2 .last .1 .1 .1 .1 .1 .1 .0) (N .2) (c .before .before .before .before .before .before .before .derive-number2 .ensures f ss (record { given = F; faultless = N .0; number = not-boolean _ (sym (N .1) ∙ c .before .before .before .before .before .before .before .before .before .before .before .before .before .before .before .if2 .left); known = (omega (arith, c .before .before .before .before .before .before .before .before .before .before .before .before .before .before .if3 .left, kinds-length (c .before .before .before .before .before .before .before .before .before .before .before .before .before .before .before .before .before .before .before .before .before .before .before .before .before .before .before .args .kinds .now) ss (F .listed))); is-state = state-is (c .before .before .before .before .before .before .before .before .before .before .before .before .before .before .before .before .before .before .before .before .before .before .before .before .before .before .before .args .kinds .now) ss (c .before .before .before .before .before .before .before .before .before .before .before .before .before .before .before .before .before .before .before .before .before .before .before .before .before .before .before .args .symbol) (F .listed) (omega (arith, c .before .before .before .before .before .before .before .before .before .before .before .before .before .before .if3 .left, kinds-length (c .before .before .before .before .before .before .before .before .before .before .before .before .before .before .before .before .before .before .before .before .before .before .before .before .before .before .before .args .kinds .now) ss (F .listed))) })))
+returns-5 c =
+    let args = c .before .before .before .before .before .before .before .before .before .before .before .before .before .before .before .before .before .before .before .before .before .before .before .before .before .before .before .before .args in
+    let lower-own = c .before .before .before .before .before .before .before .before .before .before .before .before .before .before .before .before .before .before .before .before .before .lower-own in
+    let lowered = c .before .before .before .before .before .before .before .before .before .before .before .before .before .before .before .before .before .lowered2 in
+    let if1 = c .before .before .before .before .before .before .before .before .before .before .before .before .before .before .before .if1 in
+    let if2 = c .before .before .before .before .before .before .before .before .before .before .before .before .before .before .if2 in
+    let number = c .before .before .before .before .before .before .before .derive-number2 in
+    let q = args .path .now in
+    let q₁ = lower-own .last .1 .1 .0 in
+    let tree = args .tree .now in
+    let program = args .program .now in
+    λ f ss F.
+    let E = lower-own .ensures f ss F in
+    let N = faultless (length tree) (length program) (args .symbol) f ss (lower-own .result) q q₁ (lowered .given .0 .0) (E .0) (E .1)
+    (lowered .given .1) in
+    let known : args .symbol < length ss = omega (arith, if2 .left, kinds-length (args .kinds .now) ss (F .listed)) in
+    leaves _ _ _ q (number .last .1 .1 .1 .1 .0) tree (number .last .1 .1 .1 .1 .1 .0) program (number .last .1 .1 .1 .1 .1 .1 .0)
+    (known-symbol (length tree) (length program) (args .symbol) f ss (N .0) (sym (N .1) ∙ if1 .left) known) (from-path
+    (fitted (length tree) (length program) ss (derivative (args .symbol) (by-state ss (args .symbol)) f)) (number .result) q q₁
+    (number .last .1 .1 .1 .1 .0) tree (number .last .1 .1 .1 .1 .1 .0) program (number .last .1 .1 .1 .1 .1 .1 .0) (N .2) (number .ensures f ss
+    (record
+    { given = F; faultless = N .0; number = not-boolean _ (sym (N .1) ∙ if1 .left); known = known; is-state = state-is (args .kinds .now) ss (args .symbol) (F .listed) known })))
 
 pub derive-formula-spec : {M : Type 1} → statement M
 derive-formula-spec =
     tie.close
     (tie.spec
     lower-own-requires
-    same-length
-    returns
+    enum-known-lowered
+    enum-known-lowered-2
     refuse-at-root-requires
+    same-length
     same-length-2
-    same-length-3
-    returns-2
+    returns
     refuse-at-root-requires-2
+    same-length-3
     same-length-4
-    same-length-5
-    returns-3
-    shared-slice-read-if4
+    returns-2
+    shared-slice-read-if3
     slice-aggregate-derive-number
     derive-number-requires
+    same-length-5
     same-length-6
     same-length-7
-    same-length-8
-    returns-4
+    returns-3
     slice-aggregate-derive-number-2
     derive-number-requires-2
+    same-length-8
+    returns-4
     same-length-9
     same-length-10
     same-length-11

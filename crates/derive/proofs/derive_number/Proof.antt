@@ -13,7 +13,10 @@ use Rattle.derive.proofs.derive_number.Statement.{statement}
 use Rattle.derive.proofs.derive_number.Tie as tie
 
 survey-formula-requires : tie.Need-survey-formula-requires
-survey-formula-requires c κs = surveyed-room (c .before .before .before .before .before .before .before .args .formula .now) (c .before .before .before .before .before .before .before .pre .2 .0) (c .before .before .before .before .before .before .before .pre .2 .2 .given .formed) (c .before .before .before .before .before .before .before .pre .2 .2 .given .limit) (c .before .before .before .before .before .before .before .args .table .now) (c .before .before .before .before .before .before .before .pre .0)
+survey-formula-requires c κs =
+    let args = c .before .before .before .before .before .before .before .args in
+    let pre = c .before .before .before .before .before .before .before .pre in
+    surveyed-room (args .formula .now) (pre .2 .0) (pre .2 .2 .given .formed) (pre .2 .2 .given .limit) (args .table .now) (pre .0)
 
 refuse-at-root-requires : tie.Need-refuse-at-root-requires
 refuse-at-root-requires c κs = search needs
@@ -28,10 +31,28 @@ same-length-3 : tie.Need-same-length-3
 same-length-3 c = search needs
 
 returns : tie.Need-returns
-returns c = λ f ss D. leaves _ _ _ (c .before .before .before .before .before .before .before .before .before .before .before .before .before .before .before .before .before .before .before .args .path .now) (c .before .before .before .before .refuse-at-root .last .0) (c .before .before .before .before .before .before .before .before .before .before .before .before .before .before .before .before .before .before .before .args .tree .now) (c .before .before .before .before .refuse-at-root .last .1 .0) (c .before .before .before .before .before .before .before .before .before .before .before .before .before .before .before .before .before .before .before .args .program .now) (c .before .before .before .before .before .before .before .before .before .before .before .before .before .before .before .before .before .before .before .args .program .now) (unruled (length (c .before .before .before .before .before .before .before .before .before .before .before .before .before .before .before .before .before .before .before .args .tree .now)) (length (c .before .before .before .before .before .before .before .before .before .before .before .before .before .before .before .before .before .before .before .args .program .now)) ss _ (sym (by-is (c .before .before .before .before .before .before .before .before .before .before .before .before .before .before .before .before .before .before .before .args .by .symbol) f (c .before .before .before .before .before .before .before .before .before .before .before .before .before .before .before .before .before .before .before .args .by .state) ss (D .is-state)) ∙ no-derivative (c .before .before .before .before .before .before .before .before .before .before .before .before .before .before .before .before .before .before .before .args .formula .now) f (D .given .formed) (D .given .limit) (c .before .before .before .before .before .before .before .before .before .before .before .before .before .before .before .before .before .before .before .args .by .symbol) (c .before .before .before .before .before .before .before .before .before .before .before .before .before .before .before .before .before .before .before .args .by .state) (c .before .before .before .before .before .before .before .before .before .before .before .survey-formula .result) (c .before .before .before .before .before .before .before .before .before .before .before .survey-formula .ensures .0) (not-true (c .before .before .before .before .before .before .before .before .before .before .before .survey-formula .result .fine) (c .before .before .before .before .before .before .before .if1 .taken)))) (refl, c .before .before .before .before .refuse-at-root .ensures .0, c .before .before .before .before .refuse-at-root .ensures .1, refl)
+returns c =
+    let args = c .before .before .before .before .before .before .before .before .before .before .before .before .before .before .before .before .before .before .before .args in
+    let survey-formula = c .before .before .before .before .before .before .before .before .before .before .before .survey-formula in
+    let if1 = c .before .before .before .before .before .before .before .if1 in
+    let refuse-at-root = c .before .before .before .before .refuse-at-root in
+    let program = args .program .now in
+    λ f ss D. leaves _ _ _ (args .path .now) (refuse-at-root .last .0) (args .tree .now) (refuse-at-root .last .1 .0) program program (unruled
+    (length (args .tree .now)) (length program) ss _ (sym (by-is (args .by .symbol) f (args .by .state) ss (D .is-state)) ∙ no-derivative
+    (args .formula .now) f (D .given .formed) (D .given .limit) (args .by .symbol) (args .by .state) (survey-formula .result)
+    (survey-formula .ensures .0) (not-true (survey-formula .result .fine) (if1 .taken))))
+    (refl, refuse-at-root .ensures .0, refuse-at-root .ensures .1, refl)
 
 with-primal-requires : tie.Need-with-primal-requires
-with-primal-requires c κs = (own-capped (c .before .before .before .before .before .before .before .before .before .before .before .before .before .before .args .by .symbol) (c .before .before .before .before .before .before .before .before .before .before .before .before .before .before .args .by .state) (tree (c .before .before .before .before .before .before .before .before .before .before .before .before .before .before .args .formula .now) 0) (c .before .before .before .before .before .before .survey-formula .result) (c .before .before .before .before .before .before .survey-formula .ensures .0), diff-capped (c .before .before .before .before .before .before .before .before .before .before .before .before .before .before .args .by .symbol) (c .before .before .before .before .before .before .before .before .before .before .before .before .before .before .args .by .state) (tree (c .before .before .before .before .before .before .before .before .before .before .before .before .before .before .args .formula .now) 0) (c .before .before .before .before .before .before .survey-formula .result) (c .before .before .before .before .before .before .survey-formula .ensures .0) (not-false (c .before .before .before .before .before .before .survey-formula .result .fine) (c .before .before .if1 .left)))
+with-primal-requires c κs =
+    let args = c .before .before .before .before .before .before .before .before .before .before .before .before .before .before .args in
+    let survey-formula = c .before .before .before .before .before .before .survey-formula in
+    let ensures = survey-formula .ensures .0 in
+    let tree2 = tree (args .formula .now) 0 in (
+      own-capped (args .by .symbol) (args .by .state) tree2 (survey-formula .result) ensures,
+      diff-capped (args .by .symbol) (args .by .state) tree2 (survey-formula .result) ensures
+          (not-false (survey-formula .result .fine) (c .before .before .if1 .left)),
+    )
 
 refuse-at-root-requires-2 : tie.Need-refuse-at-root-requires-2
 refuse-at-root-requires-2 c κs = search needs
@@ -46,10 +67,26 @@ same-length-6 : tie.Need-same-length-6
 same-length-6 c = search needs
 
 returns-2 : tie.Need-returns-2
-returns-2 c = λ f ss D. let H = has-derivative (c .before .before .before .before .before .before .before .before .before .before .before .before .before .before .before .before .before .before .before .before .before .before .before .before .args .formula .now) f (D .given .formed) (D .given .limit) (c .before .before .before .before .before .before .before .before .before .before .before .before .before .before .before .before .before .before .before .before .before .before .before .before .args .by .symbol) (c .before .before .before .before .before .before .before .before .before .before .before .before .before .before .before .before .before .before .before .before .before .before .before .before .args .by .state) (c .before .before .before .before .before .before .before .before .before .before .before .before .before .before .before .before .survey-formula .result) (c .before .before .before .before .before .before .before .before .before .before .before .before .before .before .before .before .survey-formula .ensures .0) (c .before .before .before .before .before .before .before .before .before .with-primal .result) (not-false (c .before .before .before .before .before .before .before .before .before .before .before .before .before .before .before .before .survey-formula .result .fine) (c .before .before .before .before .before .before .before .before .before .before .before .before .if1 .left)) (c .before .before .before .before .before .before .before .before .before .with-primal .ensures) in let e = sym (by-is (c .before .before .before .before .before .before .before .before .before .before .before .before .before .before .before .before .before .before .before .before .before .before .before .before .args .by .symbol) f (c .before .before .before .before .before .before .before .before .before .before .before .before .before .before .before .before .before .before .before .before .before .before .before .before .args .by .state) ss (D .is-state)) ∙ H .1 in leaves _ _ _ (c .before .before .before .before .before .before .before .before .before .before .before .before .before .before .before .before .before .before .before .before .before .before .before .before .args .path .now) (c .before .before .before .before .refuse-at-root2 .last .0) (c .before .before .before .before .before .before .before .before .before .before .before .before .before .before .before .before .before .before .before .before .before .before .before .before .args .tree .now) (c .before .before .before .before .refuse-at-root2 .last .1 .0) (c .before .before .before .before .before .before .before .before .before .before .before .before .before .before .before .before .before .before .before .before .before .before .before .before .args .program .now) (c .before .before .before .before .before .before .before .before .before .before .before .before .before .before .before .before .before .before .before .before .before .before .before .before .args .program .now) (too-large (length (c .before .before .before .before .before .before .before .before .before .before .before .before .before .before .before .before .before .before .before .before .before .before .before .before .args .tree .now)) (length (c .before .before .before .before .before .before .before .before .before .before .before .before .before .before .before .before .before .before .before .before .before .before .before .before .args .program .now)) ss _ (H .0) e (too-many (c .before .before .before .before .before .before .before .before .before .with-primal .result) (H .0) (H .2) (c .before .before .before .before .before .before .before .if2 .taken))) (refl, c .before .before .before .before .refuse-at-root2 .ensures .0, c .before .before .before .before .refuse-at-root2 .ensures .1, refl)
+returns-2 c =
+    let args = c .before .before .before .before .before .before .before .before .before .before .before .before .before .before .before .before .before .before .before .before .before .before .before .before .args in
+    let survey-formula = c .before .before .before .before .before .before .before .before .before .before .before .before .before .before .before .before .survey-formula in
+    let if1 = c .before .before .before .before .before .before .before .before .before .before .before .before .if1 in
+    let with-primal = c .before .before .before .before .before .before .before .before .before .with-primal in
+    let if2 = c .before .before .before .before .before .before .before .if2 in
+    let refuse-at-root2 = c .before .before .before .before .refuse-at-root2 in
+    let program = args .program .now in
+    λ f ss D.
+    let H = has-derivative (args .formula .now) f (D .given .formed) (D .given .limit) (args .by .symbol) (args .by .state) (survey-formula .result)
+    (survey-formula .ensures .0) (with-primal .result) (not-false (survey-formula .result .fine) (if1 .left)) (with-primal .ensures) in
+    let e = sym (by-is (args .by .symbol) f (args .by .state) ss (D .is-state)) ∙ H .1 in
+    leaves _ _ _ (args .path .now) (refuse-at-root2 .last .0) (args .tree .now) (refuse-at-root2 .last .1 .0) program program
+    (too-large (length (args .tree .now)) (length program) ss _ (H .0) e (too-many (with-primal .result) (H .0) (H .2) (if2 .taken)))
+    (refl, refuse-at-root2 .ensures .0, refuse-at-root2 .ensures .1, refl)
 
 refuse-at-root-requires-3 : tie.Need-refuse-at-root-requires-3
-refuse-at-root-requires-3 c κs = omega (arith, c .before .before .before .before .before .before .before .before .before .before .before .before .before .before .before .before .before .before .before .before .before .pre .1)
+refuse-at-root-requires-3 c κs =
+    let pre = c .before .before .before .before .before .before .before .before .before .before .before .before .before .before .before .before .before .before .before .before .before .pre in
+    omega (arith, pre .1)
 
 same-length-7 : tie.Need-same-length-7
 same-length-7 c = search needs
@@ -61,7 +98,21 @@ same-length-9 : tie.Need-same-length-9
 same-length-9 c = search needs
 
 returns-3 : tie.Need-returns-3
-returns-3 c = λ f ss D. let H = has-derivative (c .before .before .before .before .before .before .before .before .before .before .before .before .before .before .before .before .before .before .before .before .before .before .before .before .before .before .args .formula .now) f (D .given .formed) (D .given .limit) (c .before .before .before .before .before .before .before .before .before .before .before .before .before .before .before .before .before .before .before .before .before .before .before .before .before .before .args .by .symbol) (c .before .before .before .before .before .before .before .before .before .before .before .before .before .before .before .before .before .before .before .before .before .before .before .before .before .before .args .by .state) (c .before .before .before .before .before .before .before .before .before .before .before .before .before .before .before .before .before .before .survey-formula .result) (c .before .before .before .before .before .before .before .before .before .before .before .before .before .before .before .before .before .before .survey-formula .ensures .0) (c .before .before .before .before .before .before .before .before .before .before .before .with-primal .result) (not-false (c .before .before .before .before .before .before .before .before .before .before .before .before .before .before .before .before .before .before .survey-formula .result .fine) (c .before .before .before .before .before .before .before .before .before .before .before .before .before .before .if1 .left)) (c .before .before .before .before .before .before .before .before .before .before .before .with-primal .ensures) in let e = sym (by-is (c .before .before .before .before .before .before .before .before .before .before .before .before .before .before .before .before .before .before .before .before .before .before .before .before .before .before .args .by .symbol) f (c .before .before .before .before .before .before .before .before .before .before .before .before .before .before .before .before .before .before .before .before .before .before .before .before .before .before .args .by .state) ss (D .is-state)) ∙ H .1 in leaves _ _ _ (c .before .before .before .before .before .before .before .before .before .before .before .before .before .before .before .before .before .before .before .before .before .before .before .before .before .before .args .path .now) (c .before .before .before .before .refuse-at-root3 .last .0) (c .before .before .before .before .before .before .before .before .before .before .before .before .before .before .before .before .before .before .before .before .before .before .before .before .before .before .args .tree .now) (c .before .before .before .before .refuse-at-root3 .last .1 .0) (c .before .before .before .before .before .before .before .before .before .before .before .before .before .before .before .before .before .before .before .before .before .before .before .before .before .before .args .program .now) (c .before .before .before .before .before .before .before .before .before .before .before .before .before .before .before .before .before .before .before .before .before .before .before .before .before .before .args .program .now) (too-large (length (c .before .before .before .before .before .before .before .before .before .before .before .before .before .before .before .before .before .before .before .before .before .before .before .before .before .before .args .tree .now)) (length (c .before .before .before .before .before .before .before .before .before .before .before .before .before .before .before .before .before .before .before .before .before .before .before .before .before .before .args .program .now)) ss _ (H .0) e (too-deep (c .before .before .before .before .before .before .before .before .before .before .before .with-primal .result) (H .0) (H .2) (c .before .before .before .before .before .before .before .if3 .taken))) (refl, c .before .before .before .before .refuse-at-root3 .ensures .0, c .before .before .before .before .refuse-at-root3 .ensures .1, refl)
+returns-3 c =
+    let args = c .before .before .before .before .before .before .before .before .before .before .before .before .before .before .before .before .before .before .before .before .before .before .before .before .before .before .args in
+    let survey-formula = c .before .before .before .before .before .before .before .before .before .before .before .before .before .before .before .before .before .before .survey-formula in
+    let if1 = c .before .before .before .before .before .before .before .before .before .before .before .before .before .before .if1 in
+    let with-primal = c .before .before .before .before .before .before .before .before .before .before .before .with-primal in
+    let if3 = c .before .before .before .before .before .before .before .if3 in
+    let refuse-at-root3 = c .before .before .before .before .refuse-at-root3 in
+    let program = args .program .now in
+    λ f ss D.
+    let H = has-derivative (args .formula .now) f (D .given .formed) (D .given .limit) (args .by .symbol) (args .by .state) (survey-formula .result)
+    (survey-formula .ensures .0) (with-primal .result) (not-false (survey-formula .result .fine) (if1 .left)) (with-primal .ensures) in
+    let e = sym (by-is (args .by .symbol) f (args .by .state) ss (D .is-state)) ∙ H .1 in
+    leaves _ _ _ (args .path .now) (refuse-at-root3 .last .0) (args .tree .now) (refuse-at-root3 .last .1 .0) program program
+    (too-large (length (args .tree .now)) (length program) ss _ (H .0) e (too-deep (with-primal .result) (H .0) (H .2) (if3 .taken)))
+    (refl, refuse-at-root3 .ensures .0, refuse-at-root3 .ensures .1, refl)
 
 zero-from-requires : tie.Need-zero-from-requires
 zero-from-requires c κs = search needs
@@ -73,7 +124,24 @@ same-length-11 : tie.Need-same-length-11
 same-length-11 c = search needs
 
 returns-4 : tie.Need-returns-4
-returns-4 c = λ f ss D. let H = has-derivative (c .before .before .before .before .before .before .before .before .before .before .before .before .before .before .before .before .before .before .before .before .before .before .before .before .before .args .formula .now) f (D .given .formed) (D .given .limit) (c .before .before .before .before .before .before .before .before .before .before .before .before .before .before .before .before .before .before .before .before .before .before .before .before .before .args .by .symbol) (c .before .before .before .before .before .before .before .before .before .before .before .before .before .before .before .before .before .before .before .before .before .before .before .before .before .args .by .state) (c .before .before .before .before .before .before .before .before .before .before .before .before .before .before .before .before .before .survey-formula .result) (c .before .before .before .before .before .before .before .before .before .before .before .before .before .before .before .before .before .survey-formula .ensures .0) (c .before .before .before .before .before .before .before .before .before .before .with-primal .result) (not-false (c .before .before .before .before .before .before .before .before .before .before .before .before .before .before .before .before .before .survey-formula .result .fine) (c .before .before .before .before .before .before .before .before .before .before .before .before .before .if1 .left)) (c .before .before .before .before .before .before .before .before .before .before .with-primal .ensures) in let e = sym (by-is (c .before .before .before .before .before .before .before .before .before .before .before .before .before .before .before .before .before .before .before .before .before .before .before .before .before .args .by .symbol) f (c .before .before .before .before .before .before .before .before .before .before .before .before .before .before .before .before .before .before .before .before .before .before .before .before .before .args .by .state) ss (D .is-state)) ∙ H .1 in leaves _ _ _ (c .before .before .before .before .before .before .before .before .before .before .before .before .before .before .before .before .before .before .before .before .before .before .before .before .before .args .path .now) (c .before .before .before .before .before .before .before .before .before .before .before .before .before .before .before .before .before .before .before .before .before .before .before .before .before .args .path .now) (c .before .before .before .before .before .before .before .before .before .before .before .before .before .before .before .before .before .before .before .before .before .before .before .before .before .args .tree .now) (c .before .before .zero-from .last .0) (c .before .before .before .before .before .before .before .before .before .before .before .before .before .before .before .before .before .before .before .before .before .before .before .before .before .args .program .now) (c .before .before .before .before .before .before .before .before .before .before .before .before .before .before .before .before .before .before .before .before .before .before .before .before .before .args .program .now) (tree-short (length (c .before .before .before .before .before .before .before .before .before .before .before .before .before .before .before .before .before .before .before .before .before .before .before .before .before .args .tree .now)) (length (c .before .before .before .before .before .before .before .before .before .before .before .before .before .before .before .before .before .before .before .before .before .before .before .before .before .args .program .now)) ss _ (H .0) e (within-limit (c .before .before .before .before .before .before .before .before .before .before .with-primal .result) (H .0) (H .2) (omega (arith, c .before .before .before .before .before .before .before .before .if2 .left)) (omega (arith, c .before .before .before .before .before .before .if3 .left))) (omega (arith, nodes-exact (c .before .before .before .before .before .before .before .before .before .before .with-primal .result) (H .0) (H .2) (omega (arith, c .before .before .before .before .before .before .before .before .if2 .left)), c .before .before .before .before .if4 .taken))) (refl, refl, c .before .before .zero-from .ensures ∙ all-zeroed (c .before .before .before .before .before .before .before .before .before .before .before .before .before .before .before .before .before .before .before .before .before .before .before .before .before .args .tree .now), refl)
+returns-4 c =
+    let args = c .before .before .before .before .before .before .before .before .before .before .before .before .before .before .before .before .before .before .before .before .before .before .before .before .before .args in
+    let survey-formula = c .before .before .before .before .before .before .before .before .before .before .before .before .before .before .before .before .before .survey-formula in
+    let if1 = c .before .before .before .before .before .before .before .before .before .before .before .before .before .if1 in
+    let with-primal = c .before .before .before .before .before .before .before .before .before .before .with-primal in
+    let if2 = c .before .before .before .before .before .before .before .before .if2 in
+    let if3 = c .before .before .before .before .before .before .if3 in
+    let tree2 = args .tree .now in
+    let program = args .program .now in
+    let with-primal-gives = with-primal .result in
+    λ f ss D.
+    let H = has-derivative (args .formula .now) f (D .given .formed) (D .given .limit) (args .by .symbol) (args .by .state) (survey-formula .result)
+    (survey-formula .ensures .0) with-primal-gives (not-false (survey-formula .result .fine) (if1 .left)) (with-primal .ensures) in
+    let e = sym (by-is (args .by .symbol) f (args .by .state) ss (D .is-state)) ∙ H .1 in
+    leaves _ _ _ (args .path .now) (args .path .now) tree2 (c .before .before .zero-from .last .0) program program (tree-short (length tree2)
+    (length program) ss _ (H .0) e (within-limit with-primal-gives (H .0) (H .2) (omega (arith, if2 .left)) (omega (arith, if3 .left)))
+    (omega (arith, nodes-exact with-primal-gives (H .0) (H .2) (omega (arith, if2 .left)), c .before .before .before .before .if4 .taken)))
+    (refl, refl, c .before .before .zero-from .ensures ∙ all-zeroed tree2, refl)
 
 zero-from-requires-2 : tie.Need-zero-from-requires-2
 zero-from-requires-2 c κs = search needs
@@ -85,10 +153,58 @@ same-length-13 : tie.Need-same-length-13
 same-length-13 c = search needs
 
 returns-5 : tie.Need-returns-5
-returns-5 c = λ f ss D. let H = has-derivative (c .before .before .before .before .before .before .before .before .before .before .before .before .before .before .before .before .before .before .before .before .before .before .before .before .before .before .before .args .formula .now) f (D .given .formed) (D .given .limit) (c .before .before .before .before .before .before .before .before .before .before .before .before .before .before .before .before .before .before .before .before .before .before .before .before .before .before .before .args .by .symbol) (c .before .before .before .before .before .before .before .before .before .before .before .before .before .before .before .before .before .before .before .before .before .before .before .before .before .before .before .args .by .state) (c .before .before .before .before .before .before .before .before .before .before .before .before .before .before .before .before .before .before .before .survey-formula .result) (c .before .before .before .before .before .before .before .before .before .before .before .before .before .before .before .before .before .before .before .survey-formula .ensures .0) (c .before .before .before .before .before .before .before .before .before .before .before .before .with-primal .result) (not-false (c .before .before .before .before .before .before .before .before .before .before .before .before .before .before .before .before .before .before .before .survey-formula .result .fine) (c .before .before .before .before .before .before .before .before .before .before .before .before .before .before .before .if1 .left)) (c .before .before .before .before .before .before .before .before .before .before .before .before .with-primal .ensures) in let e = sym (by-is (c .before .before .before .before .before .before .before .before .before .before .before .before .before .before .before .before .before .before .before .before .before .before .before .before .before .before .before .args .by .symbol) f (c .before .before .before .before .before .before .before .before .before .before .before .before .before .before .before .before .before .before .before .before .before .before .before .before .before .before .before .args .by .state) ss (D .is-state)) ∙ H .1 in leaves _ _ _ (c .before .before .before .before .before .before .before .before .before .before .before .before .before .before .before .before .before .before .before .before .before .before .before .before .before .before .before .args .path .now) (c .before .before .before .before .before .before .before .before .before .before .before .before .before .before .before .before .before .before .before .before .before .before .before .before .before .before .before .args .path .now) (c .before .before .before .before .before .before .before .before .before .before .before .before .before .before .before .before .before .before .before .before .before .before .before .before .before .before .before .args .tree .now) (c .before .before .zero-from2 .last .0) (c .before .before .before .before .before .before .before .before .before .before .before .before .before .before .before .before .before .before .before .before .before .before .before .before .before .before .before .args .program .now) (c .before .before .before .before .before .before .before .before .before .before .before .before .before .before .before .before .before .before .before .before .before .before .before .before .before .before .before .args .program .now) (program-short (length (c .before .before .before .before .before .before .before .before .before .before .before .before .before .before .before .before .before .before .before .before .before .before .before .before .before .before .before .args .tree .now)) (length (c .before .before .before .before .before .before .before .before .before .before .before .before .before .before .before .before .before .before .before .before .before .before .before .before .before .before .before .args .program .now)) ss _ (H .0) e (within-limit (c .before .before .before .before .before .before .before .before .before .before .before .before .with-primal .result) (H .0) (H .2) (omega (arith, c .before .before .before .before .before .before .before .before .before .before .if2 .left)) (omega (arith, c .before .before .before .before .before .before .before .before .if3 .left))) (omega (arith, nodes-exact (c .before .before .before .before .before .before .before .before .before .before .before .before .with-primal .result) (H .0) (H .2) (omega (arith, c .before .before .before .before .before .before .before .before .before .before .if2 .left)), c .before .before .before .before .if5 .taken))) (refl, refl, c .before .before .zero-from2 .ensures ∙ all-zeroed (c .before .before .before .before .before .before .before .before .before .before .before .before .before .before .before .before .before .before .before .before .before .before .before .before .before .before .before .args .tree .now), refl)
+returns-5 c =
+    let args = c .before .before .before .before .before .before .before .before .before .before .before .before .before .before .before .before .before .before .before .before .before .before .before .before .before .before .before .args in
+    let survey-formula = c .before .before .before .before .before .before .before .before .before .before .before .before .before .before .before .before .before .before .before .survey-formula in
+    let if1 = c .before .before .before .before .before .before .before .before .before .before .before .before .before .before .before .if1 in
+    let with-primal = c .before .before .before .before .before .before .before .before .before .before .before .before .with-primal in
+    let if2 = c .before .before .before .before .before .before .before .before .before .before .if2 in
+    let if3 = c .before .before .before .before .before .before .before .before .if3 in
+    let tree2 = args .tree .now in
+    let program = args .program .now in
+    let with-primal-gives = with-primal .result in
+    λ f ss D.
+    let H = has-derivative (args .formula .now) f (D .given .formed) (D .given .limit) (args .by .symbol) (args .by .state) (survey-formula .result)
+    (survey-formula .ensures .0) with-primal-gives (not-false (survey-formula .result .fine) (if1 .left)) (with-primal .ensures) in
+    let e = sym (by-is (args .by .symbol) f (args .by .state) ss (D .is-state)) ∙ H .1 in
+    leaves _ _ _ (args .path .now) (args .path .now) tree2 (c .before .before .zero-from2 .last .0) program program (program-short (length tree2)
+    (length program) ss _ (H .0) e (within-limit with-primal-gives (H .0) (H .2) (omega (arith, if2 .left)) (omega (arith, if3 .left)))
+    (omega (arith, nodes-exact with-primal-gives (H .0) (H .2) (omega (arith, if2 .left)), c .before .before .before .before .if5 .taken)))
+    (refl, refl, c .before .before .zero-from2 .ensures ∙ all-zeroed tree2, refl)
 
 write-both-requires : tie.Need-write-both-requires
-write-both-requires c κs = let D = c .before .before .before .before .before .before .before .before .before .before .before .before .before .before .before .before .before .before .before .before .before .before .before .before .before .before .before .pre .2 .2 in let H = has-derivative (c .before .before .before .before .before .before .before .before .before .before .before .before .before .before .before .before .before .before .before .before .before .before .before .before .before .before .before .args .formula .now) (c .before .before .before .before .before .before .before .before .before .before .before .before .before .before .before .before .before .before .before .before .before .before .before .before .before .before .before .pre .2 .0) (D .given .formed) (D .given .limit) (c .before .before .before .before .before .before .before .before .before .before .before .before .before .before .before .before .before .before .before .before .before .before .before .before .before .before .before .args .by .symbol) (c .before .before .before .before .before .before .before .before .before .before .before .before .before .before .before .before .before .before .before .before .before .before .before .before .before .before .before .args .by .state) (c .before .before .before .before .before .before .before .before .before .before .before .before .before .before .before .before .before .before .before .survey-formula .result) (c .before .before .before .before .before .before .before .before .before .before .before .before .before .before .before .before .before .before .before .survey-formula .ensures .0) (c .before .before .before .before .before .before .before .before .before .before .before .before .with-primal .result) (not-false (c .before .before .before .before .before .before .before .before .before .before .before .before .before .before .before .before .before .before .before .survey-formula .result .fine) (c .before .before .before .before .before .before .before .before .before .before .before .before .before .before .before .if1 .left)) (c .before .before .before .before .before .before .before .before .before .before .before .before .with-primal .ensures) in let e = sym (by-is (c .before .before .before .before .before .before .before .before .before .before .before .before .before .before .before .before .before .before .before .before .before .before .before .before .before .before .before .args .by .symbol) (c .before .before .before .before .before .before .before .before .before .before .before .before .before .before .before .before .before .before .before .before .before .before .before .before .before .before .before .pre .2 .0) (c .before .before .before .before .before .before .before .before .before .before .before .before .before .before .before .before .before .before .before .before .before .before .before .before .before .before .before .args .by .state) (c .before .before .before .before .before .before .before .before .before .before .before .before .before .before .before .before .before .before .before .before .before .before .before .before .before .before .before .pre .2 .1) (D .is-state)) ∙ H .1 in (c .before .before .before .before .before .before .before .before .before .before .before .before .before .before .before .before .before .before .before .before .before .before .before .before .before .before .before .pre .1, job-of (c .before .before .before .before .before .before .before .before .before .before .before .before .before .before .before .before .before .before .before .before .before .before .before .before .before .before .before .args .by .symbol) (c .before .before .before .before .before .before .before .before .before .before .before .before .before .before .before .before .before .before .before .before .before .before .before .before .before .before .before .args .by .state) (c .before .before .before .before .before .before .before .before .before .before .before .before .before .before .before .before .before .before .before .before .before .before .before .before .before .before .before .args .formula .now) (c .before .before .before .before .before .before .before .before .before .before .before .before .before .before .before .before .before .before .before .before .before .before .before .before .before .before .before .args .table .now) _ 32 (surveyed-room (c .before .before .before .before .before .before .before .before .before .before .before .before .before .before .before .before .before .before .before .before .before .before .before .before .before .before .before .args .formula .now) (c .before .before .before .before .before .before .before .before .before .before .before .before .before .before .before .before .before .before .before .before .before .before .before .before .before .before .before .pre .2 .0) (c .before .before .before .before .before .before .before .before .before .before .before .before .before .before .before .before .before .before .before .before .before .before .before .before .before .before .before .pre .2 .2 .given .formed) (c .before .before .before .before .before .before .before .before .before .before .before .before .before .before .before .before .before .before .before .before .before .before .before .before .before .before .before .pre .2 .2 .given .limit) (c .before .before .before .before .before .before .before .before .before .before .before .before .before .before .before .before .before .before .before .before .before .before .before .before .before .before .before .args .table .now) (c .before .before .before .before .before .before .before .before .before .before .before .before .before .before .before .before .before .before .before .before .before .before .before .before .before .before .before .pre .0)) (c .before .before .before .before .before .before .before .before .before .before .before .before .before .before .before .before .before .before .before .survey-formula .kept .1 .1 .1 .0) (c .before .before .before .before .before .before .before .before .before .before .before .before .before .before .before .before .before .before .before .survey-formula .ensures .1) (c .before .before .before .before .before .before .before .before .before .before .before .before .before .before .before .before .before .before .before .survey-formula .result) (c .before .before .before .before .before .before .before .before .before .before .before .before .before .before .before .before .before .before .before .survey-formula .ensures .0) (not-false (c .before .before .before .before .before .before .before .before .before .before .before .before .before .before .before .before .before .before .before .survey-formula .result .fine) (c .before .before .before .before .before .before .before .before .before .before .before .before .before .before .before .if1 .left)) (c .before .before .before .before .before .before .before .before .before .before .before .before .with-primal .result .nodes) (c .before .before .before .before .before .before .before .before .before .before .before .before .before .before .before .before .before .before .before .before .before .before .before .before .before .before .before .args .tree .now) (ap (λ (x : Attributes). x .nodes) (c .before .before .before .before .before .before .before .before .before .before .before .before .with-primal .ensures)) (omega (arith, c .before .before .before .before .before .before .before .before .before .before .if2 .left)) (omega (arith, c .before .before .before .before .before .before .if4 .left)), (c .before .before .before .before .before .before .before .before .before .before .before .before .before .before .before .before .before .before .before .before .before .before .before .before .before .before .before .pre .2 .0, c .before .before .before .before .before .before .before .before .before .before .before .before .before .before .before .before .before .before .before .before .before .before .before .before .before .before .before .pre .2 .1, H .0, record { given = D; derives = e; limit = (within-limit (c .before .before .before .before .before .before .before .before .before .before .before .before .with-primal .result) (H .0) (H .2) (omega (arith, c .before .before .before .before .before .before .before .before .before .before .if2 .left)) (omega (arith, c .before .before .before .before .before .before .before .before .if3 .left))); room = omega (arith, nodes-exact (c .before .before .before .before .before .before .before .before .before .before .before .before .with-primal .result) (H .0) (H .2) (omega (arith, c .before .before .before .before .before .before .before .before .before .before .if2 .left)), c .before .before .before .before .if5 .left) }))
+write-both-requires c κs =
+    let pre = c .before .before .before .before .before .before .before .before .before .before .before .before .before .before .before .before .before .before .before .before .before .before .before .before .before .before .before .pre in
+    let args = c .before .before .before .before .before .before .before .before .before .before .before .before .before .before .before .before .before .before .before .before .before .before .before .before .before .before .before .args in
+    let survey-formula = c .before .before .before .before .before .before .before .before .before .before .before .before .before .before .before .before .before .before .before .survey-formula in
+    let if1 = c .before .before .before .before .before .before .before .before .before .before .before .before .before .before .before .if1 in
+    let with-primal = c .before .before .before .before .before .before .before .before .before .before .before .before .with-primal in
+    let if2 = c .before .before .before .before .before .before .before .before .before .before .if2 in
+    let if3 = c .before .before .before .before .before .before .before .before .if3 in
+    let if4 = c .before .before .before .before .before .before .if4 in
+    let state = args .by .state in
+    let symbol = args .by .symbol in
+    let formula = args .formula .now in
+    let with-primal-gives = with-primal .result in
+    let ensures = survey-formula .ensures .0 in
+    let not-false2 = not-false (survey-formula .result .fine) (if1 .left) in
+    let D = pre .2 .2 in
+    let H = has-derivative formula (pre .2 .0) (D .given .formed) (D .given .limit) symbol state (survey-formula .result) ensures with-primal-gives
+    not-false2 (with-primal .ensures) in
+    let e = sym (by-is symbol (pre .2 .0) state (pre .2 .1) (D .is-state)) ∙ H .1 in (
+      pre .1,
+      job-of symbol state formula (args .table .now) _ 32
+          (surveyed-room formula (pre .2 .0) (pre .2 .2 .given .formed) (pre .2 .2 .given .limit) (args .table .now) (pre .0))
+          (survey-formula .kept .1 .1 .1 .0) (survey-formula .ensures .1) (survey-formula .result) ensures not-false2 (with-primal .result .nodes)
+          (args .tree .now) (ap (λ (x : Attributes). x .nodes) (with-primal .ensures)) (omega (arith, if2 .left)) (omega (arith, if4 .left)),
+      (
+        pre .2 .0,
+        pre .2 .1,
+        H .0,
+        record
+            { given = D; derives = e; limit = (within-limit with-primal-gives (H .0) (H .2) (omega (arith, if2 .left)) (omega (arith, if3 .left))); room = omega (arith, nodes-exact with-primal-gives (H .0) (H .2) (omega (arith, if2 .left)), c .before .before .before .before .if5 .left) },
+      ),
+    )
 
 same-length-14 : tie.Need-same-length-14
 same-length-14 c = search needs
@@ -103,7 +219,28 @@ same-length-17 : tie.Need-same-length-17
 same-length-17 c = search needs
 
 returns-6 : tie.Need-returns-6
-returns-6 c = λ f ss D. let H = has-derivative (c .before .before .before .before .before .before .before .before .before .before .before .before .before .before .before .before .before .before .before .before .before .before .before .before .before .before .before .before .before .before .before .before .before .before .args .formula .now) f (D .given .formed) (D .given .limit) (c .before .before .before .before .before .before .before .before .before .before .before .before .before .before .before .before .before .before .before .before .before .before .before .before .before .before .before .before .before .before .before .before .before .before .args .by .symbol) (c .before .before .before .before .before .before .before .before .before .before .before .before .before .before .before .before .before .before .before .before .before .before .before .before .before .before .before .before .before .before .before .before .before .before .args .by .state) (c .before .before .before .before .before .before .before .before .before .before .before .before .before .before .before .before .before .before .before .before .before .before .before .before .before .before .survey-formula .result) (c .before .before .before .before .before .before .before .before .before .before .before .before .before .before .before .before .before .before .before .before .before .before .before .before .before .before .survey-formula .ensures .0) (c .before .before .before .before .before .before .before .before .before .before .before .before .before .before .before .before .before .before .before .with-primal .result) (not-false (c .before .before .before .before .before .before .before .before .before .before .before .before .before .before .before .before .before .before .before .before .before .before .before .before .before .before .survey-formula .result .fine) (c .before .before .before .before .before .before .before .before .before .before .before .before .before .before .before .before .before .before .before .before .before .before .if1 .left)) (c .before .before .before .before .before .before .before .before .before .before .before .before .before .before .before .before .before .before .before .with-primal .ensures) in let e = sym (by-is (c .before .before .before .before .before .before .before .before .before .before .before .before .before .before .before .before .before .before .before .before .before .before .before .before .before .before .before .before .before .before .before .before .before .before .args .by .symbol) f (c .before .before .before .before .before .before .before .before .before .before .before .before .before .before .before .before .before .before .before .before .before .before .before .before .before .before .before .before .before .before .before .before .before .before .args .by .state) ss (D .is-state)) ∙ H .1 in let R = c .before .before .before .before .before .before .write-both .ensures f ss (H .0) (record { given = D; derives = e; limit = (within-limit (c .before .before .before .before .before .before .before .before .before .before .before .before .before .before .before .before .before .before .before .with-primal .result) (H .0) (H .2) (omega (arith, c .before .before .before .before .before .before .before .before .before .before .before .before .before .before .before .before .before .if2 .left)) (omega (arith, c .before .before .before .before .before .before .before .before .before .before .before .before .before .before .before .if3 .left))); room = omega (arith, nodes-exact (c .before .before .before .before .before .before .before .before .before .before .before .before .before .before .before .before .before .before .before .with-primal .result) (H .0) (H .2) (omega (arith, c .before .before .before .before .before .before .before .before .before .before .before .before .before .before .before .before .before .if2 .left)), c .before .before .before .before .before .before .before .before .before .before .before .if5 .left) }) in leaves _ _ _ (c .before .before .before .before .before .before .before .before .before .before .before .before .before .before .before .before .before .before .before .before .before .before .before .before .before .before .before .before .before .before .before .before .before .before .args .path .now) (c .before .before .before .before .before .before .write-both .last .1 .1 .1 .1 .0) (c .before .before .before .before .before .before .before .before .before .before .before .before .before .before .before .before .before .before .before .before .before .before .before .before .before .before .before .before .before .before .before .before .before .before .args .tree .now) (c .before .before .before .before .before .before .write-both .last .1 .1 .1 .1 .1 .0) (c .before .before .before .before .before .before .before .before .before .before .before .before .before .before .before .before .before .before .before .before .before .before .before .before .before .before .before .before .before .before .before .before .before .before .args .program .now) (c .before .before .before .before .before .before .write-both .last .1 .1 .1 .1 .1 .1 .0) (long-enough (length (c .before .before .before .before .before .before .before .before .before .before .before .before .before .before .before .before .before .before .before .before .before .before .before .before .before .before .before .before .before .before .before .before .before .before .args .tree .now)) (length (c .before .before .before .before .before .before .before .before .before .before .before .before .before .before .before .before .before .before .before .before .before .before .before .before .before .before .before .before .before .before .before .before .before .before .args .program .now)) ss _ (H .0) e (within-limit (c .before .before .before .before .before .before .before .before .before .before .before .before .before .before .before .before .before .before .before .with-primal .result) (H .0) (H .2) (omega (arith, c .before .before .before .before .before .before .before .before .before .before .before .before .before .before .before .before .before .if2 .left)) (omega (arith, c .before .before .before .before .before .before .before .before .before .before .before .before .before .before .before .if3 .left))) (omega (arith, nodes-exact (c .before .before .before .before .before .before .before .before .before .before .before .before .before .before .before .before .before .before .before .with-primal .result) (H .0) (H .2) (omega (arith, c .before .before .before .before .before .before .before .before .before .before .before .before .before .before .before .before .before .if2 .left)), c .before .before .before .before .before .before .before .before .before .before .before .before .before .if4 .left)) (omega (arith, nodes-exact (c .before .before .before .before .before .before .before .before .before .before .before .before .before .before .before .before .before .before .before .with-primal .result) (H .0) (H .2) (omega (arith, c .before .before .before .before .before .before .before .before .before .before .before .before .before .before .before .before .before .if2 .left)), c .before .before .before .before .before .before .before .before .before .before .before .if5 .left))) (ap Derived (R .0), R .1, R .2, R .3)
+returns-6 c =
+    let args = c .before .before .before .before .before .before .before .before .before .before .before .before .before .before .before .before .before .before .before .before .before .before .before .before .before .before .before .before .before .before .before .before .before .before .args in
+    let survey-formula = c .before .before .before .before .before .before .before .before .before .before .before .before .before .before .before .before .before .before .before .before .before .before .before .before .before .before .survey-formula in
+    let if1 = c .before .before .before .before .before .before .before .before .before .before .before .before .before .before .before .before .before .before .before .before .before .before .if1 in
+    let with-primal = c .before .before .before .before .before .before .before .before .before .before .before .before .before .before .before .before .before .before .before .with-primal in
+    let if2 = c .before .before .before .before .before .before .before .before .before .before .before .before .before .before .before .before .before .if2 in
+    let if3 = c .before .before .before .before .before .before .before .before .before .before .before .before .before .before .before .if3 in
+    let if4 = c .before .before .before .before .before .before .before .before .before .before .before .before .before .if4 in
+    let if5 = c .before .before .before .before .before .before .before .before .before .before .before .if5 in
+    let write-both = c .before .before .before .before .before .before .write-both in
+    let with-primal-gives = with-primal .result in
+    λ f ss D.
+    let H = has-derivative (args .formula .now) f (D .given .formed) (D .given .limit) (args .by .symbol) (args .by .state) (survey-formula .result)
+    (survey-formula .ensures .0) with-primal-gives (not-false (survey-formula .result .fine) (if1 .left)) (with-primal .ensures) in
+    let e = sym (by-is (args .by .symbol) f (args .by .state) ss (D .is-state)) ∙ H .1 in
+    let R = write-both .ensures f ss (H .0) (record
+    { given = D; derives = e; limit = (within-limit with-primal-gives (H .0) (H .2) (omega (arith, if2 .left)) (omega (arith, if3 .left))); room = omega (arith, nodes-exact with-primal-gives (H .0) (H .2) (omega (arith, if2 .left)), if5 .left) }) in
+    leaves _ _ _ (args .path .now) (write-both .last .1 .1 .1 .1 .0) (args .tree .now) (write-both .last .1 .1 .1 .1 .1 .0) (args .program .now)
+    (write-both .last .1 .1 .1 .1 .1 .1 .0) (long-enough (length (args .tree .now)) (length (args .program .now)) ss _ (H .0) e
+    (within-limit with-primal-gives (H .0) (H .2) (omega (arith, if2 .left)) (omega (arith, if3 .left)))
+    (omega (arith, nodes-exact with-primal-gives (H .0) (H .2) (omega (arith, if2 .left)), if4 .left))
+    (omega (arith, nodes-exact with-primal-gives (H .0) (H .2) (omega (arith, if2 .left)), if5 .left))) (ap Derived (R .0), R .1, R .2, R .3)
 
 pub derive-number-spec : {M : Type 1} → statement M
 derive-number-spec =

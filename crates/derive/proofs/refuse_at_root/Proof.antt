@@ -17,7 +17,10 @@ same-length-2 : tie.Need-same-length-2
 same-length-2 c = search needs
 
 returns : tie.Need-returns
-returns c = (c .before .before .before .before .before .before .write-root .ensures, c .before .before .zero-from .ensures ∙ all-zeroed (c .before .before .before .before .before .before .before .before .before .before .args .tree .now))
+returns c =
+    let args = c .before .before .before .before .before .before .before .before .before .before .args in
+    let write-root = c .before .before .before .before .before .before .write-root in
+    (write-root .ensures, c .before .before .zero-from .ensures ∙ all-zeroed (args .tree .now))
 
 pub refuse-at-root-spec : {M : Type 1} → statement M
 refuse-at-root-spec =

@@ -10,16 +10,60 @@ write-derivative-requires : tie.Need-write-derivative-requires
 write-derivative-requires c κs = search needs
 
 zero-from-requires : tie.Need-zero-from-requires
-zero-from-requires c κs = inside-first (c .before .before .before .before .before .before .before .before .before .before .before .args .formula .now) (c .before .before .before .before .before .before .before .before .before .before .before .args .kinds .now) (c .before .before .before .before .before .before .before .before .before .before .before .args .by .symbol) (c .before .before .before .before .before .before .before .before .before .before .before .args .by .state) (length (c .before .before .before .before .before .before .before .before .before .before .before .args .program .now)) (c .before .before .before .before .before .before .before .before .before .before .before .pre .2 .0) (c .before .before .before .before .before .before .before .before .before .before .before .pre .2 .1) (c .before .before .before .before .before .before .before .before .before .before .before .pre .2 .2) (c .before .before .before .before .before .before .before .before .before .before .before .pre .2 .3) (λ i. omega (arith, c .before .before .before .before .before .before .before .before .before .before .shared-slice-known .given i)) (c .before .before .before .before .before .before .before .before .before .before .before .args .tree .now) (c .before .before .before .write-derivative .last .1 .1 .1 .1 .0) _ (c .before .before .before .write-derivative .result) (c .before .before .before .before .before .before .before .before .before .before .before .pre .1 .room (c .before .before .before .before .before .before .before .before .before .before .before .pre .2 .2) (derives-tree (c .before .before .before .before .before .before .before .before .before .before .before .args .formula .now) (c .before .before .before .before .before .before .before .before .before .before .before .args .kinds .now) (c .before .before .before .before .before .before .before .before .before .before .before .args .by .symbol) (c .before .before .before .before .before .before .before .before .before .before .before .args .by .state) (length (c .before .before .before .before .before .before .before .before .before .before .before .args .program .now)) (c .before .before .before .before .before .before .before .before .before .before .before .pre .2 .0) (c .before .before .before .before .before .before .before .before .before .before .before .pre .2 .1) (c .before .before .before .before .before .before .before .before .before .before .before .pre .2 .2) (c .before .before .before .before .before .before .before .before .before .before .before .pre .2 .3))) (c .before .before .before .write-derivative .ensures (c .before .before .before .before .before .before .before .before .before .before .before .pre .2 .2) (derives-tree (c .before .before .before .before .before .before .before .before .before .before .before .args .formula .now) (c .before .before .before .before .before .before .before .before .before .before .before .args .kinds .now) (c .before .before .before .before .before .before .before .before .before .before .before .args .by .symbol) (c .before .before .before .before .before .before .before .before .before .before .before .args .by .state) (length (c .before .before .before .before .before .before .before .before .before .before .before .args .program .now)) (c .before .before .before .before .before .before .before .before .before .before .before .pre .2 .0) (c .before .before .before .before .before .before .before .before .before .before .before .pre .2 .1) (c .before .before .before .before .before .before .before .before .before .before .before .pre .2 .2) (c .before .before .before .before .before .before .before .before .before .before .before .pre .2 .3))) refl
+zero-from-requires c κs =
+    let args = c .before .before .before .before .before .before .before .before .before .before .before .args in
+    let pre = c .before .before .before .before .before .before .before .before .before .before .before .pre in
+    let shared-slice-known = c .before .before .before .before .before .before .before .before .before .before .shared-slice-known in
+    let write-derivative = c .before .before .before .write-derivative in
+    let length2 = length (args .program .now) in
+    let derives-tree2 = derives-tree (args .formula .now) (args .kinds .now) (args .by .symbol) (args .by .state) length2 (pre .2 .0) (pre .2 .1)
+    (pre .2 .2) (pre .2 .3) in
+    inside-first (args .formula .now) (args .kinds .now) (args .by .symbol) (args .by .state) length2 (pre .2 .0) (pre .2 .1) (pre .2 .2) (pre .2 .3)
+    (λ i. omega (arith, shared-slice-known .given i)) (args .tree .now) (write-derivative .last .1 .1 .1 .1 .0) _ (write-derivative .result)
+    (pre .1 .room (pre .2 .2) derives-tree2) (write-derivative .ensures (pre .2 .2) derives-tree2) refl
 
 slice-reshare-prefix-write : tie.Need-slice-reshare-prefix-write
-slice-reshare-prefix-write c = inside (c .before .before .before .before .before .before .before .before .before .before .before .before .before .before .args .formula .now) (c .before .before .before .before .before .before .before .before .before .before .before .before .before .before .args .kinds .now) (c .before .before .before .before .before .before .before .before .before .before .before .before .before .before .args .by .symbol) (c .before .before .before .before .before .before .before .before .before .before .before .before .before .before .args .by .state) (length (c .before .before .before .before .before .before .before .before .before .before .before .before .before .before .args .program .now)) (c .before .before .before .before .before .before .before .before .before .before .before .before .before .before .pre .2 .0) (c .before .before .before .before .before .before .before .before .before .before .before .before .before .before .pre .2 .1) (c .before .before .before .before .before .before .before .before .before .before .before .before .before .before .pre .2 .2) (c .before .before .before .before .before .before .before .before .before .before .before .before .before .before .pre .2 .3) (λ i. omega (arith, c .before .before .before .before .before .before .before .before .before .before .before .before .before .shared-slice-known .given i)) (c .before .before .before .before .before .before .before .before .before .before .before .before .before .before .args .tree .now) (c .before .before .before .before .before .before .write-derivative .last .1 .1 .1 .1 .0) (c .before .before .zero-from .last .0) (c .before .before .before .before .before .before .write-derivative .result) (c .before .before .before .before .before .before .before .before .before .before .before .before .before .before .pre .1 .room (c .before .before .before .before .before .before .before .before .before .before .before .before .before .before .pre .2 .2) (derives-tree (c .before .before .before .before .before .before .before .before .before .before .before .before .before .before .args .formula .now) (c .before .before .before .before .before .before .before .before .before .before .before .before .before .before .args .kinds .now) (c .before .before .before .before .before .before .before .before .before .before .before .before .before .before .args .by .symbol) (c .before .before .before .before .before .before .before .before .before .before .before .before .before .before .args .by .state) (length (c .before .before .before .before .before .before .before .before .before .before .before .before .before .before .args .program .now)) (c .before .before .before .before .before .before .before .before .before .before .before .before .before .before .pre .2 .0) (c .before .before .before .before .before .before .before .before .before .before .before .before .before .before .pre .2 .1) (c .before .before .before .before .before .before .before .before .before .before .before .before .before .before .pre .2 .2) (c .before .before .before .before .before .before .before .before .before .before .before .before .before .before .pre .2 .3))) (c .before .before .before .before .before .before .write-derivative .ensures (c .before .before .before .before .before .before .before .before .before .before .before .before .before .before .pre .2 .2) (derives-tree (c .before .before .before .before .before .before .before .before .before .before .before .before .before .before .args .formula .now) (c .before .before .before .before .before .before .before .before .before .before .before .before .before .before .args .kinds .now) (c .before .before .before .before .before .before .before .before .before .before .before .before .before .before .args .by .symbol) (c .before .before .before .before .before .before .before .before .before .before .before .before .before .before .args .by .state) (length (c .before .before .before .before .before .before .before .before .before .before .before .before .before .before .args .program .now)) (c .before .before .before .before .before .before .before .before .before .before .before .before .before .before .pre .2 .0) (c .before .before .before .before .before .before .before .before .before .before .before .before .before .before .pre .2 .1) (c .before .before .before .before .before .before .before .before .before .before .before .before .before .before .pre .2 .2) (c .before .before .before .before .before .before .before .before .before .before .before .before .before .before .pre .2 .3))) (c .before .before .zero-from .ensures)
+slice-reshare-prefix-write c =
+    let args = c .before .before .before .before .before .before .before .before .before .before .before .before .before .before .args in
+    let pre = c .before .before .before .before .before .before .before .before .before .before .before .before .before .before .pre in
+    let shared-slice-known = c .before .before .before .before .before .before .before .before .before .before .before .before .before .shared-slice-known in
+    let write-derivative = c .before .before .before .before .before .before .write-derivative in
+    let length2 = length (args .program .now) in
+    let derives-tree2 = derives-tree (args .formula .now) (args .kinds .now) (args .by .symbol) (args .by .state) length2 (pre .2 .0) (pre .2 .1)
+    (pre .2 .2) (pre .2 .3) in
+    inside (args .formula .now) (args .kinds .now) (args .by .symbol) (args .by .state) length2 (pre .2 .0) (pre .2 .1) (pre .2 .2) (pre .2 .3)
+    (λ i. omega (arith, shared-slice-known .given i)) (args .tree .now) (write-derivative .last .1 .1 .1 .1 .0)
+    (c .before .before .zero-from .last .0) (write-derivative .result) (pre .1 .room (pre .2 .2) derives-tree2)
+    (write-derivative .ensures (pre .2 .2) derives-tree2) (c .before .before .zero-from .ensures)
 
 slice-aggregate-write : tie.Need-slice-aggregate-write
-slice-aggregate-write c = counted (c .before .before .before .before .before .before .before .before .before .before .before .before .before .before .before .args .formula .now) (c .before .before .before .before .before .before .before .before .before .before .before .before .before .before .before .args .kinds .now) (c .before .before .before .before .before .before .before .before .before .before .before .before .before .before .before .args .by .symbol) (c .before .before .before .before .before .before .before .before .before .before .before .before .before .before .before .args .by .state) (length (c .before .before .before .before .before .before .before .before .before .before .before .before .before .before .before .args .program .now)) (c .before .before .before .before .before .before .before .before .before .before .before .before .before .before .before .pre .2 .0) (c .before .before .before .before .before .before .before .before .before .before .before .before .before .before .before .pre .2 .1) (c .before .before .before .before .before .before .before .before .before .before .before .before .before .before .before .pre .2 .2) (c .before .before .before .before .before .before .before .before .before .before .before .before .before .before .before .pre .2 .3) (λ i. omega (arith, c .before .before .before .before .before .before .before .before .before .before .before .before .before .before .shared-slice-known .given i)) (c .before .before .before .before .before .before .before .before .before .before .before .before .before .before .before .args .tree .now) (c .before .before .before .before .before .before .before .write-derivative .last .1 .1 .1 .1 .0) (c .before .before .before .zero-from .last .0) (c .before .before .before .before .before .before .before .write-derivative .result) (c .before .before .before .before .before .before .before .before .before .before .before .before .before .before .before .pre .1 .room (c .before .before .before .before .before .before .before .before .before .before .before .before .before .before .before .pre .2 .2) (derives-tree (c .before .before .before .before .before .before .before .before .before .before .before .before .before .before .before .args .formula .now) (c .before .before .before .before .before .before .before .before .before .before .before .before .before .before .before .args .kinds .now) (c .before .before .before .before .before .before .before .before .before .before .before .before .before .before .before .args .by .symbol) (c .before .before .before .before .before .before .before .before .before .before .before .before .before .before .before .args .by .state) (length (c .before .before .before .before .before .before .before .before .before .before .before .before .before .before .before .args .program .now)) (c .before .before .before .before .before .before .before .before .before .before .before .before .before .before .before .pre .2 .0) (c .before .before .before .before .before .before .before .before .before .before .before .before .before .before .before .pre .2 .1) (c .before .before .before .before .before .before .before .before .before .before .before .before .before .before .before .pre .2 .2) (c .before .before .before .before .before .before .before .before .before .before .before .before .before .before .before .pre .2 .3))) (c .before .before .before .before .before .before .before .write-derivative .ensures (c .before .before .before .before .before .before .before .before .before .before .before .before .before .before .before .pre .2 .2) (derives-tree (c .before .before .before .before .before .before .before .before .before .before .before .before .before .before .before .args .formula .now) (c .before .before .before .before .before .before .before .before .before .before .before .before .before .before .before .args .kinds .now) (c .before .before .before .before .before .before .before .before .before .before .before .before .before .before .before .args .by .symbol) (c .before .before .before .before .before .before .before .before .before .before .before .before .before .before .before .args .by .state) (length (c .before .before .before .before .before .before .before .before .before .before .before .before .before .before .before .args .program .now)) (c .before .before .before .before .before .before .before .before .before .before .before .before .before .before .before .pre .2 .0) (c .before .before .before .before .before .before .before .before .before .before .before .before .before .before .before .pre .2 .1) (c .before .before .before .before .before .before .before .before .before .before .before .before .before .before .before .pre .2 .2) (c .before .before .before .before .before .before .before .before .before .before .before .before .before .before .before .pre .2 .3))) (c .before .before .before .zero-from .ensures)
+slice-aggregate-write c =
+    let args = c .before .before .before .before .before .before .before .before .before .before .before .before .before .before .before .args in
+    let pre = c .before .before .before .before .before .before .before .before .before .before .before .before .before .before .before .pre in
+    let shared-slice-known = c .before .before .before .before .before .before .before .before .before .before .before .before .before .before .shared-slice-known in
+    let write-derivative = c .before .before .before .before .before .before .before .write-derivative in
+    let zero-from = c .before .before .before .zero-from in
+    let length2 = length (args .program .now) in
+    let derives-tree2 = derives-tree (args .formula .now) (args .kinds .now) (args .by .symbol) (args .by .state) length2 (pre .2 .0) (pre .2 .1)
+    (pre .2 .2) (pre .2 .3) in
+    counted (args .formula .now) (args .kinds .now) (args .by .symbol) (args .by .state) length2 (pre .2 .0) (pre .2 .1) (pre .2 .2) (pre .2 .3)
+    (λ i. omega (arith, shared-slice-known .given i)) (args .tree .now) (write-derivative .last .1 .1 .1 .1 .0) (zero-from .last .0)
+    (write-derivative .result) (pre .1 .room (pre .2 .2) derives-tree2) (write-derivative .ensures (pre .2 .2) derives-tree2) (zero-from .ensures)
 
 write-requires : tie.Need-write-requires
-write-requires c κs = fits (c .before .before .before .before .before .before .before .before .before .before .before .before .before .before .before .before .before .args .formula .now) (c .before .before .before .before .before .before .before .before .before .before .before .before .before .before .before .before .before .args .kinds .now) (c .before .before .before .before .before .before .before .before .before .before .before .before .before .before .before .before .before .args .by .symbol) (c .before .before .before .before .before .before .before .before .before .before .before .before .before .before .before .before .before .args .by .state) (length (c .before .before .before .before .before .before .before .before .before .before .before .before .before .before .before .before .before .args .program .now)) (c .before .before .before .before .before .before .before .before .before .before .before .before .before .before .before .before .before .pre .2 .0) (c .before .before .before .before .before .before .before .before .before .before .before .before .before .before .before .before .before .pre .2 .1) (c .before .before .before .before .before .before .before .before .before .before .before .before .before .before .before .before .before .pre .2 .2) (c .before .before .before .before .before .before .before .before .before .before .before .before .before .before .before .before .before .pre .2 .3) (λ i. omega (arith, c .before .before .before .before .before .before .before .before .before .before .before .before .before .before .before .before .shared-slice-known .given i)) (c .before .before .before .before .before .before .before .before .before .before .before .before .before .before .before .before .before .args .tree .now) (c .before .before .before .before .before .before .before .before .before .write-derivative .last .1 .1 .1 .1 .0) (c .before .before .before .before .before .zero-from .last .0) (c .before .before .before .before .before .before .before .before .before .write-derivative .result) (c .before .before .before .before .before .before .before .before .before .before .before .before .before .before .before .before .before .pre .1 .room (c .before .before .before .before .before .before .before .before .before .before .before .before .before .before .before .before .before .pre .2 .2) (derives-tree (c .before .before .before .before .before .before .before .before .before .before .before .before .before .before .before .before .before .args .formula .now) (c .before .before .before .before .before .before .before .before .before .before .before .before .before .before .before .before .before .args .kinds .now) (c .before .before .before .before .before .before .before .before .before .before .before .before .before .before .before .before .before .args .by .symbol) (c .before .before .before .before .before .before .before .before .before .before .before .before .before .before .before .before .before .args .by .state) (length (c .before .before .before .before .before .before .before .before .before .before .before .before .before .before .before .before .before .args .program .now)) (c .before .before .before .before .before .before .before .before .before .before .before .before .before .before .before .before .before .pre .2 .0) (c .before .before .before .before .before .before .before .before .before .before .before .before .before .before .before .before .before .pre .2 .1) (c .before .before .before .before .before .before .before .before .before .before .before .before .before .before .before .before .before .pre .2 .2) (c .before .before .before .before .before .before .before .before .before .before .before .before .before .before .before .before .before .pre .2 .3))) (c .before .before .before .before .before .before .before .before .before .write-derivative .ensures (c .before .before .before .before .before .before .before .before .before .before .before .before .before .before .before .before .before .pre .2 .2) (derives-tree (c .before .before .before .before .before .before .before .before .before .before .before .before .before .before .before .before .before .args .formula .now) (c .before .before .before .before .before .before .before .before .before .before .before .before .before .before .before .before .before .args .kinds .now) (c .before .before .before .before .before .before .before .before .before .before .before .before .before .before .before .before .before .args .by .symbol) (c .before .before .before .before .before .before .before .before .before .before .before .before .before .before .before .before .before .args .by .state) (length (c .before .before .before .before .before .before .before .before .before .before .before .before .before .before .before .before .before .args .program .now)) (c .before .before .before .before .before .before .before .before .before .before .before .before .before .before .before .before .before .pre .2 .0) (c .before .before .before .before .before .before .before .before .before .before .before .before .before .before .before .before .before .pre .2 .1) (c .before .before .before .before .before .before .before .before .before .before .before .before .before .before .before .before .before .pre .2 .2) (c .before .before .before .before .before .before .before .before .before .before .before .before .before .before .before .before .before .pre .2 .3))) (c .before .before .before .before .before .zero-from .ensures) _ (c .before .before .before .before .before .before .before .before .before .before .before .before .before .before .before .before .before .pre .0)
+write-requires c κs =
+    let args = c .before .before .before .before .before .before .before .before .before .before .before .before .before .before .before .before .before .args in
+    let pre = c .before .before .before .before .before .before .before .before .before .before .before .before .before .before .before .before .before .pre in
+    let shared-slice-known = c .before .before .before .before .before .before .before .before .before .before .before .before .before .before .before .before .shared-slice-known in
+    let write-derivative = c .before .before .before .before .before .before .before .before .before .write-derivative in
+    let zero-from = c .before .before .before .before .before .zero-from in
+    let length2 = length (args .program .now) in
+    let derives-tree2 = derives-tree (args .formula .now) (args .kinds .now) (args .by .symbol) (args .by .state) length2 (pre .2 .0) (pre .2 .1)
+    (pre .2 .2) (pre .2 .3) in
+    fits (args .formula .now) (args .kinds .now) (args .by .symbol) (args .by .state) length2 (pre .2 .0) (pre .2 .1) (pre .2 .2) (pre .2 .3)
+    (λ i. omega (arith, shared-slice-known .given i)) (args .tree .now) (write-derivative .last .1 .1 .1 .1 .0) (zero-from .last .0)
+    (write-derivative .result) (pre .1 .room (pre .2 .2) derives-tree2) (write-derivative .ensures (pre .2 .2) derives-tree2) (zero-from .ensures) _
+    (pre .0)
 
 same-length : tie.Need-same-length
 same-length c = search needs
@@ -31,7 +75,37 @@ same-length-3 : tie.Need-same-length-3
 same-length-3 c = search needs
 
 returns : tie.Need-returns
-returns c = λ f ss d D. let R = wrote (c .before .before .before .before .before .before .before .before .before .before .before .before .before .before .before .before .before .before .before .before .before .before .args .formula .now) (c .before .before .before .before .before .before .before .before .before .before .before .before .before .before .before .before .before .before .before .before .before .before .args .kinds .now) (c .before .before .before .before .before .before .before .before .before .before .before .before .before .before .before .before .before .before .before .before .before .before .args .by .symbol) (c .before .before .before .before .before .before .before .before .before .before .before .before .before .before .before .before .before .before .before .before .before .before .args .by .state) (length (c .before .before .before .before .before .before .before .before .before .before .before .before .before .before .before .before .before .before .before .before .before .before .args .program .now)) f ss d D (λ i. omega (arith, c .before .before .before .before .before .before .before .before .before .before .before .before .before .before .before .before .before .before .before .before .before .shared-slice-known .given i)) (c .before .before .before .before .before .before .before .before .before .before .before .before .before .before .before .before .before .before .before .before .before .before .args .tree .now) (c .before .before .before .before .before .before .before .before .before .before .before .before .before .before .write-derivative .last .1 .1 .1 .1 .0) (c .before .before .before .before .before .before .before .before .before .before .zero-from .last .0) (c .before .before .before .before .before .before .before .before .before .before .before .before .before .before .write-derivative .result) (c .before .before .before .before .before .before .before .before .before .before .before .before .before .before .before .before .before .before .before .before .before .before .pre .1 .room d (derives-tree (c .before .before .before .before .before .before .before .before .before .before .before .before .before .before .before .before .before .before .before .before .before .before .args .formula .now) (c .before .before .before .before .before .before .before .before .before .before .before .before .before .before .before .before .before .before .before .before .before .before .args .kinds .now) (c .before .before .before .before .before .before .before .before .before .before .before .before .before .before .before .before .before .before .before .before .before .before .args .by .symbol) (c .before .before .before .before .before .before .before .before .before .before .before .before .before .before .before .before .before .before .before .before .before .before .args .by .state) (length (c .before .before .before .before .before .before .before .before .before .before .before .before .before .before .before .before .before .before .before .before .before .before .args .program .now)) f ss d D)) (c .before .before .before .before .before .before .before .before .before .before .before .before .before .before .write-derivative .ensures d (derives-tree (c .before .before .before .before .before .before .before .before .before .before .before .before .before .before .before .before .before .before .before .before .before .before .args .formula .now) (c .before .before .before .before .before .before .before .before .before .before .before .before .before .before .before .before .before .before .before .before .before .before .args .kinds .now) (c .before .before .before .before .before .before .before .before .before .before .before .before .before .before .before .before .before .before .before .before .before .before .args .by .symbol) (c .before .before .before .before .before .before .before .before .before .before .before .before .before .before .before .before .before .before .before .before .before .before .args .by .state) (length (c .before .before .before .before .before .before .before .before .before .before .before .before .before .before .before .before .before .before .before .before .before .before .args .program .now)) f ss d D)) (c .before .before .before .before .before .before .before .before .before .before .zero-from .ensures) (c .before .before .before .before .before .before .before .before .before .before .before .before .before .before .before .before .before .before .before .before .before .before .args .path .now) (c .before .before .before .before .write .last .1 .1 .0) (c .before .before .before .before .before .before .before .before .before .before .before .before .before .before .before .before .before .before .before .before .before .before .args .program .now) (c .before .before .before .before .write .last .1 .0) (c .before .before .before .before .write .ensures .1) (c .before .before .before .before .write .ensures .2) in (nodes (c .before .before .before .before .before .before .before .before .before .before .before .before .before .before .before .before .before .before .before .before .before .before .args .formula .now) (c .before .before .before .before .before .before .before .before .before .before .before .before .before .before .before .before .before .before .before .before .before .before .args .kinds .now) (c .before .before .before .before .before .before .before .before .before .before .before .before .before .before .before .before .before .before .before .before .before .before .args .by .symbol) (c .before .before .before .before .before .before .before .before .before .before .before .before .before .before .before .before .before .before .before .before .before .before .args .by .state) (length (c .before .before .before .before .before .before .before .before .before .before .before .before .before .before .before .before .before .before .before .before .before .before .args .program .now)) f ss d D (λ i. omega (arith, c .before .before .before .before .before .before .before .before .before .before .before .before .before .before .before .before .before .before .before .before .before .shared-slice-known .given i)) (c .before .before .before .before .before .before .before .before .before .before .before .before .before .before .before .before .before .before .before .before .before .before .args .tree .now) (c .before .before .before .before .before .before .before .before .before .before .before .before .before .before .write-derivative .last .1 .1 .1 .1 .0) (c .before .before .before .before .before .before .before .before .before .before .zero-from .last .0) (c .before .before .before .before .before .before .before .before .before .before .before .before .before .before .write-derivative .result) (c .before .before .before .before .before .before .before .before .before .before .before .before .before .before .before .before .before .before .before .before .before .before .pre .1 .room d (derives-tree (c .before .before .before .before .before .before .before .before .before .before .before .before .before .before .before .before .before .before .before .before .before .before .args .formula .now) (c .before .before .before .before .before .before .before .before .before .before .before .before .before .before .before .before .before .before .before .before .before .before .args .kinds .now) (c .before .before .before .before .before .before .before .before .before .before .before .before .before .before .before .before .before .before .before .before .before .before .args .by .symbol) (c .before .before .before .before .before .before .before .before .before .before .before .before .before .before .before .before .before .before .before .before .before .before .args .by .state) (length (c .before .before .before .before .before .before .before .before .before .before .before .before .before .before .before .before .before .before .before .before .before .before .args .program .now)) f ss d D)) (c .before .before .before .before .before .before .before .before .before .before .before .before .before .before .write-derivative .ensures d (derives-tree (c .before .before .before .before .before .before .before .before .before .before .before .before .before .before .before .before .before .before .before .before .before .before .args .formula .now) (c .before .before .before .before .before .before .before .before .before .before .before .before .before .before .before .before .before .before .before .before .before .before .args .kinds .now) (c .before .before .before .before .before .before .before .before .before .before .before .before .before .before .before .before .before .before .before .before .before .before .args .by .symbol) (c .before .before .before .before .before .before .before .before .before .before .before .before .before .before .before .before .before .before .before .before .before .before .args .by .state) (length (c .before .before .before .before .before .before .before .before .before .before .before .before .before .before .before .before .before .before .before .before .before .before .args .program .now)) f ss d D)) (c .before .before .before .before .before .before .before .before .before .before .zero-from .ensures), R .0, tree-filled (c .before .before .before .before .before .before .before .before .before .before .before .before .before .before .before .before .before .before .before .before .before .before .args .formula .now) (c .before .before .before .before .before .before .before .before .before .before .before .before .before .before .before .before .before .before .before .before .before .before .args .kinds .now) (c .before .before .before .before .before .before .before .before .before .before .before .before .before .before .before .before .before .before .before .before .before .before .args .by .symbol) (c .before .before .before .before .before .before .before .before .before .before .before .before .before .before .before .before .before .before .before .before .before .before .args .by .state) (length (c .before .before .before .before .before .before .before .before .before .before .before .before .before .before .before .before .before .before .before .before .before .before .args .program .now)) f ss d D (λ i. omega (arith, c .before .before .before .before .before .before .before .before .before .before .before .before .before .before .before .before .before .before .before .before .before .shared-slice-known .given i)) (c .before .before .before .before .before .before .before .before .before .before .before .before .before .before .before .before .before .before .before .before .before .before .args .tree .now) (c .before .before .before .before .before .before .before .before .before .before .before .before .before .before .write-derivative .last .1 .1 .1 .1 .0) (c .before .before .before .before .before .before .before .before .before .before .zero-from .last .0) (c .before .before .before .before .before .before .before .before .before .before .before .before .before .before .write-derivative .result) (c .before .before .before .before .before .before .before .before .before .before .before .before .before .before .before .before .before .before .before .before .before .before .pre .1 .room d (derives-tree (c .before .before .before .before .before .before .before .before .before .before .before .before .before .before .before .before .before .before .before .before .before .before .args .formula .now) (c .before .before .before .before .before .before .before .before .before .before .before .before .before .before .before .before .before .before .before .before .before .before .args .kinds .now) (c .before .before .before .before .before .before .before .before .before .before .before .before .before .before .before .before .before .before .before .before .before .before .args .by .symbol) (c .before .before .before .before .before .before .before .before .before .before .before .before .before .before .before .before .before .before .before .before .before .before .args .by .state) (length (c .before .before .before .before .before .before .before .before .before .before .before .before .before .before .before .before .before .before .before .before .before .before .args .program .now)) f ss d D)) (c .before .before .before .before .before .before .before .before .before .before .before .before .before .before .write-derivative .ensures d (derives-tree (c .before .before .before .before .before .before .before .before .before .before .before .before .before .before .before .before .before .before .before .before .before .before .args .formula .now) (c .before .before .before .before .before .before .before .before .before .before .before .before .before .before .before .before .before .before .before .before .before .before .args .kinds .now) (c .before .before .before .before .before .before .before .before .before .before .before .before .before .before .before .before .before .before .before .before .before .before .args .by .symbol) (c .before .before .before .before .before .before .before .before .before .before .before .before .before .before .before .before .before .before .before .before .before .before .args .by .state) (length (c .before .before .before .before .before .before .before .before .before .before .before .before .before .before .before .before .before .before .before .before .before .before .args .program .now)) f ss d D)) (c .before .before .before .before .before .before .before .before .before .before .zero-from .ensures), R .1)
+returns c =
+    let args = c .before .before .before .before .before .before .before .before .before .before .before .before .before .before .before .before .before .before .before .before .before .before .args in
+    let pre = c .before .before .before .before .before .before .before .before .before .before .before .before .before .before .before .before .before .before .before .before .before .before .pre in
+    let shared-slice-known = c .before .before .before .before .before .before .before .before .before .before .before .before .before .before .before .before .before .before .before .before .before .shared-slice-known in
+    let write-derivative = c .before .before .before .before .before .before .before .before .before .before .before .before .before .before .write-derivative in
+    let zero-from = c .before .before .before .before .before .before .before .before .before .before .zero-from in
+    let write = c .before .before .before .before .write in
+    let tree = args .tree .now in
+    let state = args .by .state in
+    let symbol = args .by .symbol in
+    let kinds = args .kinds .now in
+    let zero-from-says = zero-from .ensures in
+    let zero-from-bytes = zero-from .last .0 in
+    let formula = args .formula .now in
+    let write-derivative-gives = write-derivative .result in
+    let length2 = length (args .program .now) in
+    let last = write-derivative .last .1 .1 .1 .1 .0 in
+    λ f ss d D.
+    let R = wrote formula kinds symbol state length2 f ss d D (λ i. omega (arith, shared-slice-known .given i)) tree last zero-from-bytes
+    write-derivative-gives (pre .1 .room d (derives-tree formula kinds symbol state length2 f ss d D))
+    (write-derivative .ensures d (derives-tree formula kinds symbol state length2 f ss d D)) zero-from-says (args .path .now) (write .last .1 .1 .0)
+    (args .program .now) (write .last .1 .0) (write .ensures .1) (write .ensures .2) in (
+      nodes formula kinds symbol state length2 f ss d D (λ i. omega (arith, shared-slice-known .given i)) tree last zero-from-bytes
+          write-derivative-gives (pre .1 .room d (derives-tree formula kinds symbol state length2 f ss d D))
+          (write-derivative .ensures d (derives-tree formula kinds symbol state length2 f ss d D)) zero-from-says,
+      R .0,
+      tree-filled formula kinds symbol state length2 f ss d D (λ i. omega (arith, shared-slice-known .given i)) tree last zero-from-bytes
+          write-derivative-gives (pre .1 .room d (derives-tree formula kinds symbol state length2 f ss d D))
+          (write-derivative .ensures d (derives-tree formula kinds symbol state length2 f ss d D)) zero-from-says,
+      R .1,
+    )
 
 pub write-both-spec : {M : Type 1} → statement M
 write-both-spec =

@@ -104,7 +104,8 @@ abbrev operands-below : ℕ → In 3 operands-kinds.ps
 operands-below t =
     and 3 operands-kinds.ps (falls 3 operands-kinds.ps _<_ μ-operands t) operands.Pre
 
-branch-unsupported-requires : (t : ℕ) → branch-lts.Need-unsupported-requires (
+abbrev branch-calls : ℕ → branch-lts.Claims
+branch-calls t = (
   unsupported-reads.Asked,
   unsupported-reads.Learnt,
   ahead-reads.Asked,
@@ -115,1748 +116,1426 @@ branch-unsupported-requires : (t : ℕ) → branch-lts.Need-unsupported-requires
   put-row-reads.Learnt,
   join-reads.Asked,
   join-reads.Learnt,
-) (branch-at t) branch.Post
+)
+
+abbrev link-calls : ℕ → link-lts.Claims
+link-calls t = (lower-below t, lower.Post, branch-below t, branch.Post)
+
+abbrev lower-calls : ℕ → lower-lts.Claims
+lower-calls t = (enter-reads.Asked, enter-reads.Learnt, constant-reads.Asked, constant-reads.Learnt, node-below t, node.Post, link-below t, link.Post)
+
+abbrev node-calls : ℕ → node-lts.Claims
+node-calls t = (
+  node-reads.Asked,
+  node-reads.Learnt,
+  lower-leaf-reads.Asked,
+  lower-leaf-reads.Learnt,
+  link-below t,
+  link.Post,
+  chooses-reads.Asked,
+  chooses-reads.Learnt,
+  lower-below t,
+  lower.Post,
+  branch-below t,
+  branch.Post,
+  takes-reads.Asked,
+  takes-reads.Learnt,
+  listing-reads.Asked,
+  listing-reads.Learnt,
+  operands-below t,
+  operands.Post,
+  finish-reads.Asked,
+  finish-reads.Learnt,
+)
+
+abbrev operands-calls : ℕ → operands-lts.Claims
+operands-calls t = (
+  no-operands-reads.Asked,
+  no-operands-reads.Learnt,
+  lower-below t,
+  lower.Post,
+  operands-below t,
+  operands.Post,
+  same-reads.Asked,
+  same-reads.Learnt,
+  list-entry-reads.Asked,
+  list-entry-reads.Learnt,
+  all-reads.Asked,
+  all-reads.Learnt,
+  any-reads.Asked,
+  any-reads.Learnt,
+)
+
+branch-unsupported-requires : (t : ℕ) → branch-lts.Need-unsupported-requires (branch-calls t) (branch-at t) branch.Post
 branch-unsupported-requires t c κs = search needs
 
-branch-returns : (t : ℕ) → branch-lts.Need-returns (
-  unsupported-reads.Asked,
-  unsupported-reads.Learnt,
-  ahead-reads.Asked,
-  ahead-reads.Learnt,
-  lower-below t,
-  lower.Post,
-  put-row-reads.Asked,
-  put-row-reads.Learnt,
-  join-reads.Asked,
-  join-reads.Learnt,
-) (branch-at t) branch.Post
-branch-returns t c = choices.unsupported-here (context-of (c .before .before .before .before .before .before .args .kinds .now) (c .before .before .before .before .before .before .args .l .generated)) refl (arm (c .before .before .before .before .before .before .args .b .now) (c .before .before .before .before .before .before .args .d) (c .before .before .before .before .before .before .args .conjunction) (c .before .before .before .before .before .before .args .yes) (c .before .before .before .before .before .before .args .c .node)) (arm (c .before .before .before .before .before .before .args .b .now) (c .before .before .before .before .before .before .args .d) (c .before .before .before .before .before .before .args .conjunction) (c .before .before .before .before .before .before .args .no) (past (c .before .before .before .before .before .before .args .b .now) (c .before .before .before .before .before .before .args .d) (c .before .before .before .before .before .before .args .yes) (c .before .before .before .before .before .before .args .c .node))) (c .before .before .before .before .before .before .args .v) (past (c .before .before .before .before .before .before .args .b .now) (c .before .before .before .before .before .before .args .d) (c .before .before .before .before .before .before .args .yes) (c .before .before .before .before .before .before .args .c .node)) (past (c .before .before .before .before .before .before .args .b .now) (c .before .before .before .before .before .before .args .d) (c .before .before .before .before .before .before .args .no) (past (c .before .before .before .before .before .before .args .b .now) (c .before .before .before .before .before .before .args .d) (c .before .before .before .before .before .before .args .yes) (c .before .before .before .before .before .before .args .c .node))) (c .before .before .before .before .before .before .pre .1 .0) (c .before .before .if1 .taken) (c .before .unsupported .result) (c .before .unsupported .ensures) (c .if2 .taken)
+branch-returns : (t : ℕ) → branch-lts.Need-returns (branch-calls t) (branch-at t) branch.Post
+branch-returns t c =
+    let args = c .before .before .before .before .before .before .args in
+    let pre = c .before .before .before .before .before .before .pre in
+    let b = args .b .now in
+    let after-yes = past b (args .d) (args .yes) (args .c .node) in
+    choices.unsupported-here (context-of (args .kinds .now) (args .l .generated)) refl
+    (arm b (args .d) (args .conjunction) (args .yes) (args .c .node)) (arm b (args .d) (args .conjunction) (args .no) after-yes) (args .v) after-yes
+    (past b (args .d) (args .no) after-yes) (pre .1 .0) (c .before .before .if1 .taken) (c .before .unsupported .result)
+    (c .before .unsupported .ensures) (c .if2 .taken)
 
-branch-ahead-requires : (t : ℕ) → branch-lts.Need-ahead-requires (
-  unsupported-reads.Asked,
-  unsupported-reads.Learnt,
-  ahead-reads.Asked,
-  ahead-reads.Learnt,
-  lower-below t,
-  lower.Post,
-  put-row-reads.Asked,
-  put-row-reads.Learnt,
-  join-reads.Asked,
-  join-reads.Learnt,
-) (branch-at t) branch.Post
-branch-ahead-requires t c κs = (omega (arith, c .before .before .before .before .before .before .good .1 .0 .0, (c .before .before .before .before .before .before .pre .1 .0) .code, (c .before .before .before .before .before .before .pre .1 .0) .records, (c .before .before .before .before .before .before .pre .1 .0) .lists, (c .before .before .before .before .before .before .pre .1 .0) .registers), omega (arith, c .before .before .before .before .before .before .good .1 .0 .0, (c .before .before .before .before .before .before .pre .1 .0) .code, (c .before .before .before .before .before .before .pre .1 .0) .records, (c .before .before .before .before .before .before .pre .1 .0) .lists, (c .before .before .before .before .before .before .pre .1 .0) .registers))
+branch-ahead-requires : (t : ℕ) → branch-lts.Need-ahead-requires (branch-calls t) (branch-at t) branch.Post
+branch-ahead-requires t c κs =
+    let good = c .before .before .before .before .before .before .good in
+    let pre = c .before .before .before .before .before .before .pre in
+    let ready = pre .1 .0 in (
+      omega (arith, good .1 .0 .0, ready .code, ready .records, ready .lists, ready .registers),
+      omega (arith, good .1 .0 .0, ready .code, ready .records, ready .lists, ready .registers),
+    )
 
-branch-lower-requires : (t : ℕ) → branch-lts.Need-lower-requires (
-  unsupported-reads.Asked,
-  unsupported-reads.Learnt,
-  ahead-reads.Asked,
-  ahead-reads.Learnt,
-  lower-below t,
-  lower.Post,
-  put-row-reads.Asked,
-  put-row-reads.Learnt,
-  join-reads.Asked,
-  join-reads.Learnt,
-) (branch-at t) branch.Post
-branch-lower-requires t c κs = (omega (arith, c .before .before .before .before .before .before .before .before .pre .0), (ready-to (c .before .before .before .before .before .before .before .before .args .b .now) (c .before .before .before .before .before .before .before .before .args .d) (c .before .before .before .before .before .before .before .before .args .conjunction) (c .before .before .before .before .before .before .before .before .args .yes) _ (further (c .before .before .before .before .before .before .before .before .args .c) 1) (c .before .ahead .ensures) (choices.ready-first (context-of (c .before .before .before .before .before .before .before .before .args .kinds .now) (c .before .before .before .before .before .before .before .before .args .l .generated)) refl (arm (c .before .before .before .before .before .before .before .before .args .b .now) (c .before .before .before .before .before .before .before .before .args .d) (c .before .before .before .before .before .before .before .before .args .conjunction) (c .before .before .before .before .before .before .before .before .args .yes) (c .before .before .before .before .before .before .before .before .args .c .node)) (arm (c .before .before .before .before .before .before .before .before .args .b .now) (c .before .before .before .before .before .before .before .before .args .d) (c .before .before .before .before .before .before .before .before .args .conjunction) (c .before .before .before .before .before .before .before .before .args .no) (past (c .before .before .before .before .before .before .before .before .args .b .now) (c .before .before .before .before .before .before .before .before .args .d) (c .before .before .before .before .before .before .before .before .args .yes) (c .before .before .before .before .before .before .before .before .args .c .node))) (c .before .before .before .before .before .before .before .before .args .v) (past (c .before .before .before .before .before .before .before .before .args .b .now) (c .before .before .before .before .before .before .before .before .args .d) (c .before .before .before .before .before .before .before .before .args .yes) (c .before .before .before .before .before .before .before .before .args .c .node)) (past (c .before .before .before .before .before .before .before .before .args .b .now) (c .before .before .before .before .before .before .before .before .args .d) (c .before .before .before .before .before .before .before .before .args .no) (past (c .before .before .before .before .before .before .before .before .args .b .now) (c .before .before .before .before .before .before .before .before .args .d) (c .before .before .before .before .before .before .before .before .args .yes) (c .before .before .before .before .before .before .before .before .args .c .node))) (c .before .before .before .before .before .before .before .before .pre .1 .0) (c .before .before .before .before .if1 .taken) (c .before .before .before .unsupported .result) (c .before .before .before .unsupported .ensures) (c .before .before .if2 .left)), (well-to (c .before .before .before .before .before .before .before .before .args .b .now) (c .before .before .before .before .before .before .before .before .args .d) (c .before .before .before .before .before .before .before .before .args .yes) _ (further (c .before .before .before .before .before .before .before .before .args .c) 1) (c .before .ahead .ensures) (c .before .before .before .before .before .before .before .before .pre .1 .1 .0), omega arith, c .before .before .before .before .before .before .before .before .pre .1 .1 .2)))
+branch-lower-requires : (t : ℕ) → branch-lts.Need-lower-requires (branch-calls t) (branch-at t) branch.Post
+branch-lower-requires t c κs =
+    let pre = c .before .before .before .before .before .before .before .before .pre in
+    let args = c .before .before .before .before .before .before .before .before .args in
+    let unsupported = c .before .before .before .unsupported in
+    let b = args .b .now in
+    let conjunction = args .conjunction in
+    let ensures = c .before .ahead .ensures in
+    let after-yes = past b (args .d) (args .yes) (args .c .node) in (
+      omega (arith, pre .0),
+      (
+        ready-to b (args .d) conjunction (args .yes) _ (further (args .c) 1) ensures (choices.ready-first
+            (context-of (args .kinds .now) (args .l .generated)) refl (arm b (args .d) conjunction (args .yes) (args .c .node))
+            (arm b (args .d) conjunction (args .no) after-yes) (args .v) after-yes (past b (args .d) (args .no) after-yes) (pre .1 .0)
+            (c .before .before .before .before .if1 .taken) (unsupported .result) (unsupported .ensures) (c .before .before .if2 .left)),
+        (well-to b (args .d) (args .yes) _ (further (args .c) 1) ensures (pre .1 .1 .0), omega arith, pre .1 .1 .2),
+      ),
+    )
 
-branch-enum-known-a : (t : ℕ) → branch-lts.Need-enum-known-a (
-  unsupported-reads.Asked,
-  unsupported-reads.Learnt,
-  ahead-reads.Asked,
-  ahead-reads.Learnt,
-  lower-below t,
-  lower.Post,
-  put-row-reads.Asked,
-  put-row-reads.Learnt,
-  join-reads.Asked,
-  join-reads.Learnt,
-) (branch-at t) branch.Post
+branch-enum-known-a : (t : ℕ) → branch-lts.Need-enum-known-a (branch-calls t) (branch-at t) branch.Post
 branch-enum-known-a t c = search needs
 
-branch-enum-told : (t : ℕ) → branch-lts.Need-enum-told (
-  unsupported-reads.Asked,
-  unsupported-reads.Learnt,
-  ahead-reads.Asked,
-  ahead-reads.Learnt,
-  lower-below t,
-  lower.Post,
-  put-row-reads.Asked,
-  put-row-reads.Learnt,
-  join-reads.Asked,
-  join-reads.Learnt,
-) (branch-at t) branch.Post
+branch-enum-told : (t : ℕ) → branch-lts.Need-enum-told (branch-calls t) (branch-at t) branch.Post
 branch-enum-told t c = search needs
 
-branch-same-length : (t : ℕ) → branch-lts.Need-same-length (
-  unsupported-reads.Asked,
-  unsupported-reads.Learnt,
-  ahead-reads.Asked,
-  ahead-reads.Learnt,
-  lower-below t,
-  lower.Post,
-  put-row-reads.Asked,
-  put-row-reads.Learnt,
-  join-reads.Asked,
-  join-reads.Learnt,
-) (branch-at t) branch.Post
+branch-same-length : (t : ℕ) → branch-lts.Need-same-length (branch-calls t) (branch-at t) branch.Post
 branch-same-length t c = search needs
 
-branch-returns-2 : (t : ℕ) → branch-lts.Need-returns-2 (
-  unsupported-reads.Asked,
-  unsupported-reads.Learnt,
-  ahead-reads.Asked,
-  ahead-reads.Learnt,
-  lower-below t,
-  lower.Post,
-  put-row-reads.Asked,
-  put-row-reads.Learnt,
-  join-reads.Asked,
-  join-reads.Learnt,
-) (branch-at t) branch.Post
-branch-returns-2 t c = choices.first-refused (context-of (c .before .before .before .before .before .before .before .before .before .before .before .before .before .args .kinds .now) (c .before .before .before .before .before .before .before .before .before .before .before .before .before .args .l .generated)) refl (arm (c .before .before .before .before .before .before .before .before .before .before .before .before .before .args .b .now) (c .before .before .before .before .before .before .before .before .before .before .before .before .before .args .d) (c .before .before .before .before .before .before .before .before .before .before .before .before .before .args .conjunction) (c .before .before .before .before .before .before .before .before .before .before .before .before .before .args .yes) (c .before .before .before .before .before .before .before .before .before .before .before .before .before .args .c .node)) (arm (c .before .before .before .before .before .before .before .before .before .before .before .before .before .args .b .now) (c .before .before .before .before .before .before .before .before .before .before .before .before .before .args .d) (c .before .before .before .before .before .before .before .before .before .before .before .before .before .args .conjunction) (c .before .before .before .before .before .before .before .before .before .before .before .before .before .args .no) (past (c .before .before .before .before .before .before .before .before .before .before .before .before .before .args .b .now) (c .before .before .before .before .before .before .before .before .before .before .before .before .before .args .d) (c .before .before .before .before .before .before .before .before .before .before .before .before .before .args .yes) (c .before .before .before .before .before .before .before .before .before .before .before .before .before .args .c .node))) (c .before .before .before .before .before .before .before .before .before .before .before .before .before .args .v) (past (c .before .before .before .before .before .before .before .before .before .before .before .before .before .args .b .now) (c .before .before .before .before .before .before .before .before .before .before .before .before .before .args .d) (c .before .before .before .before .before .before .before .before .before .before .before .before .before .args .yes) (c .before .before .before .before .before .before .before .before .before .before .before .before .before .args .c .node)) (past (c .before .before .before .before .before .before .before .before .before .before .before .before .before .args .b .now) (c .before .before .before .before .before .before .before .before .before .before .before .before .before .args .d) (c .before .before .before .before .before .before .before .before .before .before .before .before .before .args .no) (past (c .before .before .before .before .before .before .before .before .before .before .before .before .before .args .b .now) (c .before .before .before .before .before .before .before .before .before .before .before .before .before .args .d) (c .before .before .before .before .before .before .before .before .before .before .before .before .before .args .yes) (c .before .before .before .before .before .before .before .before .before .before .before .before .before .args .c .node))) (c .before .before .before .before .before .before .before .before .before .before .before .before .before .pre .1 .0) (c .before .before .before .before .before .before .before .before .before .if1 .taken) (c .before .before .before .before .before .before .before .before .unsupported .result) (c .before .before .before .before .before .before .before .before .unsupported .ensures) (c .before .before .before .before .before .before .before .if2 .left) (c .before .before .before .before .lower .last .1 .0) (c .before .before .before .before .lower .result) (c .enum-told .given .0 .0) (c .enum-told .given .0 .1 .0) (refused _ _ _ _ _ _ (c .enum-told .given .0 .0) (c .enum-told .given .0 .1 .0) (arm-from _ _ (c .before .before .before .before .before .before .before .before .before .before .before .before .before .args .b .now) (c .before .before .before .before .before .before .before .before .before .before .before .before .before .args .d) (c .before .before .before .before .before .before .before .before .before .before .before .before .before .args .conjunction) (c .before .before .before .before .before .before .before .before .before .before .before .before .before .args .yes) _ _ _ _ _ _ (further (c .before .before .before .before .before .before .before .before .before .before .before .before .before .args .c) 1) (c .before .before .before .before .before .before .ahead .ensures) (c .before .before .before .before .lower .ensures)) (c .enum-told .given .1)) (c .enum-told .given .1)
+branch-returns-2 : (t : ℕ) → branch-lts.Need-returns-2 (branch-calls t) (branch-at t) branch.Post
+branch-returns-2 t c =
+    let args = c .before .before .before .before .before .before .before .before .before .before .before .before .before .args in
+    let pre = c .before .before .before .before .before .before .before .before .before .before .before .before .before .pre in
+    let if1 = c .before .before .before .before .before .before .before .before .before .if1 in
+    let unsupported = c .before .before .before .before .before .before .before .before .unsupported in
+    let if2 = c .before .before .before .before .before .before .before .if2 in
+    let ahead = c .before .before .before .before .before .before .ahead in
+    let lower = c .before .before .before .before .lower in
+    let b = args .b .now in
+    let conjunction = args .conjunction in
+    let given3 = c .enum-told .given .0 .0 in
+    let given2 = c .enum-told .given .0 .1 .0 in
+    let after-yes = past b (args .d) (args .yes) (args .c .node) in
+    choices.first-refused (context-of (args .kinds .now) (args .l .generated)) refl (arm b (args .d) conjunction (args .yes) (args .c .node))
+    (arm b (args .d) conjunction (args .no) after-yes) (args .v) after-yes (past b (args .d) (args .no) after-yes) (pre .1 .0) (if1 .taken)
+    (unsupported .result) (unsupported .ensures) (if2 .left) (lower .last .1 .0) (lower .result) given3 given2 (refused _ _ _ _ _ _ given3 given2
+    (arm-from _ _ b (args .d) conjunction (args .yes) _ _ _ _ _ _ (further (args .c) 1) (ahead .ensures) (lower .ensures)) (c .enum-told .given .1))
+    (c .enum-told .given .1)
 
-branch-add-put-row : (t : ℕ) → branch-lts.Need-add-put-row (
-  unsupported-reads.Asked,
-  unsupported-reads.Learnt,
-  ahead-reads.Asked,
-  ahead-reads.Learnt,
-  lower-below t,
-  lower.Post,
-  put-row-reads.Asked,
-  put-row-reads.Learnt,
-  join-reads.Asked,
-  join-reads.Learnt,
-) (branch-at t) branch.Post
-branch-add-put-row t c = omega (arith, choices.is-code (context-of (c .before .before .before .before .before .before .before .before .before .before .before .before .before .before .before .before .args .kinds .now) (c .before .before .before .before .before .before .before .before .before .before .before .before .before .before .before .before .args .l .generated)) refl (arm (c .before .before .before .before .before .before .before .before .before .before .before .before .before .before .before .before .args .b .now) (c .before .before .before .before .before .before .before .before .before .before .before .before .before .before .before .before .args .d) (c .before .before .before .before .before .before .before .before .before .before .before .before .before .before .before .before .args .conjunction) (c .before .before .before .before .before .before .before .before .before .before .before .before .before .before .before .before .args .yes) (c .before .before .before .before .before .before .before .before .before .before .before .before .before .before .before .before .args .c .node)) (arm (c .before .before .before .before .before .before .before .before .before .before .before .before .before .before .before .before .args .b .now) (c .before .before .before .before .before .before .before .before .before .before .before .before .before .before .before .before .args .d) (c .before .before .before .before .before .before .before .before .before .before .before .before .before .before .before .before .args .conjunction) (c .before .before .before .before .before .before .before .before .before .before .before .before .before .before .before .before .args .no) (past (c .before .before .before .before .before .before .before .before .before .before .before .before .before .before .before .before .args .b .now) (c .before .before .before .before .before .before .before .before .before .before .before .before .before .before .before .before .args .d) (c .before .before .before .before .before .before .before .before .before .before .before .before .before .before .before .before .args .yes) (c .before .before .before .before .before .before .before .before .before .before .before .before .before .before .before .before .args .c .node))) (c .before .before .before .before .before .before .before .before .before .before .before .before .before .before .before .before .args .v) (past (c .before .before .before .before .before .before .before .before .before .before .before .before .before .before .before .before .args .b .now) (c .before .before .before .before .before .before .before .before .before .before .before .before .before .before .before .before .args .d) (c .before .before .before .before .before .before .before .before .before .before .before .before .before .before .before .before .args .yes) (c .before .before .before .before .before .before .before .before .before .before .before .before .before .before .before .before .args .c .node)) (past (c .before .before .before .before .before .before .before .before .before .before .before .before .before .before .before .before .args .b .now) (c .before .before .before .before .before .before .before .before .before .before .before .before .before .before .before .before .args .d) (c .before .before .before .before .before .before .before .before .before .before .before .before .before .before .before .before .args .no) (past (c .before .before .before .before .before .before .before .before .before .before .before .before .before .before .before .before .args .b .now) (c .before .before .before .before .before .before .before .before .before .before .before .before .before .before .before .before .args .d) (c .before .before .before .before .before .before .before .before .before .before .before .before .before .before .before .before .args .yes) (c .before .before .before .before .before .before .before .before .before .before .before .before .before .before .before .before .args .c .node))) (c .before .before .before .before .before .before .before .before .before .before .before .before .before .before .before .before .pre .1 .0) (c .before .before .before .before .before .before .before .before .before .before .before .before .if1 .taken) (c .before .before .before .before .before .before .before .before .before .before .before .unsupported .result) (c .before .before .before .before .before .before .before .before .before .before .before .unsupported .ensures) (c .before .before .before .before .before .before .before .before .before .before .if2 .left) (c .before .before .before .before .before .before .before .lower .last .1 .0) (c .before .before .before .a .given .0 .0) (c .before .before .before .a .given .0 .1 .0) (taken _ _ _ _ _ _ (c .before .before .before .a .given .0 .0) (c .before .before .before .a .given .0 .1 .0) (arm-from _ _ (c .before .before .before .before .before .before .before .before .before .before .before .before .before .before .before .before .args .b .now) (c .before .before .before .before .before .before .before .before .before .before .before .before .before .before .before .before .args .d) (c .before .before .before .before .before .before .before .before .before .before .before .before .before .before .before .before .args .conjunction) (c .before .before .before .before .before .before .before .before .before .before .before .before .before .before .before .before .args .yes) _ _ _ _ _ _ (further (c .before .before .before .before .before .before .before .before .before .before .before .before .before .before .before .before .args .c) 1) (c .before .before .before .before .before .before .before .before .before .ahead .ensures) (c .before .before .before .before .before .before .before .lower .ensures)) (c .before .before .before .a .given .1)), c .before .before .before .before .before .before .before .before .before .before .before .before .before .before .before .before .good .1 .0 .0, (c .before .before .before .before .before .before .before .before .before .before .before .before .before .before .before .before .pre .1 .0) .code, (c .before .before .before .before .before .before .before .before .before .before .before .before .before .before .before .before .pre .1 .0) .records, (c .before .before .before .before .before .before .before .before .before .before .before .before .before .before .before .before .pre .1 .0) .lists)
+branch-add-put-row : (t : ℕ) → branch-lts.Need-add-put-row (branch-calls t) (branch-at t) branch.Post
+branch-add-put-row t c =
+    let args = c .before .before .before .before .before .before .before .before .before .before .before .before .before .before .before .before .args in
+    let pre = c .before .before .before .before .before .before .before .before .before .before .before .before .before .before .before .before .pre in
+    let good = c .before .before .before .before .before .before .before .before .before .before .before .before .before .before .before .before .good in
+    let if1 = c .before .before .before .before .before .before .before .before .before .before .before .before .if1 in
+    let unsupported = c .before .before .before .before .before .before .before .before .before .before .before .unsupported in
+    let if2 = c .before .before .before .before .before .before .before .before .before .before .if2 in
+    let ahead = c .before .before .before .before .before .before .before .before .before .ahead in
+    let lower = c .before .before .before .before .before .before .before .lower in
+    let a = c .before .before .before .a in
+    let b = args .b .now in
+    let conjunction = args .conjunction in
+    let after-yes = past b (args .d) (args .yes) (args .c .node) in
+    omega (
+      arith,
+      choices.is-code (context-of (args .kinds .now) (args .l .generated)) refl (arm b (args .d) conjunction (args .yes) (args .c .node))
+          (arm b (args .d) conjunction (args .no) after-yes) (args .v) after-yes (past b (args .d) (args .no) after-yes) (pre .1 .0) (if1 .taken)
+          (unsupported .result) (unsupported .ensures) (if2 .left) (lower .last .1 .0) (a .given .0 .0) (a .given .0 .1 .0) (taken _ _ _ _ _ _
+          (a .given .0 .0) (a .given .0 .1 .0)
+          (arm-from _ _ b (args .d) conjunction (args .yes) _ _ _ _ _ _ (further (args .c) 1) (ahead .ensures) (lower .ensures)) (a .given .1)),
+      good .1 .0 .0,
+      (pre .1 .0) .code,
+      (pre .1 .0) .records,
+      (pre .1 .0) .lists,
+    )
 
-branch-put-row-requires : (t : ℕ) → branch-lts.Need-put-row-requires (
-  unsupported-reads.Asked,
-  unsupported-reads.Learnt,
-  ahead-reads.Asked,
-  ahead-reads.Learnt,
-  lower-below t,
-  lower.Post,
-  put-row-reads.Asked,
-  put-row-reads.Learnt,
-  join-reads.Asked,
-  join-reads.Learnt,
-) (branch-at t) branch.Post
-branch-put-row-requires t c κs = (omega (arith, choices.n₁′ (context-of (c .before .before .before .before .before .before .before .before .before .before .before .before .before .before .before .before .args .kinds .now) (c .before .before .before .before .before .before .before .before .before .before .before .before .before .before .before .before .args .l .generated)) refl (arm (c .before .before .before .before .before .before .before .before .before .before .before .before .before .before .before .before .args .b .now) (c .before .before .before .before .before .before .before .before .before .before .before .before .before .before .before .before .args .d) (c .before .before .before .before .before .before .before .before .before .before .before .before .before .before .before .before .args .conjunction) (c .before .before .before .before .before .before .before .before .before .before .before .before .before .before .before .before .args .yes) (c .before .before .before .before .before .before .before .before .before .before .before .before .before .before .before .before .args .c .node)) (arm (c .before .before .before .before .before .before .before .before .before .before .before .before .before .before .before .before .args .b .now) (c .before .before .before .before .before .before .before .before .before .before .before .before .before .before .before .before .args .d) (c .before .before .before .before .before .before .before .before .before .before .before .before .before .before .before .before .args .conjunction) (c .before .before .before .before .before .before .before .before .before .before .before .before .before .before .before .before .args .no) (past (c .before .before .before .before .before .before .before .before .before .before .before .before .before .before .before .before .args .b .now) (c .before .before .before .before .before .before .before .before .before .before .before .before .before .before .before .before .args .d) (c .before .before .before .before .before .before .before .before .before .before .before .before .before .before .before .before .args .yes) (c .before .before .before .before .before .before .before .before .before .before .before .before .before .before .before .before .args .c .node))) (c .before .before .before .before .before .before .before .before .before .before .before .before .before .before .before .before .args .v) (past (c .before .before .before .before .before .before .before .before .before .before .before .before .before .before .before .before .args .b .now) (c .before .before .before .before .before .before .before .before .before .before .before .before .before .before .before .before .args .d) (c .before .before .before .before .before .before .before .before .before .before .before .before .before .before .before .before .args .yes) (c .before .before .before .before .before .before .before .before .before .before .before .before .before .before .before .before .args .c .node)) (past (c .before .before .before .before .before .before .before .before .before .before .before .before .before .before .before .before .args .b .now) (c .before .before .before .before .before .before .before .before .before .before .before .before .before .before .before .before .args .d) (c .before .before .before .before .before .before .before .before .before .before .before .before .before .before .before .before .args .no) (past (c .before .before .before .before .before .before .before .before .before .before .before .before .before .before .before .before .args .b .now) (c .before .before .before .before .before .before .before .before .before .before .before .before .before .before .before .before .args .d) (c .before .before .before .before .before .before .before .before .before .before .before .before .before .before .before .before .args .yes) (c .before .before .before .before .before .before .before .before .before .before .before .before .before .before .before .before .args .c .node))) (c .before .before .before .before .before .before .before .before .before .before .before .before .before .before .before .before .pre .1 .0) (c .before .before .before .before .before .before .before .before .before .before .before .before .if1 .taken) (c .before .before .before .before .before .before .before .before .before .before .before .unsupported .result) (c .before .before .before .before .before .before .before .before .before .before .before .unsupported .ensures) (c .before .before .before .before .before .before .before .before .before .before .if2 .left) (c .before .before .before .before .before .before .before .lower .last .1 .0) (c .before .before .before .a .given .0 .0) (c .before .before .before .a .given .0 .1 .0) (taken _ _ _ _ _ _ (c .before .before .before .a .given .0 .0) (c .before .before .before .a .given .0 .1 .0) (arm-from _ _ (c .before .before .before .before .before .before .before .before .before .before .before .before .before .before .before .before .args .b .now) (c .before .before .before .before .before .before .before .before .before .before .before .before .before .before .before .before .args .d) (c .before .before .before .before .before .before .before .before .before .before .before .before .before .before .before .before .args .conjunction) (c .before .before .before .before .before .before .before .before .before .before .before .before .before .before .before .before .args .yes) _ _ _ _ _ _ (further (c .before .before .before .before .before .before .before .before .before .before .before .before .before .before .before .before .args .c) 1) (c .before .before .before .before .before .before .before .before .before .ahead .ensures) (c .before .before .before .before .before .before .before .lower .ensures)) (c .before .before .before .a .given .1)), (c .before .before .before .before .before .before .before .before .before .before .before .before .before .before .before .before .pre .1 .0) .code, (c .before .before .before .before .before .before .before .before .before .before .before .before .before .before .before .before .pre .1 .0) .records, (c .before .before .before .before .before .before .before .before .before .before .before .before .before .before .before .before .pre .1 .0) .lists), omega arith)
+branch-put-row-requires : (t : ℕ) → branch-lts.Need-put-row-requires (branch-calls t) (branch-at t) branch.Post
+branch-put-row-requires t c κs =
+    let args = c .before .before .before .before .before .before .before .before .before .before .before .before .before .before .before .before .args in
+    let pre = c .before .before .before .before .before .before .before .before .before .before .before .before .before .before .before .before .pre in
+    let if1 = c .before .before .before .before .before .before .before .before .before .before .before .before .if1 in
+    let unsupported = c .before .before .before .before .before .before .before .before .before .before .before .unsupported in
+    let if2 = c .before .before .before .before .before .before .before .before .before .before .if2 in
+    let ahead = c .before .before .before .before .before .before .before .before .before .ahead in
+    let lower = c .before .before .before .before .before .before .before .lower in
+    let a = c .before .before .before .a in
+    let b = args .b .now in
+    let conjunction = args .conjunction in
+    let after-yes = past b (args .d) (args .yes) (args .c .node) in (
+      omega (
+        arith,
+        choices.n₁′ (context-of (args .kinds .now) (args .l .generated)) refl (arm b (args .d) conjunction (args .yes) (args .c .node))
+            (arm b (args .d) conjunction (args .no) after-yes) (args .v) after-yes (past b (args .d) (args .no) after-yes) (pre .1 .0) (if1 .taken)
+            (unsupported .result) (unsupported .ensures) (if2 .left) (lower .last .1 .0) (a .given .0 .0) (a .given .0 .1 .0) (taken _ _ _ _ _ _
+            (a .given .0 .0) (a .given .0 .1 .0)
+            (arm-from _ _ b (args .d) conjunction (args .yes) _ _ _ _ _ _ (further (args .c) 1) (ahead .ensures) (lower .ensures)) (a .given .1)),
+        (pre .1 .0) .code,
+        (pre .1 .0) .records,
+        (pre .1 .0) .lists,
+      ),
+      omega arith,
+    )
 
-branch-put-row-requires-2 : (t : ℕ) → branch-lts.Need-put-row-requires-2 (
-  unsupported-reads.Asked,
-  unsupported-reads.Learnt,
-  ahead-reads.Asked,
-  ahead-reads.Learnt,
-  lower-below t,
-  lower.Post,
-  put-row-reads.Asked,
-  put-row-reads.Learnt,
-  join-reads.Asked,
-  join-reads.Learnt,
-) (branch-at t) branch.Post
-branch-put-row-requires-2 t c κs = (omega (arith, c .before .before .before .put-row .kept .0, choices.n₁′ (context-of (c .before .before .before .before .before .before .before .before .before .before .before .before .before .before .before .before .before .before .before .before .args .kinds .now) (c .before .before .before .before .before .before .before .before .before .before .before .before .before .before .before .before .before .before .before .before .args .l .generated)) refl (arm (c .before .before .before .before .before .before .before .before .before .before .before .before .before .before .before .before .before .before .before .before .args .b .now) (c .before .before .before .before .before .before .before .before .before .before .before .before .before .before .before .before .before .before .before .before .args .d) (c .before .before .before .before .before .before .before .before .before .before .before .before .before .before .before .before .before .before .before .before .args .conjunction) (c .before .before .before .before .before .before .before .before .before .before .before .before .before .before .before .before .before .before .before .before .args .yes) (c .before .before .before .before .before .before .before .before .before .before .before .before .before .before .before .before .before .before .before .before .args .c .node)) (arm (c .before .before .before .before .before .before .before .before .before .before .before .before .before .before .before .before .before .before .before .before .args .b .now) (c .before .before .before .before .before .before .before .before .before .before .before .before .before .before .before .before .before .before .before .before .args .d) (c .before .before .before .before .before .before .before .before .before .before .before .before .before .before .before .before .before .before .before .before .args .conjunction) (c .before .before .before .before .before .before .before .before .before .before .before .before .before .before .before .before .before .before .before .before .args .no) (past (c .before .before .before .before .before .before .before .before .before .before .before .before .before .before .before .before .before .before .before .before .args .b .now) (c .before .before .before .before .before .before .before .before .before .before .before .before .before .before .before .before .before .before .before .before .args .d) (c .before .before .before .before .before .before .before .before .before .before .before .before .before .before .before .before .before .before .before .before .args .yes) (c .before .before .before .before .before .before .before .before .before .before .before .before .before .before .before .before .before .before .before .before .args .c .node))) (c .before .before .before .before .before .before .before .before .before .before .before .before .before .before .before .before .before .before .before .before .args .v) (past (c .before .before .before .before .before .before .before .before .before .before .before .before .before .before .before .before .before .before .before .before .args .b .now) (c .before .before .before .before .before .before .before .before .before .before .before .before .before .before .before .before .before .before .before .before .args .d) (c .before .before .before .before .before .before .before .before .before .before .before .before .before .before .before .before .before .before .before .before .args .yes) (c .before .before .before .before .before .before .before .before .before .before .before .before .before .before .before .before .before .before .before .before .args .c .node)) (past (c .before .before .before .before .before .before .before .before .before .before .before .before .before .before .before .before .before .before .before .before .args .b .now) (c .before .before .before .before .before .before .before .before .before .before .before .before .before .before .before .before .before .before .before .before .args .d) (c .before .before .before .before .before .before .before .before .before .before .before .before .before .before .before .before .before .before .before .before .args .no) (past (c .before .before .before .before .before .before .before .before .before .before .before .before .before .before .before .before .before .before .before .before .args .b .now) (c .before .before .before .before .before .before .before .before .before .before .before .before .before .before .before .before .before .before .before .before .args .d) (c .before .before .before .before .before .before .before .before .before .before .before .before .before .before .before .before .before .before .before .before .args .yes) (c .before .before .before .before .before .before .before .before .before .before .before .before .before .before .before .before .before .before .before .before .args .c .node))) (c .before .before .before .before .before .before .before .before .before .before .before .before .before .before .before .before .before .before .before .before .pre .1 .0) (c .before .before .before .before .before .before .before .before .before .before .before .before .before .before .before .before .if1 .taken) (c .before .before .before .before .before .before .before .before .before .before .before .before .before .before .before .unsupported .result) (c .before .before .before .before .before .before .before .before .before .before .before .before .before .before .before .unsupported .ensures) (c .before .before .before .before .before .before .before .before .before .before .before .before .before .before .if2 .left) (c .before .before .before .before .before .before .before .before .before .before .before .lower .last .1 .0) (c .before .before .before .before .before .before .before .a .given .0 .0) (c .before .before .before .before .before .before .before .a .given .0 .1 .0) (taken _ _ _ _ _ _ (c .before .before .before .before .before .before .before .a .given .0 .0) (c .before .before .before .before .before .before .before .a .given .0 .1 .0) (arm-from _ _ (c .before .before .before .before .before .before .before .before .before .before .before .before .before .before .before .before .before .before .before .before .args .b .now) (c .before .before .before .before .before .before .before .before .before .before .before .before .before .before .before .before .before .before .before .before .args .d) (c .before .before .before .before .before .before .before .before .before .before .before .before .before .before .before .before .before .before .before .before .args .conjunction) (c .before .before .before .before .before .before .before .before .before .before .before .before .before .before .before .before .before .before .before .before .args .yes) _ _ _ _ _ _ (further (c .before .before .before .before .before .before .before .before .before .before .before .before .before .before .before .before .before .before .before .before .args .c) 1) (c .before .before .before .before .before .before .before .before .before .before .before .before .before .ahead .ensures) (c .before .before .before .before .before .before .before .before .before .before .before .lower .ensures)) (c .before .before .before .before .before .before .before .a .given .1)), choices.is-code (context-of (c .before .before .before .before .before .before .before .before .before .before .before .before .before .before .before .before .before .before .before .before .args .kinds .now) (c .before .before .before .before .before .before .before .before .before .before .before .before .before .before .before .before .before .before .before .before .args .l .generated)) refl (arm (c .before .before .before .before .before .before .before .before .before .before .before .before .before .before .before .before .before .before .before .before .args .b .now) (c .before .before .before .before .before .before .before .before .before .before .before .before .before .before .before .before .before .before .before .before .args .d) (c .before .before .before .before .before .before .before .before .before .before .before .before .before .before .before .before .before .before .before .before .args .conjunction) (c .before .before .before .before .before .before .before .before .before .before .before .before .before .before .before .before .before .before .before .before .args .yes) (c .before .before .before .before .before .before .before .before .before .before .before .before .before .before .before .before .before .before .before .before .args .c .node)) (arm (c .before .before .before .before .before .before .before .before .before .before .before .before .before .before .before .before .before .before .before .before .args .b .now) (c .before .before .before .before .before .before .before .before .before .before .before .before .before .before .before .before .before .before .before .before .args .d) (c .before .before .before .before .before .before .before .before .before .before .before .before .before .before .before .before .before .before .before .before .args .conjunction) (c .before .before .before .before .before .before .before .before .before .before .before .before .before .before .before .before .before .before .before .before .args .no) (past (c .before .before .before .before .before .before .before .before .before .before .before .before .before .before .before .before .before .before .before .before .args .b .now) (c .before .before .before .before .before .before .before .before .before .before .before .before .before .before .before .before .before .before .before .before .args .d) (c .before .before .before .before .before .before .before .before .before .before .before .before .before .before .before .before .before .before .before .before .args .yes) (c .before .before .before .before .before .before .before .before .before .before .before .before .before .before .before .before .before .before .before .before .args .c .node))) (c .before .before .before .before .before .before .before .before .before .before .before .before .before .before .before .before .before .before .before .before .args .v) (past (c .before .before .before .before .before .before .before .before .before .before .before .before .before .before .before .before .before .before .before .before .args .b .now) (c .before .before .before .before .before .before .before .before .before .before .before .before .before .before .before .before .before .before .before .before .args .d) (c .before .before .before .before .before .before .before .before .before .before .before .before .before .before .before .before .before .before .before .before .args .yes) (c .before .before .before .before .before .before .before .before .before .before .before .before .before .before .before .before .before .before .before .before .args .c .node)) (past (c .before .before .before .before .before .before .before .before .before .before .before .before .before .before .before .before .before .before .before .before .args .b .now) (c .before .before .before .before .before .before .before .before .before .before .before .before .before .before .before .before .before .before .before .before .args .d) (c .before .before .before .before .before .before .before .before .before .before .before .before .before .before .before .before .before .before .before .before .args .no) (past (c .before .before .before .before .before .before .before .before .before .before .before .before .before .before .before .before .before .before .before .before .args .b .now) (c .before .before .before .before .before .before .before .before .before .before .before .before .before .before .before .before .before .before .before .before .args .d) (c .before .before .before .before .before .before .before .before .before .before .before .before .before .before .before .before .before .before .before .before .args .yes) (c .before .before .before .before .before .before .before .before .before .before .before .before .before .before .before .before .before .before .before .before .args .c .node))) (c .before .before .before .before .before .before .before .before .before .before .before .before .before .before .before .before .before .before .before .before .pre .1 .0) (c .before .before .before .before .before .before .before .before .before .before .before .before .before .before .before .before .if1 .taken) (c .before .before .before .before .before .before .before .before .before .before .before .before .before .before .before .unsupported .result) (c .before .before .before .before .before .before .before .before .before .before .before .before .before .before .before .unsupported .ensures) (c .before .before .before .before .before .before .before .before .before .before .before .before .before .before .if2 .left) (c .before .before .before .before .before .before .before .before .before .before .before .lower .last .1 .0) (c .before .before .before .before .before .before .before .a .given .0 .0) (c .before .before .before .before .before .before .before .a .given .0 .1 .0) (taken _ _ _ _ _ _ (c .before .before .before .before .before .before .before .a .given .0 .0) (c .before .before .before .before .before .before .before .a .given .0 .1 .0) (arm-from _ _ (c .before .before .before .before .before .before .before .before .before .before .before .before .before .before .before .before .before .before .before .before .args .b .now) (c .before .before .before .before .before .before .before .before .before .before .before .before .before .before .before .before .before .before .before .before .args .d) (c .before .before .before .before .before .before .before .before .before .before .before .before .before .before .before .before .before .before .before .before .args .conjunction) (c .before .before .before .before .before .before .before .before .before .before .before .before .before .before .before .before .before .before .before .before .args .yes) _ _ _ _ _ _ (further (c .before .before .before .before .before .before .before .before .before .before .before .before .before .before .before .before .before .before .before .before .args .c) 1) (c .before .before .before .before .before .before .before .before .before .before .before .before .before .ahead .ensures) (c .before .before .before .before .before .before .before .before .before .before .before .lower .ensures)) (c .before .before .before .before .before .before .before .a .given .1)), (c .before .before .before .before .before .before .before .before .before .before .before .before .before .before .before .before .before .before .before .before .pre .1 .0) .code, (c .before .before .before .before .before .before .before .before .before .before .before .before .before .before .before .before .before .before .before .before .pre .1 .0) .records, (c .before .before .before .before .before .before .before .before .before .before .before .before .before .before .before .before .before .before .before .before .pre .1 .0) .lists), omega arith)
+branch-put-row-requires-2 : (t : ℕ) → branch-lts.Need-put-row-requires-2 (branch-calls t) (branch-at t) branch.Post
+branch-put-row-requires-2 t c κs =
+    let args = c .before .before .before .before .before .before .before .before .before .before .before .before .before .before .before .before .before .before .before .before .args in
+    let pre = c .before .before .before .before .before .before .before .before .before .before .before .before .before .before .before .before .before .before .before .before .pre in
+    let if1 = c .before .before .before .before .before .before .before .before .before .before .before .before .before .before .before .before .if1 in
+    let unsupported = c .before .before .before .before .before .before .before .before .before .before .before .before .before .before .before .unsupported in
+    let if2 = c .before .before .before .before .before .before .before .before .before .before .before .before .before .before .if2 in
+    let ahead = c .before .before .before .before .before .before .before .before .before .before .before .before .before .ahead in
+    let lower = c .before .before .before .before .before .before .before .before .before .before .before .lower in
+    let a = c .before .before .before .before .before .before .before .a in
+    let b = args .b .now in
+    let conjunction = args .conjunction in
+    let a-next = a .given .0 .1 .0 in
+    let context = context-of (args .kinds .now) (args .l .generated) in
+    let after-yes = past b (args .d) (args .yes) (args .c .node) in
+    let yes-arm = arm b (args .d) conjunction (args .yes) (args .c .node) in
+    let after-no = past b (args .d) (args .no) after-yes in
+    let no-arm = arm b (args .d) conjunction (args .no) after-yes in
+    let is-taken = taken _ _ _ _ _ _ (a .given .0 .0) a-next
+    (arm-from _ _ b (args .d) conjunction (args .yes) _ _ _ _ _ _ (further (args .c) 1) (ahead .ensures) (lower .ensures)) (a .given .1) in (
+      omega (
+        arith,
+        c .before .before .before .put-row .kept .0,
+        choices.n₁′ context refl yes-arm no-arm (args .v) after-yes after-no (pre .1 .0)
+            (if1 .taken) (unsupported .result) (unsupported .ensures) (if2 .left) (lower .last .1 .0) (a .given .0 .0) a-next is-taken,
+        choices.is-code
+            context refl yes-arm no-arm (args .v) after-yes after-no (pre .1 .0) (if1 .taken) (unsupported .result) (unsupported .ensures) (if2 .left)
+            (lower .last .1 .0) (a .given .0 .0) a-next is-taken,
+        (pre .1 .0) .code,
+        (pre .1 .0) .records,
+        (pre .1 .0) .lists,
+      ),
+      omega arith,
+    )
 
-branch-ahead-requires-2 : (t : ℕ) → branch-lts.Need-ahead-requires-2 (
-  unsupported-reads.Asked,
-  unsupported-reads.Learnt,
-  ahead-reads.Asked,
-  ahead-reads.Learnt,
-  lower-below t,
-  lower.Post,
-  put-row-reads.Asked,
-  put-row-reads.Learnt,
-  join-reads.Asked,
-  join-reads.Learnt,
-) (branch-at t) branch.Post
-branch-ahead-requires-2 t c κs = (omega (arith, choices.is-code (context-of (c .before .before .before .before .before .before .before .before .before .before .before .before .before .before .before .before .before .before .before .before .before .before .before .args .kinds .now) (c .before .before .before .before .before .before .before .before .before .before .before .before .before .before .before .before .before .before .before .before .before .before .before .args .l .generated)) refl (arm (c .before .before .before .before .before .before .before .before .before .before .before .before .before .before .before .before .before .before .before .before .before .before .before .args .b .now) (c .before .before .before .before .before .before .before .before .before .before .before .before .before .before .before .before .before .before .before .before .before .before .before .args .d) (c .before .before .before .before .before .before .before .before .before .before .before .before .before .before .before .before .before .before .before .before .before .before .before .args .conjunction) (c .before .before .before .before .before .before .before .before .before .before .before .before .before .before .before .before .before .before .before .before .before .before .before .args .yes) (c .before .before .before .before .before .before .before .before .before .before .before .before .before .before .before .before .before .before .before .before .before .before .before .args .c .node)) (arm (c .before .before .before .before .before .before .before .before .before .before .before .before .before .before .before .before .before .before .before .before .before .before .before .args .b .now) (c .before .before .before .before .before .before .before .before .before .before .before .before .before .before .before .before .before .before .before .before .before .before .before .args .d) (c .before .before .before .before .before .before .before .before .before .before .before .before .before .before .before .before .before .before .before .before .before .before .before .args .conjunction) (c .before .before .before .before .before .before .before .before .before .before .before .before .before .before .before .before .before .before .before .before .before .before .before .args .no) (past (c .before .before .before .before .before .before .before .before .before .before .before .before .before .before .before .before .before .before .before .before .before .before .before .args .b .now) (c .before .before .before .before .before .before .before .before .before .before .before .before .before .before .before .before .before .before .before .before .before .before .before .args .d) (c .before .before .before .before .before .before .before .before .before .before .before .before .before .before .before .before .before .before .before .before .before .before .before .args .yes) (c .before .before .before .before .before .before .before .before .before .before .before .before .before .before .before .before .before .before .before .before .before .before .before .args .c .node))) (c .before .before .before .before .before .before .before .before .before .before .before .before .before .before .before .before .before .before .before .before .before .before .before .args .v) (past (c .before .before .before .before .before .before .before .before .before .before .before .before .before .before .before .before .before .before .before .before .before .before .before .args .b .now) (c .before .before .before .before .before .before .before .before .before .before .before .before .before .before .before .before .before .before .before .before .before .before .before .args .d) (c .before .before .before .before .before .before .before .before .before .before .before .before .before .before .before .before .before .before .before .before .before .before .before .args .yes) (c .before .before .before .before .before .before .before .before .before .before .before .before .before .before .before .before .before .before .before .before .before .before .before .args .c .node)) (past (c .before .before .before .before .before .before .before .before .before .before .before .before .before .before .before .before .before .before .before .before .before .before .before .args .b .now) (c .before .before .before .before .before .before .before .before .before .before .before .before .before .before .before .before .before .before .before .before .before .before .before .args .d) (c .before .before .before .before .before .before .before .before .before .before .before .before .before .before .before .before .before .before .before .before .before .before .before .args .no) (past (c .before .before .before .before .before .before .before .before .before .before .before .before .before .before .before .before .before .before .before .before .before .before .before .args .b .now) (c .before .before .before .before .before .before .before .before .before .before .before .before .before .before .before .before .before .before .before .before .before .before .before .args .d) (c .before .before .before .before .before .before .before .before .before .before .before .before .before .before .before .before .before .before .before .before .before .before .before .args .yes) (c .before .before .before .before .before .before .before .before .before .before .before .before .before .before .before .before .before .before .before .before .before .before .before .args .c .node))) (c .before .before .before .before .before .before .before .before .before .before .before .before .before .before .before .before .before .before .before .before .before .before .before .pre .1 .0) (c .before .before .before .before .before .before .before .before .before .before .before .before .before .before .before .before .before .before .before .if1 .taken) (c .before .before .before .before .before .before .before .before .before .before .before .before .before .before .before .before .before .before .unsupported .result) (c .before .before .before .before .before .before .before .before .before .before .before .before .before .before .before .before .before .before .unsupported .ensures) (c .before .before .before .before .before .before .before .before .before .before .before .before .before .before .before .before .before .if2 .left) (c .before .before .before .before .before .before .before .before .before .before .before .before .before .before .lower .last .1 .0) (c .before .before .before .before .before .before .before .before .before .before .a .given .0 .0) (c .before .before .before .before .before .before .before .before .before .before .a .given .0 .1 .0) (taken _ _ _ _ _ _ (c .before .before .before .before .before .before .before .before .before .before .a .given .0 .0) (c .before .before .before .before .before .before .before .before .before .before .a .given .0 .1 .0) (arm-from _ _ (c .before .before .before .before .before .before .before .before .before .before .before .before .before .before .before .before .before .before .before .before .before .before .before .args .b .now) (c .before .before .before .before .before .before .before .before .before .before .before .before .before .before .before .before .before .before .before .before .before .before .before .args .d) (c .before .before .before .before .before .before .before .before .before .before .before .before .before .before .before .before .before .before .before .before .before .before .before .args .conjunction) (c .before .before .before .before .before .before .before .before .before .before .before .before .before .before .before .before .before .before .before .before .before .before .before .args .yes) _ _ _ _ _ _ (further (c .before .before .before .before .before .before .before .before .before .before .before .before .before .before .before .before .before .before .before .before .before .before .before .args .c) 1) (c .before .before .before .before .before .before .before .before .before .before .before .before .before .before .before .before .ahead .ensures) (c .before .before .before .before .before .before .before .before .before .before .before .before .before .before .lower .ensures)) (c .before .before .before .before .before .before .before .before .before .before .a .given .1)), choices.is-reg (context-of (c .before .before .before .before .before .before .before .before .before .before .before .before .before .before .before .before .before .before .before .before .before .before .before .args .kinds .now) (c .before .before .before .before .before .before .before .before .before .before .before .before .before .before .before .before .before .before .before .before .before .before .before .args .l .generated)) refl (arm (c .before .before .before .before .before .before .before .before .before .before .before .before .before .before .before .before .before .before .before .before .before .before .before .args .b .now) (c .before .before .before .before .before .before .before .before .before .before .before .before .before .before .before .before .before .before .before .before .before .before .before .args .d) (c .before .before .before .before .before .before .before .before .before .before .before .before .before .before .before .before .before .before .before .before .before .before .before .args .conjunction) (c .before .before .before .before .before .before .before .before .before .before .before .before .before .before .before .before .before .before .before .before .before .before .before .args .yes) (c .before .before .before .before .before .before .before .before .before .before .before .before .before .before .before .before .before .before .before .before .before .before .before .args .c .node)) (arm (c .before .before .before .before .before .before .before .before .before .before .before .before .before .before .before .before .before .before .before .before .before .before .before .args .b .now) (c .before .before .before .before .before .before .before .before .before .before .before .before .before .before .before .before .before .before .before .before .before .before .before .args .d) (c .before .before .before .before .before .before .before .before .before .before .before .before .before .before .before .before .before .before .before .before .before .before .before .args .conjunction) (c .before .before .before .before .before .before .before .before .before .before .before .before .before .before .before .before .before .before .before .before .before .before .before .args .no) (past (c .before .before .before .before .before .before .before .before .before .before .before .before .before .before .before .before .before .before .before .before .before .before .before .args .b .now) (c .before .before .before .before .before .before .before .before .before .before .before .before .before .before .before .before .before .before .before .before .before .before .before .args .d) (c .before .before .before .before .before .before .before .before .before .before .before .before .before .before .before .before .before .before .before .before .before .before .before .args .yes) (c .before .before .before .before .before .before .before .before .before .before .before .before .before .before .before .before .before .before .before .before .before .before .before .args .c .node))) (c .before .before .before .before .before .before .before .before .before .before .before .before .before .before .before .before .before .before .before .before .before .before .before .args .v) (past (c .before .before .before .before .before .before .before .before .before .before .before .before .before .before .before .before .before .before .before .before .before .before .before .args .b .now) (c .before .before .before .before .before .before .before .before .before .before .before .before .before .before .before .before .before .before .before .before .before .before .before .args .d) (c .before .before .before .before .before .before .before .before .before .before .before .before .before .before .before .before .before .before .before .before .before .before .before .args .yes) (c .before .before .before .before .before .before .before .before .before .before .before .before .before .before .before .before .before .before .before .before .before .before .before .args .c .node)) (past (c .before .before .before .before .before .before .before .before .before .before .before .before .before .before .before .before .before .before .before .before .before .before .before .args .b .now) (c .before .before .before .before .before .before .before .before .before .before .before .before .before .before .before .before .before .before .before .before .before .before .before .args .d) (c .before .before .before .before .before .before .before .before .before .before .before .before .before .before .before .before .before .before .before .before .before .before .before .args .no) (past (c .before .before .before .before .before .before .before .before .before .before .before .before .before .before .before .before .before .before .before .before .before .before .before .args .b .now) (c .before .before .before .before .before .before .before .before .before .before .before .before .before .before .before .before .before .before .before .before .before .before .before .args .d) (c .before .before .before .before .before .before .before .before .before .before .before .before .before .before .before .before .before .before .before .before .before .before .before .args .yes) (c .before .before .before .before .before .before .before .before .before .before .before .before .before .before .before .before .before .before .before .before .before .before .before .args .c .node))) (c .before .before .before .before .before .before .before .before .before .before .before .before .before .before .before .before .before .before .before .before .before .before .before .pre .1 .0) (c .before .before .before .before .before .before .before .before .before .before .before .before .before .before .before .before .before .before .before .if1 .taken) (c .before .before .before .before .before .before .before .before .before .before .before .before .before .before .before .before .before .before .unsupported .result) (c .before .before .before .before .before .before .before .before .before .before .before .before .before .before .before .before .before .before .unsupported .ensures) (c .before .before .before .before .before .before .before .before .before .before .before .before .before .before .before .before .before .if2 .left) (c .before .before .before .before .before .before .before .before .before .before .before .before .before .before .lower .last .1 .0) (c .before .before .before .before .before .before .before .before .before .before .a .given .0 .0) (c .before .before .before .before .before .before .before .before .before .before .a .given .0 .1 .0) (taken _ _ _ _ _ _ (c .before .before .before .before .before .before .before .before .before .before .a .given .0 .0) (c .before .before .before .before .before .before .before .before .before .before .a .given .0 .1 .0) (arm-from _ _ (c .before .before .before .before .before .before .before .before .before .before .before .before .before .before .before .before .before .before .before .before .before .before .before .args .b .now) (c .before .before .before .before .before .before .before .before .before .before .before .before .before .before .before .before .before .before .before .before .before .before .before .args .d) (c .before .before .before .before .before .before .before .before .before .before .before .before .before .before .before .before .before .before .before .before .before .before .before .args .conjunction) (c .before .before .before .before .before .before .before .before .before .before .before .before .before .before .before .before .before .before .before .before .before .before .before .args .yes) _ _ _ _ _ _ (further (c .before .before .before .before .before .before .before .before .before .before .before .before .before .before .before .before .before .before .before .before .before .before .before .args .c) 1) (c .before .before .before .before .before .before .before .before .before .before .before .before .before .before .before .before .ahead .ensures) (c .before .before .before .before .before .before .before .before .before .before .before .before .before .before .lower .ensures)) (c .before .before .before .before .before .before .before .before .before .before .a .given .1)), fewer-registers (arm (c .before .before .before .before .before .before .before .before .before .before .before .before .before .before .before .before .before .before .before .before .before .before .before .args .b .now) (c .before .before .before .before .before .before .before .before .before .before .before .before .before .before .before .before .before .before .before .before .before .before .before .args .d) (c .before .before .before .before .before .before .before .before .before .before .before .before .before .before .before .before .before .before .before .before .before .before .before .args .conjunction) (c .before .before .before .before .before .before .before .before .before .before .before .before .before .before .before .before .before .before .before .before .before .before .before .args .yes) (c .before .before .before .before .before .before .before .before .before .before .before .before .before .before .before .before .before .before .before .before .before .before .before .args .c .node)), (c .before .before .before .before .before .before .before .before .before .before .before .before .before .before .before .before .before .before .before .before .before .before .before .pre .1 .0) .registers, c .before .before .before .before .before .before .before .before .before .before .before .before .before .before .before .before .before .before .before .before .before .before .before .good .1 .0 .0, (c .before .before .before .before .before .before .before .before .before .before .before .before .before .before .before .before .before .before .before .before .before .before .before .pre .1 .0) .code, (c .before .before .before .before .before .before .before .before .before .before .before .before .before .before .before .before .before .before .before .before .before .before .before .pre .1 .0) .records, (c .before .before .before .before .before .before .before .before .before .before .before .before .before .before .before .before .before .before .before .before .before .before .before .pre .1 .0) .lists), omega (arith, choices.is-code (context-of (c .before .before .before .before .before .before .before .before .before .before .before .before .before .before .before .before .before .before .before .before .before .before .before .args .kinds .now) (c .before .before .before .before .before .before .before .before .before .before .before .before .before .before .before .before .before .before .before .before .before .before .before .args .l .generated)) refl (arm (c .before .before .before .before .before .before .before .before .before .before .before .before .before .before .before .before .before .before .before .before .before .before .before .args .b .now) (c .before .before .before .before .before .before .before .before .before .before .before .before .before .before .before .before .before .before .before .before .before .before .before .args .d) (c .before .before .before .before .before .before .before .before .before .before .before .before .before .before .before .before .before .before .before .before .before .before .before .args .conjunction) (c .before .before .before .before .before .before .before .before .before .before .before .before .before .before .before .before .before .before .before .before .before .before .before .args .yes) (c .before .before .before .before .before .before .before .before .before .before .before .before .before .before .before .before .before .before .before .before .before .before .before .args .c .node)) (arm (c .before .before .before .before .before .before .before .before .before .before .before .before .before .before .before .before .before .before .before .before .before .before .before .args .b .now) (c .before .before .before .before .before .before .before .before .before .before .before .before .before .before .before .before .before .before .before .before .before .before .before .args .d) (c .before .before .before .before .before .before .before .before .before .before .before .before .before .before .before .before .before .before .before .before .before .before .before .args .conjunction) (c .before .before .before .before .before .before .before .before .before .before .before .before .before .before .before .before .before .before .before .before .before .before .before .args .no) (past (c .before .before .before .before .before .before .before .before .before .before .before .before .before .before .before .before .before .before .before .before .before .before .before .args .b .now) (c .before .before .before .before .before .before .before .before .before .before .before .before .before .before .before .before .before .before .before .before .before .before .before .args .d) (c .before .before .before .before .before .before .before .before .before .before .before .before .before .before .before .before .before .before .before .before .before .before .before .args .yes) (c .before .before .before .before .before .before .before .before .before .before .before .before .before .before .before .before .before .before .before .before .before .before .before .args .c .node))) (c .before .before .before .before .before .before .before .before .before .before .before .before .before .before .before .before .before .before .before .before .before .before .before .args .v) (past (c .before .before .before .before .before .before .before .before .before .before .before .before .before .before .before .before .before .before .before .before .before .before .before .args .b .now) (c .before .before .before .before .before .before .before .before .before .before .before .before .before .before .before .before .before .before .before .before .before .before .before .args .d) (c .before .before .before .before .before .before .before .before .before .before .before .before .before .before .before .before .before .before .before .before .before .before .before .args .yes) (c .before .before .before .before .before .before .before .before .before .before .before .before .before .before .before .before .before .before .before .before .before .before .before .args .c .node)) (past (c .before .before .before .before .before .before .before .before .before .before .before .before .before .before .before .before .before .before .before .before .before .before .before .args .b .now) (c .before .before .before .before .before .before .before .before .before .before .before .before .before .before .before .before .before .before .before .before .before .before .before .args .d) (c .before .before .before .before .before .before .before .before .before .before .before .before .before .before .before .before .before .before .before .before .before .before .before .args .no) (past (c .before .before .before .before .before .before .before .before .before .before .before .before .before .before .before .before .before .before .before .before .before .before .before .args .b .now) (c .before .before .before .before .before .before .before .before .before .before .before .before .before .before .before .before .before .before .before .before .before .before .before .args .d) (c .before .before .before .before .before .before .before .before .before .before .before .before .before .before .before .before .before .before .before .before .before .before .before .args .yes) (c .before .before .before .before .before .before .before .before .before .before .before .before .before .before .before .before .before .before .before .before .before .before .before .args .c .node))) (c .before .before .before .before .before .before .before .before .before .before .before .before .before .before .before .before .before .before .before .before .before .before .before .pre .1 .0) (c .before .before .before .before .before .before .before .before .before .before .before .before .before .before .before .before .before .before .before .if1 .taken) (c .before .before .before .before .before .before .before .before .before .before .before .before .before .before .before .before .before .before .unsupported .result) (c .before .before .before .before .before .before .before .before .before .before .before .before .before .before .before .before .before .before .unsupported .ensures) (c .before .before .before .before .before .before .before .before .before .before .before .before .before .before .before .before .before .if2 .left) (c .before .before .before .before .before .before .before .before .before .before .before .before .before .before .lower .last .1 .0) (c .before .before .before .before .before .before .before .before .before .before .a .given .0 .0) (c .before .before .before .before .before .before .before .before .before .before .a .given .0 .1 .0) (taken _ _ _ _ _ _ (c .before .before .before .before .before .before .before .before .before .before .a .given .0 .0) (c .before .before .before .before .before .before .before .before .before .before .a .given .0 .1 .0) (arm-from _ _ (c .before .before .before .before .before .before .before .before .before .before .before .before .before .before .before .before .before .before .before .before .before .before .before .args .b .now) (c .before .before .before .before .before .before .before .before .before .before .before .before .before .before .before .before .before .before .before .before .before .before .before .args .d) (c .before .before .before .before .before .before .before .before .before .before .before .before .before .before .before .before .before .before .before .before .before .before .before .args .conjunction) (c .before .before .before .before .before .before .before .before .before .before .before .before .before .before .before .before .before .before .before .before .before .before .before .args .yes) _ _ _ _ _ _ (further (c .before .before .before .before .before .before .before .before .before .before .before .before .before .before .before .before .before .before .before .before .before .before .before .args .c) 1) (c .before .before .before .before .before .before .before .before .before .before .before .before .before .before .before .before .ahead .ensures) (c .before .before .before .before .before .before .before .before .before .before .before .before .before .before .lower .ensures)) (c .before .before .before .before .before .before .before .before .before .before .a .given .1)), choices.is-reg (context-of (c .before .before .before .before .before .before .before .before .before .before .before .before .before .before .before .before .before .before .before .before .before .before .before .args .kinds .now) (c .before .before .before .before .before .before .before .before .before .before .before .before .before .before .before .before .before .before .before .before .before .before .before .args .l .generated)) refl (arm (c .before .before .before .before .before .before .before .before .before .before .before .before .before .before .before .before .before .before .before .before .before .before .before .args .b .now) (c .before .before .before .before .before .before .before .before .before .before .before .before .before .before .before .before .before .before .before .before .before .before .before .args .d) (c .before .before .before .before .before .before .before .before .before .before .before .before .before .before .before .before .before .before .before .before .before .before .before .args .conjunction) (c .before .before .before .before .before .before .before .before .before .before .before .before .before .before .before .before .before .before .before .before .before .before .before .args .yes) (c .before .before .before .before .before .before .before .before .before .before .before .before .before .before .before .before .before .before .before .before .before .before .before .args .c .node)) (arm (c .before .before .before .before .before .before .before .before .before .before .before .before .before .before .before .before .before .before .before .before .before .before .before .args .b .now) (c .before .before .before .before .before .before .before .before .before .before .before .before .before .before .before .before .before .before .before .before .before .before .before .args .d) (c .before .before .before .before .before .before .before .before .before .before .before .before .before .before .before .before .before .before .before .before .before .before .before .args .conjunction) (c .before .before .before .before .before .before .before .before .before .before .before .before .before .before .before .before .before .before .before .before .before .before .before .args .no) (past (c .before .before .before .before .before .before .before .before .before .before .before .before .before .before .before .before .before .before .before .before .before .before .before .args .b .now) (c .before .before .before .before .before .before .before .before .before .before .before .before .before .before .before .before .before .before .before .before .before .before .before .args .d) (c .before .before .before .before .before .before .before .before .before .before .before .before .before .before .before .before .before .before .before .before .before .before .before .args .yes) (c .before .before .before .before .before .before .before .before .before .before .before .before .before .before .before .before .before .before .before .before .before .before .before .args .c .node))) (c .before .before .before .before .before .before .before .before .before .before .before .before .before .before .before .before .before .before .before .before .before .before .before .args .v) (past (c .before .before .before .before .before .before .before .before .before .before .before .before .before .before .before .before .before .before .before .before .before .before .before .args .b .now) (c .before .before .before .before .before .before .before .before .before .before .before .before .before .before .before .before .before .before .before .before .before .before .before .args .d) (c .before .before .before .before .before .before .before .before .before .before .before .before .before .before .before .before .before .before .before .before .before .before .before .args .yes) (c .before .before .before .before .before .before .before .before .before .before .before .before .before .before .before .before .before .before .before .before .before .before .before .args .c .node)) (past (c .before .before .before .before .before .before .before .before .before .before .before .before .before .before .before .before .before .before .before .before .before .before .before .args .b .now) (c .before .before .before .before .before .before .before .before .before .before .before .before .before .before .before .before .before .before .before .before .before .before .before .args .d) (c .before .before .before .before .before .before .before .before .before .before .before .before .before .before .before .before .before .before .before .before .before .before .before .args .no) (past (c .before .before .before .before .before .before .before .before .before .before .before .before .before .before .before .before .before .before .before .before .before .before .before .args .b .now) (c .before .before .before .before .before .before .before .before .before .before .before .before .before .before .before .before .before .before .before .before .before .before .before .args .d) (c .before .before .before .before .before .before .before .before .before .before .before .before .before .before .before .before .before .before .before .before .before .before .before .args .yes) (c .before .before .before .before .before .before .before .before .before .before .before .before .before .before .before .before .before .before .before .before .before .before .before .args .c .node))) (c .before .before .before .before .before .before .before .before .before .before .before .before .before .before .before .before .before .before .before .before .before .before .before .pre .1 .0) (c .before .before .before .before .before .before .before .before .before .before .before .before .before .before .before .before .before .before .before .if1 .taken) (c .before .before .before .before .before .before .before .before .before .before .before .before .before .before .before .before .before .before .unsupported .result) (c .before .before .before .before .before .before .before .before .before .before .before .before .before .before .before .before .before .before .unsupported .ensures) (c .before .before .before .before .before .before .before .before .before .before .before .before .before .before .before .before .before .if2 .left) (c .before .before .before .before .before .before .before .before .before .before .before .before .before .before .lower .last .1 .0) (c .before .before .before .before .before .before .before .before .before .before .a .given .0 .0) (c .before .before .before .before .before .before .before .before .before .before .a .given .0 .1 .0) (taken _ _ _ _ _ _ (c .before .before .before .before .before .before .before .before .before .before .a .given .0 .0) (c .before .before .before .before .before .before .before .before .before .before .a .given .0 .1 .0) (arm-from _ _ (c .before .before .before .before .before .before .before .before .before .before .before .before .before .before .before .before .before .before .before .before .before .before .before .args .b .now) (c .before .before .before .before .before .before .before .before .before .before .before .before .before .before .before .before .before .before .before .before .before .before .before .args .d) (c .before .before .before .before .before .before .before .before .before .before .before .before .before .before .before .before .before .before .before .before .before .before .before .args .conjunction) (c .before .before .before .before .before .before .before .before .before .before .before .before .before .before .before .before .before .before .before .before .before .before .before .args .yes) _ _ _ _ _ _ (further (c .before .before .before .before .before .before .before .before .before .before .before .before .before .before .before .before .before .before .before .before .before .before .before .args .c) 1) (c .before .before .before .before .before .before .before .before .before .before .before .before .before .before .before .before .ahead .ensures) (c .before .before .before .before .before .before .before .before .before .before .before .before .before .before .lower .ensures)) (c .before .before .before .before .before .before .before .before .before .before .a .given .1)), fewer-registers (arm (c .before .before .before .before .before .before .before .before .before .before .before .before .before .before .before .before .before .before .before .before .before .before .before .args .b .now) (c .before .before .before .before .before .before .before .before .before .before .before .before .before .before .before .before .before .before .before .before .before .before .before .args .d) (c .before .before .before .before .before .before .before .before .before .before .before .before .before .before .before .before .before .before .before .before .before .before .before .args .conjunction) (c .before .before .before .before .before .before .before .before .before .before .before .before .before .before .before .before .before .before .before .before .before .before .before .args .yes) (c .before .before .before .before .before .before .before .before .before .before .before .before .before .before .before .before .before .before .before .before .before .before .before .args .c .node)), (c .before .before .before .before .before .before .before .before .before .before .before .before .before .before .before .before .before .before .before .before .before .before .before .pre .1 .0) .registers, c .before .before .before .before .before .before .before .before .before .before .before .before .before .before .before .before .before .before .before .before .before .before .before .good .1 .0 .0, (c .before .before .before .before .before .before .before .before .before .before .before .before .before .before .before .before .before .before .before .before .before .before .before .pre .1 .0) .code, (c .before .before .before .before .before .before .before .before .before .before .before .before .before .before .before .before .before .before .before .before .before .before .before .pre .1 .0) .records, (c .before .before .before .before .before .before .before .before .before .before .before .before .before .before .before .before .before .before .before .before .before .before .before .pre .1 .0) .lists))
+branch-ahead-requires-2 : (t : ℕ) → branch-lts.Need-ahead-requires-2 (branch-calls t) (branch-at t) branch.Post
+branch-ahead-requires-2 t c κs =
+    let args = c .before .before .before .before .before .before .before .before .before .before .before .before .before .before .before .before .before .before .before .before .before .before .before .args in
+    let pre = c .before .before .before .before .before .before .before .before .before .before .before .before .before .before .before .before .before .before .before .before .before .before .before .pre in
+    let good = c .before .before .before .before .before .before .before .before .before .before .before .before .before .before .before .before .before .before .before .before .before .before .before .good in
+    let if1 = c .before .before .before .before .before .before .before .before .before .before .before .before .before .before .before .before .before .before .before .if1 in
+    let unsupported = c .before .before .before .before .before .before .before .before .before .before .before .before .before .before .before .before .before .before .unsupported in
+    let if2 = c .before .before .before .before .before .before .before .before .before .before .before .before .before .before .before .before .before .if2 in
+    let ahead = c .before .before .before .before .before .before .before .before .before .before .before .before .before .before .before .before .ahead in
+    let lower = c .before .before .before .before .before .before .before .before .before .before .before .before .before .before .lower in
+    let a = c .before .before .before .before .before .before .before .before .before .before .a in
+    let ready = pre .1 .0 in
+    let b = args .b .now in
+    let a-value = a .given .0 .0 in
+    let conjunction = args .conjunction in
+    let a-next = a .given .0 .1 .0 in
+    let lower-bytes = lower .last .1 .0 in
+    let unsupported-gives = unsupported .result in
+    let unsupported-says = unsupported .ensures in
+    let context = context-of (args .kinds .now) (args .l .generated) in
+    let after-yes = past b (args .d) (args .yes) (args .c .node) in
+    let yes-arm = arm b (args .d) conjunction (args .yes) (args .c .node) in
+    let after-no = past b (args .d) (args .no) after-yes in
+    let no-arm = arm b (args .d) conjunction (args .no) after-yes in
+    let is-taken = taken _ _ _ _ _ _ a-value a-next
+    (arm-from _ _ b (args .d) conjunction (args .yes) _ _ _ _ _ _ (further (args .c) 1) (ahead .ensures) (lower .ensures)) (a .given .1) in (
+      omega (
+        arith,
+        choices.is-code context refl yes-arm no-arm (args .v) after-yes after-no ready (if1 .taken) unsupported-gives unsupported-says
+            (if2 .left) lower-bytes a-value a-next is-taken,
+        choices.is-reg context refl yes-arm no-arm (args .v) after-yes after-no ready (if1 .taken)
+            unsupported-gives unsupported-says (if2 .left) lower-bytes a-value a-next is-taken,
+        fewer-registers yes-arm,
+        ready .registers,
+        good .1 .0 .0,
+        ready .code,
+        ready .records,
+        ready .lists,
+      ),
+      omega (
+        arith,
+        choices.is-code context refl yes-arm no-arm (args .v) after-yes after-no ready (if1 .taken) unsupported-gives unsupported-says
+            (if2 .left) lower-bytes a-value a-next is-taken,
+        choices.is-reg context refl yes-arm no-arm (args .v) after-yes after-no ready (if1 .taken)
+            unsupported-gives unsupported-says (if2 .left) lower-bytes a-value a-next is-taken,
+        fewer-registers yes-arm,
+        ready .registers,
+        good .1 .0 .0,
+        ready .code,
+        ready .records,
+        ready .lists,
+      ),
+    )
 
-branch-lower-requires-2 : (t : ℕ) → branch-lts.Need-lower-requires-2 (
-  unsupported-reads.Asked,
-  unsupported-reads.Learnt,
-  ahead-reads.Asked,
-  ahead-reads.Learnt,
-  lower-below t,
-  lower.Post,
-  put-row-reads.Asked,
-  put-row-reads.Learnt,
-  join-reads.Asked,
-  join-reads.Learnt,
-) (branch-at t) branch.Post
-branch-lower-requires-2 t c κs = (omega (arith, c .before .before .before .before .before .before .before .before .before .before .before .before .before .before .before .before .before .before .before .before .before .before .before .before .before .pre .0), (ready-to (c .before .before .before .before .before .before .before .before .before .before .before .before .before .before .before .before .before .before .before .before .before .before .before .before .before .args .b .now) (c .before .before .before .before .before .before .before .before .before .before .before .before .before .before .before .before .before .before .before .before .before .before .before .before .before .args .d) (c .before .before .before .before .before .before .before .before .before .before .before .before .before .before .before .before .before .before .before .before .before .before .before .before .before .args .conjunction) (c .before .before .before .before .before .before .before .before .before .before .before .before .before .before .before .before .before .before .before .before .before .before .before .before .before .args .no) _ (further (c .before .before .before .before .before .before .before .before .before .before .before .before .a .given .0 .1 .0) 2) (c .before .ahead2 .ensures) (arm-ready (c .before .before .before .before .before .before .before .before .before .before .before .before .before .before .before .before .before .before .before .before .before .before .before .before .before .args .b .now) (c .before .before .before .before .before .before .before .before .before .before .before .before .before .before .before .before .before .before .before .before .before .before .before .before .before .args .d) (c .before .before .before .before .before .before .before .before .before .before .before .before .before .before .before .before .before .before .before .before .before .before .before .before .before .args .conjunction) (c .before .before .before .before .before .before .before .before .before .before .before .before .before .before .before .before .before .before .before .before .before .before .before .before .before .args .no) _ _ (sym (choices.is-node (context-of (c .before .before .before .before .before .before .before .before .before .before .before .before .before .before .before .before .before .before .before .before .before .before .before .before .before .args .kinds .now) (c .before .before .before .before .before .before .before .before .before .before .before .before .before .before .before .before .before .before .before .before .before .before .before .before .before .args .l .generated)) refl (arm (c .before .before .before .before .before .before .before .before .before .before .before .before .before .before .before .before .before .before .before .before .before .before .before .before .before .args .b .now) (c .before .before .before .before .before .before .before .before .before .before .before .before .before .before .before .before .before .before .before .before .before .before .before .before .before .args .d) (c .before .before .before .before .before .before .before .before .before .before .before .before .before .before .before .before .before .before .before .before .before .before .before .before .before .args .conjunction) (c .before .before .before .before .before .before .before .before .before .before .before .before .before .before .before .before .before .before .before .before .before .before .before .before .before .args .yes) (c .before .before .before .before .before .before .before .before .before .before .before .before .before .before .before .before .before .before .before .before .before .before .before .before .before .args .c .node)) (arm (c .before .before .before .before .before .before .before .before .before .before .before .before .before .before .before .before .before .before .before .before .before .before .before .before .before .args .b .now) (c .before .before .before .before .before .before .before .before .before .before .before .before .before .before .before .before .before .before .before .before .before .before .before .before .before .args .d) (c .before .before .before .before .before .before .before .before .before .before .before .before .before .before .before .before .before .before .before .before .before .before .before .before .before .args .conjunction) (c .before .before .before .before .before .before .before .before .before .before .before .before .before .before .before .before .before .before .before .before .before .before .before .before .before .args .no) (past (c .before .before .before .before .before .before .before .before .before .before .before .before .before .before .before .before .before .before .before .before .before .before .before .before .before .args .b .now) (c .before .before .before .before .before .before .before .before .before .before .before .before .before .before .before .before .before .before .before .before .before .before .before .before .before .args .d) (c .before .before .before .before .before .before .before .before .before .before .before .before .before .before .before .before .before .before .before .before .before .before .before .before .before .args .yes) (c .before .before .before .before .before .before .before .before .before .before .before .before .before .before .before .before .before .before .before .before .before .before .before .before .before .args .c .node))) (c .before .before .before .before .before .before .before .before .before .before .before .before .before .before .before .before .before .before .before .before .before .before .before .before .before .args .v) (past (c .before .before .before .before .before .before .before .before .before .before .before .before .before .before .before .before .before .before .before .before .before .before .before .before .before .args .b .now) (c .before .before .before .before .before .before .before .before .before .before .before .before .before .before .before .before .before .before .before .before .before .before .before .before .before .args .d) (c .before .before .before .before .before .before .before .before .before .before .before .before .before .before .before .before .before .before .before .before .before .before .before .before .before .args .yes) (c .before .before .before .before .before .before .before .before .before .before .before .before .before .before .before .before .before .before .before .before .before .before .before .before .before .args .c .node)) (past (c .before .before .before .before .before .before .before .before .before .before .before .before .before .before .before .before .before .before .before .before .before .before .before .before .before .args .b .now) (c .before .before .before .before .before .before .before .before .before .before .before .before .before .before .before .before .before .before .before .before .before .before .before .before .before .args .d) (c .before .before .before .before .before .before .before .before .before .before .before .before .before .before .before .before .before .before .before .before .before .before .before .before .before .args .no) (past (c .before .before .before .before .before .before .before .before .before .before .before .before .before .before .before .before .before .before .before .before .before .before .before .before .before .args .b .now) (c .before .before .before .before .before .before .before .before .before .before .before .before .before .before .before .before .before .before .before .before .before .before .before .before .before .args .d) (c .before .before .before .before .before .before .before .before .before .before .before .before .before .before .before .before .before .before .before .before .before .before .before .before .before .args .yes) (c .before .before .before .before .before .before .before .before .before .before .before .before .before .before .before .before .before .before .before .before .before .before .before .before .before .args .c .node))) (c .before .before .before .before .before .before .before .before .before .before .before .before .before .before .before .before .before .before .before .before .before .before .before .before .before .pre .1 .0) (c .before .before .before .before .before .before .before .before .before .before .before .before .before .before .before .before .before .before .before .before .before .if1 .taken) (c .before .before .before .before .before .before .before .before .before .before .before .before .before .before .before .before .before .before .before .before .unsupported .result) (c .before .before .before .before .before .before .before .before .before .before .before .before .before .before .before .before .before .before .before .before .unsupported .ensures) (c .before .before .before .before .before .before .before .before .before .before .before .before .before .before .before .before .before .before .before .if2 .left) (c .before .before .before .before .before .before .before .before .before .before .before .before .before .before .before .before .lower .last .1 .0) (c .before .before .before .before .before .before .before .before .before .before .before .before .a .given .0 .0) (c .before .before .before .before .before .before .before .before .before .before .before .before .a .given .0 .1 .0) (taken _ _ _ _ _ _ (c .before .before .before .before .before .before .before .before .before .before .before .before .a .given .0 .0) (c .before .before .before .before .before .before .before .before .before .before .before .before .a .given .0 .1 .0) (arm-from _ _ (c .before .before .before .before .before .before .before .before .before .before .before .before .before .before .before .before .before .before .before .before .before .before .before .before .before .args .b .now) (c .before .before .before .before .before .before .before .before .before .before .before .before .before .before .before .before .before .before .before .before .before .before .before .before .before .args .d) (c .before .before .before .before .before .before .before .before .before .before .before .before .before .before .before .before .before .before .before .before .before .before .before .before .before .args .conjunction) (c .before .before .before .before .before .before .before .before .before .before .before .before .before .before .before .before .before .before .before .before .before .before .before .before .before .args .yes) _ _ _ _ _ _ (further (c .before .before .before .before .before .before .before .before .before .before .before .before .before .before .before .before .before .before .before .before .before .before .before .before .before .args .c) 1) (c .before .before .before .before .before .before .before .before .before .before .before .before .before .before .before .before .before .before .ahead .ensures) (c .before .before .before .before .before .before .before .before .before .before .before .before .before .before .before .before .lower .ensures)) (c .before .before .before .before .before .before .before .before .before .before .before .before .a .given .1)))) (choices.ready-arm (context-of (c .before .before .before .before .before .before .before .before .before .before .before .before .before .before .before .before .before .before .before .before .before .before .before .before .before .args .kinds .now) (c .before .before .before .before .before .before .before .before .before .before .before .before .before .before .before .before .before .before .before .before .before .before .before .before .before .args .l .generated)) refl (arm (c .before .before .before .before .before .before .before .before .before .before .before .before .before .before .before .before .before .before .before .before .before .before .before .before .before .args .b .now) (c .before .before .before .before .before .before .before .before .before .before .before .before .before .before .before .before .before .before .before .before .before .before .before .before .before .args .d) (c .before .before .before .before .before .before .before .before .before .before .before .before .before .before .before .before .before .before .before .before .before .before .before .before .before .args .conjunction) (c .before .before .before .before .before .before .before .before .before .before .before .before .before .before .before .before .before .before .before .before .before .before .before .before .before .args .yes) (c .before .before .before .before .before .before .before .before .before .before .before .before .before .before .before .before .before .before .before .before .before .before .before .before .before .args .c .node)) (arm (c .before .before .before .before .before .before .before .before .before .before .before .before .before .before .before .before .before .before .before .before .before .before .before .before .before .args .b .now) (c .before .before .before .before .before .before .before .before .before .before .before .before .before .before .before .before .before .before .before .before .before .before .before .before .before .args .d) (c .before .before .before .before .before .before .before .before .before .before .before .before .before .before .before .before .before .before .before .before .before .before .before .before .before .args .conjunction) (c .before .before .before .before .before .before .before .before .before .before .before .before .before .before .before .before .before .before .before .before .before .before .before .before .before .args .no) (past (c .before .before .before .before .before .before .before .before .before .before .before .before .before .before .before .before .before .before .before .before .before .before .before .before .before .args .b .now) (c .before .before .before .before .before .before .before .before .before .before .before .before .before .before .before .before .before .before .before .before .before .before .before .before .before .args .d) (c .before .before .before .before .before .before .before .before .before .before .before .before .before .before .before .before .before .before .before .before .before .before .before .before .before .args .yes) (c .before .before .before .before .before .before .before .before .before .before .before .before .before .before .before .before .before .before .before .before .before .before .before .before .before .args .c .node))) (c .before .before .before .before .before .before .before .before .before .before .before .before .before .before .before .before .before .before .before .before .before .before .before .before .before .args .v) (past (c .before .before .before .before .before .before .before .before .before .before .before .before .before .before .before .before .before .before .before .before .before .before .before .before .before .args .b .now) (c .before .before .before .before .before .before .before .before .before .before .before .before .before .before .before .before .before .before .before .before .before .before .before .before .before .args .d) (c .before .before .before .before .before .before .before .before .before .before .before .before .before .before .before .before .before .before .before .before .before .before .before .before .before .args .yes) (c .before .before .before .before .before .before .before .before .before .before .before .before .before .before .before .before .before .before .before .before .before .before .before .before .before .args .c .node)) (past (c .before .before .before .before .before .before .before .before .before .before .before .before .before .before .before .before .before .before .before .before .before .before .before .before .before .args .b .now) (c .before .before .before .before .before .before .before .before .before .before .before .before .before .before .before .before .before .before .before .before .before .before .before .before .before .args .d) (c .before .before .before .before .before .before .before .before .before .before .before .before .before .before .before .before .before .before .before .before .before .before .before .before .before .args .no) (past (c .before .before .before .before .before .before .before .before .before .before .before .before .before .before .before .before .before .before .before .before .before .before .before .before .before .args .b .now) (c .before .before .before .before .before .before .before .before .before .before .before .before .before .before .before .before .before .before .before .before .before .before .before .before .before .args .d) (c .before .before .before .before .before .before .before .before .before .before .before .before .before .before .before .before .before .before .before .before .before .before .before .before .before .args .yes) (c .before .before .before .before .before .before .before .before .before .before .before .before .before .before .before .before .before .before .before .before .before .before .before .before .before .args .c .node))) (c .before .before .before .before .before .before .before .before .before .before .before .before .before .before .before .before .before .before .before .before .before .before .before .before .before .pre .1 .0) (c .before .before .before .before .before .before .before .before .before .before .before .before .before .before .before .before .before .before .before .before .before .if1 .taken) (c .before .before .before .before .before .before .before .before .before .before .before .before .before .before .before .before .before .before .before .before .unsupported .result) (c .before .before .before .before .before .before .before .before .before .before .before .before .before .before .before .before .before .before .before .before .unsupported .ensures) (c .before .before .before .before .before .before .before .before .before .before .before .before .before .before .before .before .before .before .before .if2 .left) (c .before .before .before .before .before .before .before .before .before .before .before .before .before .before .before .before .lower .last .1 .0) (c .before .before .before .before .before .before .before .before .before .before .before .before .a .given .0 .0) (c .before .before .before .before .before .before .before .before .before .before .before .before .a .given .0 .1 .0) (taken _ _ _ _ _ _ (c .before .before .before .before .before .before .before .before .before .before .before .before .a .given .0 .0) (c .before .before .before .before .before .before .before .before .before .before .before .before .a .given .0 .1 .0) (arm-from _ _ (c .before .before .before .before .before .before .before .before .before .before .before .before .before .before .before .before .before .before .before .before .before .before .before .before .before .args .b .now) (c .before .before .before .before .before .before .before .before .before .before .before .before .before .before .before .before .before .before .before .before .before .before .before .before .before .args .d) (c .before .before .before .before .before .before .before .before .before .before .before .before .before .before .before .before .before .before .before .before .before .before .before .before .before .args .conjunction) (c .before .before .before .before .before .before .before .before .before .before .before .before .before .before .before .before .before .before .before .before .before .before .before .before .before .args .yes) _ _ _ _ _ _ (further (c .before .before .before .before .before .before .before .before .before .before .before .before .before .before .before .before .before .before .before .before .before .before .before .before .before .args .c) 1) (c .before .before .before .before .before .before .before .before .before .before .before .before .before .before .before .before .before .before .ahead .ensures) (c .before .before .before .before .before .before .before .before .before .before .before .before .before .before .before .before .lower .ensures)) (c .before .before .before .before .before .before .before .before .before .before .before .before .a .given .1)) (c .before .before .before .before .before .before .before .before .put-row .last .0) (c .before .before .before .before .put-row2 .last .0) (c .before .before .before .before .before .before .before .before .put-row .ensures) (c .before .before .before .before .put-row2 .ensures))), (well-to (c .before .before .before .before .before .before .before .before .before .before .before .before .before .before .before .before .before .before .before .before .before .before .before .before .before .args .b .now) (c .before .before .before .before .before .before .before .before .before .before .before .before .before .before .before .before .before .before .before .before .before .before .before .before .before .args .d) (c .before .before .before .before .before .before .before .before .before .before .before .before .before .before .before .before .before .before .before .before .before .before .before .before .before .args .no) _ (further (c .before .before .before .before .before .before .before .before .before .before .before .before .a .given .0 .1 .0) 2) (c .before .ahead2 .ensures) (subst (λ (x : ℕ). all-well-formed (kids (c .before .before .before .before .before .before .before .before .before .before .before .before .before .before .before .before .before .before .before .before .before .before .before .before .before .args .b .now) (c .before .before .before .before .before .before .before .before .before .before .before .before .before .before .before .before .before .before .before .before .before .before .before .before .before .args .d) (c .before .before .before .before .before .before .before .before .before .before .before .before .before .before .before .before .before .before .before .before .before .before .before .before .before .args .no) x) ≡ true) (sym (choices.is-node (context-of (c .before .before .before .before .before .before .before .before .before .before .before .before .before .before .before .before .before .before .before .before .before .before .before .before .before .args .kinds .now) (c .before .before .before .before .before .before .before .before .before .before .before .before .before .before .before .before .before .before .before .before .before .before .before .before .before .args .l .generated)) refl (arm (c .before .before .before .before .before .before .before .before .before .before .before .before .before .before .before .before .before .before .before .before .before .before .before .before .before .args .b .now) (c .before .before .before .before .before .before .before .before .before .before .before .before .before .before .before .before .before .before .before .before .before .before .before .before .before .args .d) (c .before .before .before .before .before .before .before .before .before .before .before .before .before .before .before .before .before .before .before .before .before .before .before .before .before .args .conjunction) (c .before .before .before .before .before .before .before .before .before .before .before .before .before .before .before .before .before .before .before .before .before .before .before .before .before .args .yes) (c .before .before .before .before .before .before .before .before .before .before .before .before .before .before .before .before .before .before .before .before .before .before .before .before .before .args .c .node)) (arm (c .before .before .before .before .before .before .before .before .before .before .before .before .before .before .before .before .before .before .before .before .before .before .before .before .before .args .b .now) (c .before .before .before .before .before .before .before .before .before .before .before .before .before .before .before .before .before .before .before .before .before .before .before .before .before .args .d) (c .before .before .before .before .before .before .before .before .before .before .before .before .before .before .before .before .before .before .before .before .before .before .before .before .before .args .conjunction) (c .before .before .before .before .before .before .before .before .before .before .before .before .before .before .before .before .before .before .before .before .before .before .before .before .before .args .no) (past (c .before .before .before .before .before .before .before .before .before .before .before .before .before .before .before .before .before .before .before .before .before .before .before .before .before .args .b .now) (c .before .before .before .before .before .before .before .before .before .before .before .before .before .before .before .before .before .before .before .before .before .before .before .before .before .args .d) (c .before .before .before .before .before .before .before .before .before .before .before .before .before .before .before .before .before .before .before .before .before .before .before .before .before .args .yes) (c .before .before .before .before .before .before .before .before .before .before .before .before .before .before .before .before .before .before .before .before .before .before .before .before .before .args .c .node))) (c .before .before .before .before .before .before .before .before .before .before .before .before .before .before .before .before .before .before .before .before .before .before .before .before .before .args .v) (past (c .before .before .before .before .before .before .before .before .before .before .before .before .before .before .before .before .before .before .before .before .before .before .before .before .before .args .b .now) (c .before .before .before .before .before .before .before .before .before .before .before .before .before .before .before .before .before .before .before .before .before .before .before .before .before .args .d) (c .before .before .before .before .before .before .before .before .before .before .before .before .before .before .before .before .before .before .before .before .before .before .before .before .before .args .yes) (c .before .before .before .before .before .before .before .before .before .before .before .before .before .before .before .before .before .before .before .before .before .before .before .before .before .args .c .node)) (past (c .before .before .before .before .before .before .before .before .before .before .before .before .before .before .before .before .before .before .before .before .before .before .before .before .before .args .b .now) (c .before .before .before .before .before .before .before .before .before .before .before .before .before .before .before .before .before .before .before .before .before .before .before .before .before .args .d) (c .before .before .before .before .before .before .before .before .before .before .before .before .before .before .before .before .before .before .before .before .before .before .before .before .before .args .no) (past (c .before .before .before .before .before .before .before .before .before .before .before .before .before .before .before .before .before .before .before .before .before .before .before .before .before .args .b .now) (c .before .before .before .before .before .before .before .before .before .before .before .before .before .before .before .before .before .before .before .before .before .before .before .before .before .args .d) (c .before .before .before .before .before .before .before .before .before .before .before .before .before .before .before .before .before .before .before .before .before .before .before .before .before .args .yes) (c .before .before .before .before .before .before .before .before .before .before .before .before .before .before .before .before .before .before .before .before .before .before .before .before .before .args .c .node))) (c .before .before .before .before .before .before .before .before .before .before .before .before .before .before .before .before .before .before .before .before .before .before .before .before .before .pre .1 .0) (c .before .before .before .before .before .before .before .before .before .before .before .before .before .before .before .before .before .before .before .before .before .if1 .taken) (c .before .before .before .before .before .before .before .before .before .before .before .before .before .before .before .before .before .before .before .before .unsupported .result) (c .before .before .before .before .before .before .before .before .before .before .before .before .before .before .before .before .before .before .before .before .unsupported .ensures) (c .before .before .before .before .before .before .before .before .before .before .before .before .before .before .before .before .before .before .before .if2 .left) (c .before .before .before .before .before .before .before .before .before .before .before .before .before .before .before .before .lower .last .1 .0) (c .before .before .before .before .before .before .before .before .before .before .before .before .a .given .0 .0) (c .before .before .before .before .before .before .before .before .before .before .before .before .a .given .0 .1 .0) (taken _ _ _ _ _ _ (c .before .before .before .before .before .before .before .before .before .before .before .before .a .given .0 .0) (c .before .before .before .before .before .before .before .before .before .before .before .before .a .given .0 .1 .0) (arm-from _ _ (c .before .before .before .before .before .before .before .before .before .before .before .before .before .before .before .before .before .before .before .before .before .before .before .before .before .args .b .now) (c .before .before .before .before .before .before .before .before .before .before .before .before .before .before .before .before .before .before .before .before .before .before .before .before .before .args .d) (c .before .before .before .before .before .before .before .before .before .before .before .before .before .before .before .before .before .before .before .before .before .before .before .before .before .args .conjunction) (c .before .before .before .before .before .before .before .before .before .before .before .before .before .before .before .before .before .before .before .before .before .before .before .before .before .args .yes) _ _ _ _ _ _ (further (c .before .before .before .before .before .before .before .before .before .before .before .before .before .before .before .before .before .before .before .before .before .before .before .before .before .args .c) 1) (c .before .before .before .before .before .before .before .before .before .before .before .before .before .before .before .before .before .before .ahead .ensures) (c .before .before .before .before .before .before .before .before .before .before .before .before .before .before .before .before .lower .ensures)) (c .before .before .before .before .before .before .before .before .before .before .before .before .a .given .1)))) (c .before .before .before .before .before .before .before .before .before .before .before .before .before .before .before .before .before .before .before .before .before .before .before .before .before .pre .1 .1 .1)), omega arith, c .before .before .before .before .before .before .before .before .before .before .before .before .before .before .before .before .before .before .before .before .before .before .before .before .before .pre .1 .1 .3)))
+branch-lower-requires-2 : (t : ℕ) → branch-lts.Need-lower-requires-2 (branch-calls t) (branch-at t) branch.Post
+branch-lower-requires-2 t c κs =
+    let pre = c .before .before .before .before .before .before .before .before .before .before .before .before .before .before .before .before .before .before .before .before .before .before .before .before .before .pre in
+    let args = c .before .before .before .before .before .before .before .before .before .before .before .before .before .before .before .before .before .before .before .before .before .before .before .before .before .args in
+    let if1 = c .before .before .before .before .before .before .before .before .before .before .before .before .before .before .before .before .before .before .before .before .before .if1 in
+    let unsupported = c .before .before .before .before .before .before .before .before .before .before .before .before .before .before .before .before .before .before .before .before .unsupported in
+    let if2 = c .before .before .before .before .before .before .before .before .before .before .before .before .before .before .before .before .before .before .before .if2 in
+    let ahead = c .before .before .before .before .before .before .before .before .before .before .before .before .before .before .before .before .before .before .ahead in
+    let lower = c .before .before .before .before .before .before .before .before .before .before .before .before .before .before .before .before .lower in
+    let a = c .before .before .before .before .before .before .before .before .before .before .before .before .a in
+    let put-row = c .before .before .before .before .before .before .before .before .put-row in
+    let put-row2 = c .before .before .before .before .put-row2 in
+    let b = args .b .now in
+    let a-next = a .given .0 .1 .0 in
+    let conjunction = args .conjunction in
+    let ensures = c .before .ahead2 .ensures in
+    let further2 = further a-next 2 in
+    let context = context-of (args .kinds .now) (args .l .generated) in
+    let after-yes = past b (args .d) (args .yes) (args .c .node) in
+    let yes-arm = arm b (args .d) conjunction (args .yes) (args .c .node) in
+    let after-no = past b (args .d) (args .no) after-yes in
+    let no-arm = arm b (args .d) conjunction (args .no) after-yes in
+    let is-taken = taken _ _ _ _ _ _ (a .given .0 .0) a-next
+    (arm-from _ _ b (args .d) conjunction (args .yes) _ _ _ _ _ _ (further (args .c) 1) (ahead .ensures) (lower .ensures)) (a .given .1) in
+    let sym2 = sym (choices.is-node context refl yes-arm no-arm (args .v) after-yes after-no (pre .1 .0) (if1 .taken) (unsupported .result)
+    (unsupported .ensures) (if2 .left) (lower .last .1 .0) (a .given .0 .0) a-next is-taken) in (
+      omega (arith, pre .0),
+      (
+        ready-to b (args .d) conjunction (args .no) _ further2 ensures (arm-ready b (args .d) conjunction (args .no) _ _ sym2 (choices.ready-arm
+            context refl yes-arm no-arm (args .v) after-yes after-no (pre .1 .0) (if1 .taken) (unsupported .result) (unsupported .ensures) (if2 .left)
+            (lower .last .1 .0) (a .given .0 .0) a-next is-taken (put-row .last .0) (put-row2 .last .0) (put-row .ensures) (put-row2 .ensures))),
+        (
+          well-to b (args .d) (args .no) _ further2 ensures
+              (subst (λ (x : ℕ). all-well-formed (kids b (args .d) (args .no) x) ≡ true) sym2 (pre .1 .1 .1)),
+          omega arith,
+          pre .1 .1 .3,
+        ),
+      ),
+    )
 
-branch-enum-known-o : (t : ℕ) → branch-lts.Need-enum-known-o (
-  unsupported-reads.Asked,
-  unsupported-reads.Learnt,
-  ahead-reads.Asked,
-  ahead-reads.Learnt,
-  lower-below t,
-  lower.Post,
-  put-row-reads.Asked,
-  put-row-reads.Learnt,
-  join-reads.Asked,
-  join-reads.Learnt,
-) (branch-at t) branch.Post
+branch-enum-known-o : (t : ℕ) → branch-lts.Need-enum-known-o (branch-calls t) (branch-at t) branch.Post
 branch-enum-known-o t c = search needs
 
-branch-enum-told-2 : (t : ℕ) → branch-lts.Need-enum-told-2 (
-  unsupported-reads.Asked,
-  unsupported-reads.Learnt,
-  ahead-reads.Asked,
-  ahead-reads.Learnt,
-  lower-below t,
-  lower.Post,
-  put-row-reads.Asked,
-  put-row-reads.Learnt,
-  join-reads.Asked,
-  join-reads.Learnt,
-) (branch-at t) branch.Post
+branch-enum-told-2 : (t : ℕ) → branch-lts.Need-enum-told-2 (branch-calls t) (branch-at t) branch.Post
 branch-enum-told-2 t c = search needs
 
-branch-same-length-2 : (t : ℕ) → branch-lts.Need-same-length-2 (
-  unsupported-reads.Asked,
-  unsupported-reads.Learnt,
-  ahead-reads.Asked,
-  ahead-reads.Learnt,
-  lower-below t,
-  lower.Post,
-  put-row-reads.Asked,
-  put-row-reads.Learnt,
-  join-reads.Asked,
-  join-reads.Learnt,
-) (branch-at t) branch.Post
-branch-same-length-2 t c = omega (arith, c .before .before .before .before .lower2 .kept .1 .0, c .before .before .before .before .before .before .before .before .before .put-row2 .kept .0, c .before .before .before .before .before .before .before .before .before .before .before .before .before .put-row .kept .0, c .before .before .before .before .before .before .before .before .before .before .before .before .before .before .before .before .before .before .before .before .before .lower .kept .1 .0)
+branch-same-length-2 : (t : ℕ) → branch-lts.Need-same-length-2 (branch-calls t) (branch-at t) branch.Post
+branch-same-length-2 t c =
+    let lower = c .before .before .before .before .before .before .before .before .before .before .before .before .before .before .before .before .before .before .before .before .before .lower in
+    let put-row = c .before .before .before .before .before .before .before .before .before .before .before .before .before .put-row in
+    let put-row2 = c .before .before .before .before .before .before .before .before .before .put-row2 in
+    omega (arith, c .before .before .before .before .lower2 .kept .1 .0, put-row2 .kept .0, put-row .kept .0, lower .kept .1 .0)
 
-branch-returns-3 : (t : ℕ) → branch-lts.Need-returns-3 (
-  unsupported-reads.Asked,
-  unsupported-reads.Learnt,
-  ahead-reads.Asked,
-  ahead-reads.Learnt,
-  lower-below t,
-  lower.Post,
-  put-row-reads.Asked,
-  put-row-reads.Learnt,
-  join-reads.Asked,
-  join-reads.Learnt,
-) (branch-at t) branch.Post
-branch-returns-3 t c = choices.second-refused (context-of (c .before .before .before .before .before .before .before .before .before .before .before .before .before .before .before .before .before .before .before .before .before .before .before .before .before .before .before .before .before .before .args .kinds .now) (c .before .before .before .before .before .before .before .before .before .before .before .before .before .before .before .before .before .before .before .before .before .before .before .before .before .before .before .before .before .before .args .l .generated)) refl (arm (c .before .before .before .before .before .before .before .before .before .before .before .before .before .before .before .before .before .before .before .before .before .before .before .before .before .before .before .before .before .before .args .b .now) (c .before .before .before .before .before .before .before .before .before .before .before .before .before .before .before .before .before .before .before .before .before .before .before .before .before .before .before .before .before .before .args .d) (c .before .before .before .before .before .before .before .before .before .before .before .before .before .before .before .before .before .before .before .before .before .before .before .before .before .before .before .before .before .before .args .conjunction) (c .before .before .before .before .before .before .before .before .before .before .before .before .before .before .before .before .before .before .before .before .before .before .before .before .before .before .before .before .before .before .args .yes) (c .before .before .before .before .before .before .before .before .before .before .before .before .before .before .before .before .before .before .before .before .before .before .before .before .before .before .before .before .before .before .args .c .node)) (arm (c .before .before .before .before .before .before .before .before .before .before .before .before .before .before .before .before .before .before .before .before .before .before .before .before .before .before .before .before .before .before .args .b .now) (c .before .before .before .before .before .before .before .before .before .before .before .before .before .before .before .before .before .before .before .before .before .before .before .before .before .before .before .before .before .before .args .d) (c .before .before .before .before .before .before .before .before .before .before .before .before .before .before .before .before .before .before .before .before .before .before .before .before .before .before .before .before .before .before .args .conjunction) (c .before .before .before .before .before .before .before .before .before .before .before .before .before .before .before .before .before .before .before .before .before .before .before .before .before .before .before .before .before .before .args .no) (past (c .before .before .before .before .before .before .before .before .before .before .before .before .before .before .before .before .before .before .before .before .before .before .before .before .before .before .before .before .before .before .args .b .now) (c .before .before .before .before .before .before .before .before .before .before .before .before .before .before .before .before .before .before .before .before .before .before .before .before .before .before .before .before .before .before .args .d) (c .before .before .before .before .before .before .before .before .before .before .before .before .before .before .before .before .before .before .before .before .before .before .before .before .before .before .before .before .before .before .args .yes) (c .before .before .before .before .before .before .before .before .before .before .before .before .before .before .before .before .before .before .before .before .before .before .before .before .before .before .before .before .before .before .args .c .node))) (c .before .before .before .before .before .before .before .before .before .before .before .before .before .before .before .before .before .before .before .before .before .before .before .before .before .before .before .before .before .before .args .v) (past (c .before .before .before .before .before .before .before .before .before .before .before .before .before .before .before .before .before .before .before .before .before .before .before .before .before .before .before .before .before .before .args .b .now) (c .before .before .before .before .before .before .before .before .before .before .before .before .before .before .before .before .before .before .before .before .before .before .before .before .before .before .before .before .before .before .args .d) (c .before .before .before .before .before .before .before .before .before .before .before .before .before .before .before .before .before .before .before .before .before .before .before .before .before .before .before .before .before .before .args .yes) (c .before .before .before .before .before .before .before .before .before .before .before .before .before .before .before .before .before .before .before .before .before .before .before .before .before .before .before .before .before .before .args .c .node)) (past (c .before .before .before .before .before .before .before .before .before .before .before .before .before .before .before .before .before .before .before .before .before .before .before .before .before .before .before .before .before .before .args .b .now) (c .before .before .before .before .before .before .before .before .before .before .before .before .before .before .before .before .before .before .before .before .before .before .before .before .before .before .before .before .before .before .args .d) (c .before .before .before .before .before .before .before .before .before .before .before .before .before .before .before .before .before .before .before .before .before .before .before .before .before .before .before .before .before .before .args .no) (past (c .before .before .before .before .before .before .before .before .before .before .before .before .before .before .before .before .before .before .before .before .before .before .before .before .before .before .before .before .before .before .args .b .now) (c .before .before .before .before .before .before .before .before .before .before .before .before .before .before .before .before .before .before .before .before .before .before .before .before .before .before .before .before .before .before .args .d) (c .before .before .before .before .before .before .before .before .before .before .before .before .before .before .before .before .before .before .before .before .before .before .before .before .before .before .before .before .before .before .args .yes) (c .before .before .before .before .before .before .before .before .before .before .before .before .before .before .before .before .before .before .before .before .before .before .before .before .before .before .before .before .before .before .args .c .node))) (c .before .before .before .before .before .before .before .before .before .before .before .before .before .before .before .before .before .before .before .before .before .before .before .before .before .before .before .before .before .before .pre .1 .0) (c .before .before .before .before .before .before .before .before .before .before .before .before .before .before .before .before .before .before .before .before .before .before .before .before .before .before .if1 .taken) (c .before .before .before .before .before .before .before .before .before .before .before .before .before .before .before .before .before .before .before .before .before .before .before .before .before .unsupported .result) (c .before .before .before .before .before .before .before .before .before .before .before .before .before .before .before .before .before .before .before .before .before .before .before .before .before .unsupported .ensures) (c .before .before .before .before .before .before .before .before .before .before .before .before .before .before .before .before .before .before .before .before .before .before .before .before .if2 .left) (c .before .before .before .before .before .before .before .before .before .before .before .before .before .before .before .before .before .before .before .before .before .lower .last .1 .0) (c .before .before .before .before .before .before .before .before .before .before .before .before .before .before .before .before .before .a .given .0 .0) (c .before .before .before .before .before .before .before .before .before .before .before .before .before .before .before .before .before .a .given .0 .1 .0) (taken _ _ _ _ _ _ (c .before .before .before .before .before .before .before .before .before .before .before .before .before .before .before .before .before .a .given .0 .0) (c .before .before .before .before .before .before .before .before .before .before .before .before .before .before .before .before .before .a .given .0 .1 .0) (arm-from _ _ (c .before .before .before .before .before .before .before .before .before .before .before .before .before .before .before .before .before .before .before .before .before .before .before .before .before .before .before .before .before .before .args .b .now) (c .before .before .before .before .before .before .before .before .before .before .before .before .before .before .before .before .before .before .before .before .before .before .before .before .before .before .before .before .before .before .args .d) (c .before .before .before .before .before .before .before .before .before .before .before .before .before .before .before .before .before .before .before .before .before .before .before .before .before .before .before .before .before .before .args .conjunction) (c .before .before .before .before .before .before .before .before .before .before .before .before .before .before .before .before .before .before .before .before .before .before .before .before .before .before .before .before .before .before .args .yes) _ _ _ _ _ _ (further (c .before .before .before .before .before .before .before .before .before .before .before .before .before .before .before .before .before .before .before .before .before .before .before .before .before .before .before .before .before .before .args .c) 1) (c .before .before .before .before .before .before .before .before .before .before .before .before .before .before .before .before .before .before .before .before .before .before .before .ahead .ensures) (c .before .before .before .before .before .before .before .before .before .before .before .before .before .before .before .before .before .before .before .before .before .lower .ensures)) (c .before .before .before .before .before .before .before .before .before .before .before .before .before .before .before .before .before .a .given .1)) (c .before .before .before .before .before .before .before .before .before .before .before .before .before .put-row .last .0) (c .before .before .before .before .before .before .before .before .before .put-row2 .last .0) (c .before .before .before .before .before .before .before .before .before .before .before .before .before .put-row .ensures) (c .before .before .before .before .before .before .before .before .before .put-row2 .ensures) (c .before .before .before .before .lower2 .last .1 .0) (c .before .before .before .before .lower2 .result) (c .enum-told2 .given .0 .0) (c .enum-told2 .given .0 .1 .0) (refused _ _ _ _ _ _ (c .enum-told2 .given .0 .0) (c .enum-told2 .given .0 .1 .0) (arm-at _ _ (c .before .before .before .before .before .before .before .before .before .before .before .before .before .before .before .before .before .before .before .before .before .before .before .before .before .before .before .before .before .before .args .b .now) (c .before .before .before .before .before .before .before .before .before .before .before .before .before .before .before .before .before .before .before .before .before .before .before .before .before .before .before .before .before .before .args .d) (c .before .before .before .before .before .before .before .before .before .before .before .before .before .before .before .before .before .before .before .before .before .before .before .before .before .before .before .before .before .before .args .conjunction) (c .before .before .before .before .before .before .before .before .before .before .before .before .before .before .before .before .before .before .before .before .before .before .before .before .before .before .before .before .before .before .args .no) _ _ _ _ _ _ ((c .before .before .before .before .before .before .before .before .before .before .before .before .before .before .before .before .before .a .given .0 .1 .0) .node) (past (c .before .before .before .before .before .before .before .before .before .before .before .before .before .before .before .before .before .before .before .before .before .before .before .before .before .before .before .before .before .before .args .b .now) (c .before .before .before .before .before .before .before .before .before .before .before .before .before .before .before .before .before .before .before .before .before .before .before .before .before .before .before .before .before .before .args .d) (c .before .before .before .before .before .before .before .before .before .before .before .before .before .before .before .before .before .before .before .before .before .before .before .before .before .before .before .before .before .before .args .yes) (c .before .before .before .before .before .before .before .before .before .before .before .before .before .before .before .before .before .before .before .before .before .before .before .before .before .before .before .before .before .before .args .c .node)) (choices.is-node (context-of (c .before .before .before .before .before .before .before .before .before .before .before .before .before .before .before .before .before .before .before .before .before .before .before .before .before .before .before .before .before .before .args .kinds .now) (c .before .before .before .before .before .before .before .before .before .before .before .before .before .before .before .before .before .before .before .before .before .before .before .before .before .before .before .before .before .before .args .l .generated)) refl (arm (c .before .before .before .before .before .before .before .before .before .before .before .before .before .before .before .before .before .before .before .before .before .before .before .before .before .before .before .before .before .before .args .b .now) (c .before .before .before .before .before .before .before .before .before .before .before .before .before .before .before .before .before .before .before .before .before .before .before .before .before .before .before .before .before .before .args .d) (c .before .before .before .before .before .before .before .before .before .before .before .before .before .before .before .before .before .before .before .before .before .before .before .before .before .before .before .before .before .before .args .conjunction) (c .before .before .before .before .before .before .before .before .before .before .before .before .before .before .before .before .before .before .before .before .before .before .before .before .before .before .before .before .before .before .args .yes) (c .before .before .before .before .before .before .before .before .before .before .before .before .before .before .before .before .before .before .before .before .before .before .before .before .before .before .before .before .before .before .args .c .node)) (arm (c .before .before .before .before .before .before .before .before .before .before .before .before .before .before .before .before .before .before .before .before .before .before .before .before .before .before .before .before .before .before .args .b .now) (c .before .before .before .before .before .before .before .before .before .before .before .before .before .before .before .before .before .before .before .before .before .before .before .before .before .before .before .before .before .before .args .d) (c .before .before .before .before .before .before .before .before .before .before .before .before .before .before .before .before .before .before .before .before .before .before .before .before .before .before .before .before .before .before .args .conjunction) (c .before .before .before .before .before .before .before .before .before .before .before .before .before .before .before .before .before .before .before .before .before .before .before .before .before .before .before .before .before .before .args .no) (past (c .before .before .before .before .before .before .before .before .before .before .before .before .before .before .before .before .before .before .before .before .before .before .before .before .before .before .before .before .before .before .args .b .now) (c .before .before .before .before .before .before .before .before .before .before .before .before .before .before .before .before .before .before .before .before .before .before .before .before .before .before .before .before .before .before .args .d) (c .before .before .before .before .before .before .before .before .before .before .before .before .before .before .before .before .before .before .before .before .before .before .before .before .before .before .before .before .before .before .args .yes) (c .before .before .before .before .before .before .before .before .before .before .before .before .before .before .before .before .before .before .before .before .before .before .before .before .before .before .before .before .before .before .args .c .node))) (c .before .before .before .before .before .before .before .before .before .before .before .before .before .before .before .before .before .before .before .before .before .before .before .before .before .before .before .before .before .before .args .v) (past (c .before .before .before .before .before .before .before .before .before .before .before .before .before .before .before .before .before .before .before .before .before .before .before .before .before .before .before .before .before .before .args .b .now) (c .before .before .before .before .before .before .before .before .before .before .before .before .before .before .before .before .before .before .before .before .before .before .before .before .before .before .before .before .before .before .args .d) (c .before .before .before .before .before .before .before .before .before .before .before .before .before .before .before .before .before .before .before .before .before .before .before .before .before .before .before .before .before .before .args .yes) (c .before .before .before .before .before .before .before .before .before .before .before .before .before .before .before .before .before .before .before .before .before .before .before .before .before .before .before .before .before .before .args .c .node)) (past (c .before .before .before .before .before .before .before .before .before .before .before .before .before .before .before .before .before .before .before .before .before .before .before .before .before .before .before .before .before .before .args .b .now) (c .before .before .before .before .before .before .before .before .before .before .before .before .before .before .before .before .before .before .before .before .before .before .before .before .before .before .before .before .before .before .args .d) (c .before .before .before .before .before .before .before .before .before .before .before .before .before .before .before .before .before .before .before .before .before .before .before .before .before .before .before .before .before .before .args .no) (past (c .before .before .before .before .before .before .before .before .before .before .before .before .before .before .before .before .before .before .before .before .before .before .before .before .before .before .before .before .before .before .args .b .now) (c .before .before .before .before .before .before .before .before .before .before .before .before .before .before .before .before .before .before .before .before .before .before .before .before .before .before .before .before .before .before .args .d) (c .before .before .before .before .before .before .before .before .before .before .before .before .before .before .before .before .before .before .before .before .before .before .before .before .before .before .before .before .before .before .args .yes) (c .before .before .before .before .before .before .before .before .before .before .before .before .before .before .before .before .before .before .before .before .before .before .before .before .before .before .before .before .before .before .args .c .node))) (c .before .before .before .before .before .before .before .before .before .before .before .before .before .before .before .before .before .before .before .before .before .before .before .before .before .before .before .before .before .before .pre .1 .0) (c .before .before .before .before .before .before .before .before .before .before .before .before .before .before .before .before .before .before .before .before .before .before .before .before .before .before .if1 .taken) (c .before .before .before .before .before .before .before .before .before .before .before .before .before .before .before .before .before .before .before .before .before .before .before .before .before .unsupported .result) (c .before .before .before .before .before .before .before .before .before .before .before .before .before .before .before .before .before .before .before .before .before .before .before .before .before .unsupported .ensures) (c .before .before .before .before .before .before .before .before .before .before .before .before .before .before .before .before .before .before .before .before .before .before .before .before .if2 .left) (c .before .before .before .before .before .before .before .before .before .before .before .before .before .before .before .before .before .before .before .before .before .lower .last .1 .0) (c .before .before .before .before .before .before .before .before .before .before .before .before .before .before .before .before .before .a .given .0 .0) (c .before .before .before .before .before .before .before .before .before .before .before .before .before .before .before .before .before .a .given .0 .1 .0) (taken _ _ _ _ _ _ (c .before .before .before .before .before .before .before .before .before .before .before .before .before .before .before .before .before .a .given .0 .0) (c .before .before .before .before .before .before .before .before .before .before .before .before .before .before .before .before .before .a .given .0 .1 .0) (arm-from _ _ (c .before .before .before .before .before .before .before .before .before .before .before .before .before .before .before .before .before .before .before .before .before .before .before .before .before .before .before .before .before .before .args .b .now) (c .before .before .before .before .before .before .before .before .before .before .before .before .before .before .before .before .before .before .before .before .before .before .before .before .before .before .before .before .before .before .args .d) (c .before .before .before .before .before .before .before .before .before .before .before .before .before .before .before .before .before .before .before .before .before .before .before .before .before .before .before .before .before .before .args .conjunction) (c .before .before .before .before .before .before .before .before .before .before .before .before .before .before .before .before .before .before .before .before .before .before .before .before .before .before .before .before .before .before .args .yes) _ _ _ _ _ _ (further (c .before .before .before .before .before .before .before .before .before .before .before .before .before .before .before .before .before .before .before .before .before .before .before .before .before .before .before .before .before .before .args .c) 1) (c .before .before .before .before .before .before .before .before .before .before .before .before .before .before .before .before .before .before .before .before .before .before .before .ahead .ensures) (c .before .before .before .before .before .before .before .before .before .before .before .before .before .before .before .before .before .before .before .before .before .lower .ensures)) (c .before .before .before .before .before .before .before .before .before .before .before .before .before .before .before .before .before .a .given .1))) (arm-from _ _ (c .before .before .before .before .before .before .before .before .before .before .before .before .before .before .before .before .before .before .before .before .before .before .before .before .before .before .before .before .before .before .args .b .now) (c .before .before .before .before .before .before .before .before .before .before .before .before .before .before .before .before .before .before .before .before .before .before .before .before .before .before .before .before .before .before .args .d) (c .before .before .before .before .before .before .before .before .before .before .before .before .before .before .before .before .before .before .before .before .before .before .before .before .before .before .before .before .before .before .args .conjunction) (c .before .before .before .before .before .before .before .before .before .before .before .before .before .before .before .before .before .before .before .before .before .before .before .before .before .before .before .before .before .before .args .no) _ _ _ _ _ _ (further (c .before .before .before .before .before .before .before .before .before .before .before .before .before .before .before .before .before .a .given .0 .1 .0) 2) (c .before .before .before .before .before .before .ahead2 .ensures) (c .before .before .before .before .lower2 .ensures))) (c .enum-told2 .given .1)) (c .enum-told2 .given .1)
+branch-returns-3 : (t : ℕ) → branch-lts.Need-returns-3 (branch-calls t) (branch-at t) branch.Post
+branch-returns-3 t c =
+    let args = c .before .before .before .before .before .before .before .before .before .before .before .before .before .before .before .before .before .before .before .before .before .before .before .before .before .before .before .before .before .before .args in
+    let pre = c .before .before .before .before .before .before .before .before .before .before .before .before .before .before .before .before .before .before .before .before .before .before .before .before .before .before .before .before .before .before .pre in
+    let if1 = c .before .before .before .before .before .before .before .before .before .before .before .before .before .before .before .before .before .before .before .before .before .before .before .before .before .before .if1 in
+    let unsupported = c .before .before .before .before .before .before .before .before .before .before .before .before .before .before .before .before .before .before .before .before .before .before .before .before .before .unsupported in
+    let if2 = c .before .before .before .before .before .before .before .before .before .before .before .before .before .before .before .before .before .before .before .before .before .before .before .before .if2 in
+    let ahead = c .before .before .before .before .before .before .before .before .before .before .before .before .before .before .before .before .before .before .before .before .before .before .before .ahead in
+    let lower = c .before .before .before .before .before .before .before .before .before .before .before .before .before .before .before .before .before .before .before .before .before .lower in
+    let a = c .before .before .before .before .before .before .before .before .before .before .before .before .before .before .before .before .before .a in
+    let put-row = c .before .before .before .before .before .before .before .before .before .before .before .before .before .put-row in
+    let put-row2 = c .before .before .before .before .before .before .before .before .before .put-row2 in
+    let ahead2 = c .before .before .before .before .before .before .ahead2 in
+    let lower2 = c .before .before .before .before .lower2 in
+    let b = args .b .now in
+    let conjunction = args .conjunction in
+    let a-next = a .given .0 .1 .0 in
+    let given4 = c .enum-told2 .given .1 in
+    let given3 = c .enum-told2 .given .0 .0 in
+    let given2 = c .enum-told2 .given .0 .1 .0 in
+    let context = context-of (args .kinds .now) (args .l .generated) in
+    let after-yes = past b (args .d) (args .yes) (args .c .node) in
+    let yes-arm = arm b (args .d) conjunction (args .yes) (args .c .node) in
+    let after-no = past b (args .d) (args .no) after-yes in
+    let no-arm = arm b (args .d) conjunction (args .no) after-yes in
+    let is-taken = taken _ _ _ _ _ _ (a .given .0 .0) a-next
+    (arm-from _ _ b (args .d) conjunction (args .yes) _ _ _ _ _ _ (further (args .c) 1) (ahead .ensures) (lower .ensures)) (a .given .1) in
+    choices.second-refused context refl yes-arm no-arm (args .v) after-yes after-no (pre .1 .0) (if1 .taken) (unsupported .result)
+    (unsupported .ensures) (if2 .left) (lower .last .1 .0) (a .given .0 .0) a-next is-taken (put-row .last .0) (put-row2 .last .0) (put-row .ensures)
+    (put-row2 .ensures) (lower2 .last .1 .0) (lower2 .result) given3 given2 (refused _ _ _ _ _ _ given3 given2 (arm-at _ _ b (args .d) conjunction
+    (args .no) _ _ _ _ _ _ (a-next .node) after-yes (choices.is-node context refl yes-arm no-arm (args .v) after-yes after-no (pre .1 .0) (if1 .taken)
+    (unsupported .result) (unsupported .ensures) (if2 .left) (lower .last .1 .0) (a .given .0 .0) a-next is-taken)
+    (arm-from _ _ b (args .d) conjunction (args .no) _ _ _ _ _ _ (further a-next 2) (ahead2 .ensures) (lower2 .ensures))) given4) given4
 
-branch-join-requires : (t : ℕ) → branch-lts.Need-join-requires (
-  unsupported-reads.Asked,
-  unsupported-reads.Learnt,
-  ahead-reads.Asked,
-  ahead-reads.Learnt,
-  lower-below t,
-  lower.Post,
-  put-row-reads.Asked,
-  put-row-reads.Learnt,
-  join-reads.Asked,
-  join-reads.Learnt,
-) (branch-at t) branch.Post
-branch-join-requires t c κs = (omega (arith, choices.n₄′ (context-of (c .before .before .before .before .before .before .before .before .before .before .before .before .before .before .before .before .before .before .before .before .before .before .before .before .before .before .before .before .before .before .before .before .args .kinds .now) (c .before .before .before .before .before .before .before .before .before .before .before .before .before .before .before .before .before .before .before .before .before .before .before .before .before .before .before .before .before .before .before .before .args .l .generated)) refl (arm (c .before .before .before .before .before .before .before .before .before .before .before .before .before .before .before .before .before .before .before .before .before .before .before .before .before .before .before .before .before .before .before .before .args .b .now) (c .before .before .before .before .before .before .before .before .before .before .before .before .before .before .before .before .before .before .before .before .before .before .before .before .before .before .before .before .before .before .before .before .args .d) (c .before .before .before .before .before .before .before .before .before .before .before .before .before .before .before .before .before .before .before .before .before .before .before .before .before .before .before .before .before .before .before .before .args .conjunction) (c .before .before .before .before .before .before .before .before .before .before .before .before .before .before .before .before .before .before .before .before .before .before .before .before .before .before .before .before .before .before .before .before .args .yes) (c .before .before .before .before .before .before .before .before .before .before .before .before .before .before .before .before .before .before .before .before .before .before .before .before .before .before .before .before .before .before .before .before .args .c .node)) (arm (c .before .before .before .before .before .before .before .before .before .before .before .before .before .before .before .before .before .before .before .before .before .before .before .before .before .before .before .before .before .before .before .before .args .b .now) (c .before .before .before .before .before .before .before .before .before .before .before .before .before .before .before .before .before .before .before .before .before .before .before .before .before .before .before .before .before .before .before .before .args .d) (c .before .before .before .before .before .before .before .before .before .before .before .before .before .before .before .before .before .before .before .before .before .before .before .before .before .before .before .before .before .before .before .before .args .conjunction) (c .before .before .before .before .before .before .before .before .before .before .before .before .before .before .before .before .before .before .before .before .before .before .before .before .before .before .before .before .before .before .before .before .args .no) (past (c .before .before .before .before .before .before .before .before .before .before .before .before .before .before .before .before .before .before .before .before .before .before .before .before .before .before .before .before .before .before .before .before .args .b .now) (c .before .before .before .before .before .before .before .before .before .before .before .before .before .before .before .before .before .before .before .before .before .before .before .before .before .before .before .before .before .before .before .before .args .d) (c .before .before .before .before .before .before .before .before .before .before .before .before .before .before .before .before .before .before .before .before .before .before .before .before .before .before .before .before .before .before .before .before .args .yes) (c .before .before .before .before .before .before .before .before .before .before .before .before .before .before .before .before .before .before .before .before .before .before .before .before .before .before .before .before .before .before .before .before .args .c .node))) (c .before .before .before .before .before .before .before .before .before .before .before .before .before .before .before .before .before .before .before .before .before .before .before .before .before .before .before .before .before .before .before .before .args .v) (past (c .before .before .before .before .before .before .before .before .before .before .before .before .before .before .before .before .before .before .before .before .before .before .before .before .before .before .before .before .before .before .before .before .args .b .now) (c .before .before .before .before .before .before .before .before .before .before .before .before .before .before .before .before .before .before .before .before .before .before .before .before .before .before .before .before .before .before .before .before .args .d) (c .before .before .before .before .before .before .before .before .before .before .before .before .before .before .before .before .before .before .before .before .before .before .before .before .before .before .before .before .before .before .before .before .args .yes) (c .before .before .before .before .before .before .before .before .before .before .before .before .before .before .before .before .before .before .before .before .before .before .before .before .before .before .before .before .before .before .before .before .args .c .node)) (past (c .before .before .before .before .before .before .before .before .before .before .before .before .before .before .before .before .before .before .before .before .before .before .before .before .before .before .before .before .before .before .before .before .args .b .now) (c .before .before .before .before .before .before .before .before .before .before .before .before .before .before .before .before .before .before .before .before .before .before .before .before .before .before .before .before .before .before .before .before .args .d) (c .before .before .before .before .before .before .before .before .before .before .before .before .before .before .before .before .before .before .before .before .before .before .before .before .before .before .before .before .before .before .before .before .args .no) (past (c .before .before .before .before .before .before .before .before .before .before .before .before .before .before .before .before .before .before .before .before .before .before .before .before .before .before .before .before .before .before .before .before .args .b .now) (c .before .before .before .before .before .before .before .before .before .before .before .before .before .before .before .before .before .before .before .before .before .before .before .before .before .before .before .before .before .before .before .before .args .d) (c .before .before .before .before .before .before .before .before .before .before .before .before .before .before .before .before .before .before .before .before .before .before .before .before .before .before .before .before .before .before .before .before .args .yes) (c .before .before .before .before .before .before .before .before .before .before .before .before .before .before .before .before .before .before .before .before .before .before .before .before .before .before .before .before .before .before .before .before .args .c .node))) (c .before .before .before .before .before .before .before .before .before .before .before .before .before .before .before .before .before .before .before .before .before .before .before .before .before .before .before .before .before .before .before .before .pre .1 .0) (c .before .before .before .before .before .before .before .before .before .before .before .before .before .before .before .before .before .before .before .before .before .before .before .before .before .before .before .before .if1 .taken) (c .before .before .before .before .before .before .before .before .before .before .before .before .before .before .before .before .before .before .before .before .before .before .before .before .before .before .before .unsupported .result) (c .before .before .before .before .before .before .before .before .before .before .before .before .before .before .before .before .before .before .before .before .before .before .before .before .before .before .before .unsupported .ensures) (c .before .before .before .before .before .before .before .before .before .before .before .before .before .before .before .before .before .before .before .before .before .before .before .before .before .before .if2 .left) (c .before .before .before .before .before .before .before .before .before .before .before .before .before .before .before .before .before .before .before .before .before .before .before .lower .last .1 .0) (c .before .before .before .before .before .before .before .before .before .before .before .before .before .before .before .before .before .before .before .a .given .0 .0) (c .before .before .before .before .before .before .before .before .before .before .before .before .before .before .before .before .before .before .before .a .given .0 .1 .0) (taken _ _ _ _ _ _ (c .before .before .before .before .before .before .before .before .before .before .before .before .before .before .before .before .before .before .before .a .given .0 .0) (c .before .before .before .before .before .before .before .before .before .before .before .before .before .before .before .before .before .before .before .a .given .0 .1 .0) (arm-from _ _ (c .before .before .before .before .before .before .before .before .before .before .before .before .before .before .before .before .before .before .before .before .before .before .before .before .before .before .before .before .before .before .before .before .args .b .now) (c .before .before .before .before .before .before .before .before .before .before .before .before .before .before .before .before .before .before .before .before .before .before .before .before .before .before .before .before .before .before .before .before .args .d) (c .before .before .before .before .before .before .before .before .before .before .before .before .before .before .before .before .before .before .before .before .before .before .before .before .before .before .before .before .before .before .before .before .args .conjunction) (c .before .before .before .before .before .before .before .before .before .before .before .before .before .before .before .before .before .before .before .before .before .before .before .before .before .before .before .before .before .before .before .before .args .yes) _ _ _ _ _ _ (further (c .before .before .before .before .before .before .before .before .before .before .before .before .before .before .before .before .before .before .before .before .before .before .before .before .before .before .before .before .before .before .before .before .args .c) 1) (c .before .before .before .before .before .before .before .before .before .before .before .before .before .before .before .before .before .before .before .before .before .before .before .before .before .ahead .ensures) (c .before .before .before .before .before .before .before .before .before .before .before .before .before .before .before .before .before .before .before .before .before .before .before .lower .ensures)) (c .before .before .before .before .before .before .before .before .before .before .before .before .before .before .before .before .before .before .before .a .given .1)) (c .before .before .before .before .before .before .before .before .before .before .before .before .before .before .before .put-row .last .0) (c .before .before .before .before .before .before .before .before .before .before .before .put-row2 .last .0) (c .before .before .before .before .before .before .before .before .before .before .before .before .before .before .before .put-row .ensures) (c .before .before .before .before .before .before .before .before .before .before .before .put-row2 .ensures) (c .before .before .before .before .before .before .lower2 .last .1 .0) (c .before .before .o .given .0 .0) (c .before .before .o .given .0 .1 .0) (taken _ _ _ _ _ _ (c .before .before .o .given .0 .0) (c .before .before .o .given .0 .1 .0) (arm-at _ _ (c .before .before .before .before .before .before .before .before .before .before .before .before .before .before .before .before .before .before .before .before .before .before .before .before .before .before .before .before .before .before .before .before .args .b .now) (c .before .before .before .before .before .before .before .before .before .before .before .before .before .before .before .before .before .before .before .before .before .before .before .before .before .before .before .before .before .before .before .before .args .d) (c .before .before .before .before .before .before .before .before .before .before .before .before .before .before .before .before .before .before .before .before .before .before .before .before .before .before .before .before .before .before .before .before .args .conjunction) (c .before .before .before .before .before .before .before .before .before .before .before .before .before .before .before .before .before .before .before .before .before .before .before .before .before .before .before .before .before .before .before .before .args .no) _ _ _ _ _ _ ((c .before .before .before .before .before .before .before .before .before .before .before .before .before .before .before .before .before .before .before .a .given .0 .1 .0) .node) (past (c .before .before .before .before .before .before .before .before .before .before .before .before .before .before .before .before .before .before .before .before .before .before .before .before .before .before .before .before .before .before .before .before .args .b .now) (c .before .before .before .before .before .before .before .before .before .before .before .before .before .before .before .before .before .before .before .before .before .before .before .before .before .before .before .before .before .before .before .before .args .d) (c .before .before .before .before .before .before .before .before .before .before .before .before .before .before .before .before .before .before .before .before .before .before .before .before .before .before .before .before .before .before .before .before .args .yes) (c .before .before .before .before .before .before .before .before .before .before .before .before .before .before .before .before .before .before .before .before .before .before .before .before .before .before .before .before .before .before .before .before .args .c .node)) (choices.is-node (context-of (c .before .before .before .before .before .before .before .before .before .before .before .before .before .before .before .before .before .before .before .before .before .before .before .before .before .before .before .before .before .before .before .before .args .kinds .now) (c .before .before .before .before .before .before .before .before .before .before .before .before .before .before .before .before .before .before .before .before .before .before .before .before .before .before .before .before .before .before .before .before .args .l .generated)) refl (arm (c .before .before .before .before .before .before .before .before .before .before .before .before .before .before .before .before .before .before .before .before .before .before .before .before .before .before .before .before .before .before .before .before .args .b .now) (c .before .before .before .before .before .before .before .before .before .before .before .before .before .before .before .before .before .before .before .before .before .before .before .before .before .before .before .before .before .before .before .before .args .d) (c .before .before .before .before .before .before .before .before .before .before .before .before .before .before .before .before .before .before .before .before .before .before .before .before .before .before .before .before .before .before .before .before .args .conjunction) (c .before .before .before .before .before .before .before .before .before .before .before .before .before .before .before .before .before .before .before .before .before .before .before .before .before .before .before .before .before .before .before .before .args .yes) (c .before .before .before .before .before .before .before .before .before .before .before .before .before .before .before .before .before .before .before .before .before .before .before .before .before .before .before .before .before .before .before .before .args .c .node)) (arm (c .before .before .before .before .before .before .before .before .before .before .before .before .before .before .before .before .before .before .before .before .before .before .before .before .before .before .before .before .before .before .before .before .args .b .now) (c .before .before .before .before .before .before .before .before .before .before .before .before .before .before .before .before .before .before .before .before .before .before .before .before .before .before .before .before .before .before .before .before .args .d) (c .before .before .before .before .before .before .before .before .before .before .before .before .before .before .before .before .before .before .before .before .before .before .before .before .before .before .before .before .before .before .before .before .args .conjunction) (c .before .before .before .before .before .before .before .before .before .before .before .before .before .before .before .before .before .before .before .before .before .before .before .before .before .before .before .before .before .before .before .before .args .no) (past (c .before .before .before .before .before .before .before .before .before .before .before .before .before .before .before .before .before .before .before .before .before .before .before .before .before .before .before .before .before .before .before .before .args .b .now) (c .before .before .before .before .before .before .before .before .before .before .before .before .before .before .before .before .before .before .before .before .before .before .before .before .before .before .before .before .before .before .before .before .args .d) (c .before .before .before .before .before .before .before .before .before .before .before .before .before .before .before .before .before .before .before .before .before .before .before .before .before .before .before .before .before .before .before .before .args .yes) (c .before .before .before .before .before .before .before .before .before .before .before .before .before .before .before .before .before .before .before .before .before .before .before .before .before .before .before .before .before .before .before .before .args .c .node))) (c .before .before .before .before .before .before .before .before .before .before .before .before .before .before .before .before .before .before .before .before .before .before .before .before .before .before .before .before .before .before .before .before .args .v) (past (c .before .before .before .before .before .before .before .before .before .before .before .before .before .before .before .before .before .before .before .before .before .before .before .before .before .before .before .before .before .before .before .before .args .b .now) (c .before .before .before .before .before .before .before .before .before .before .before .before .before .before .before .before .before .before .before .before .before .before .before .before .before .before .before .before .before .before .before .before .args .d) (c .before .before .before .before .before .before .before .before .before .before .before .before .before .before .before .before .before .before .before .before .before .before .before .before .before .before .before .before .before .before .before .before .args .yes) (c .before .before .before .before .before .before .before .before .before .before .before .before .before .before .before .before .before .before .before .before .before .before .before .before .before .before .before .before .before .before .before .before .args .c .node)) (past (c .before .before .before .before .before .before .before .before .before .before .before .before .before .before .before .before .before .before .before .before .before .before .before .before .before .before .before .before .before .before .before .before .args .b .now) (c .before .before .before .before .before .before .before .before .before .before .before .before .before .before .before .before .before .before .before .before .before .before .before .before .before .before .before .before .before .before .before .before .args .d) (c .before .before .before .before .before .before .before .before .before .before .before .before .before .before .before .before .before .before .before .before .before .before .before .before .before .before .before .before .before .before .before .before .args .no) (past (c .before .before .before .before .before .before .before .before .before .before .before .before .before .before .before .before .before .before .before .before .before .before .before .before .before .before .before .before .before .before .before .before .args .b .now) (c .before .before .before .before .before .before .before .before .before .before .before .before .before .before .before .before .before .before .before .before .before .before .before .before .before .before .before .before .before .before .before .before .args .d) (c .before .before .before .before .before .before .before .before .before .before .before .before .before .before .before .before .before .before .before .before .before .before .before .before .before .before .before .before .before .before .before .before .args .yes) (c .before .before .before .before .before .before .before .before .before .before .before .before .before .before .before .before .before .before .before .before .before .before .before .before .before .before .before .before .before .before .before .before .args .c .node))) (c .before .before .before .before .before .before .before .before .before .before .before .before .before .before .before .before .before .before .before .before .before .before .before .before .before .before .before .before .before .before .before .before .pre .1 .0) (c .before .before .before .before .before .before .before .before .before .before .before .before .before .before .before .before .before .before .before .before .before .before .before .before .before .before .before .before .if1 .taken) (c .before .before .before .before .before .before .before .before .before .before .before .before .before .before .before .before .before .before .before .before .before .before .before .before .before .before .before .unsupported .result) (c .before .before .before .before .before .before .before .before .before .before .before .before .before .before .before .before .before .before .before .before .before .before .before .before .before .before .before .unsupported .ensures) (c .before .before .before .before .before .before .before .before .before .before .before .before .before .before .before .before .before .before .before .before .before .before .before .before .before .before .if2 .left) (c .before .before .before .before .before .before .before .before .before .before .before .before .before .before .before .before .before .before .before .before .before .before .before .lower .last .1 .0) (c .before .before .before .before .before .before .before .before .before .before .before .before .before .before .before .before .before .before .before .a .given .0 .0) (c .before .before .before .before .before .before .before .before .before .before .before .before .before .before .before .before .before .before .before .a .given .0 .1 .0) (taken _ _ _ _ _ _ (c .before .before .before .before .before .before .before .before .before .before .before .before .before .before .before .before .before .before .before .a .given .0 .0) (c .before .before .before .before .before .before .before .before .before .before .before .before .before .before .before .before .before .before .before .a .given .0 .1 .0) (arm-from _ _ (c .before .before .before .before .before .before .before .before .before .before .before .before .before .before .before .before .before .before .before .before .before .before .before .before .before .before .before .before .before .before .before .before .args .b .now) (c .before .before .before .before .before .before .before .before .before .before .before .before .before .before .before .before .before .before .before .before .before .before .before .before .before .before .before .before .before .before .before .before .args .d) (c .before .before .before .before .before .before .before .before .before .before .before .before .before .before .before .before .before .before .before .before .before .before .before .before .before .before .before .before .before .before .before .before .args .conjunction) (c .before .before .before .before .before .before .before .before .before .before .before .before .before .before .before .before .before .before .before .before .before .before .before .before .before .before .before .before .before .before .before .before .args .yes) _ _ _ _ _ _ (further (c .before .before .before .before .before .before .before .before .before .before .before .before .before .before .before .before .before .before .before .before .before .before .before .before .before .before .before .before .before .before .before .before .args .c) 1) (c .before .before .before .before .before .before .before .before .before .before .before .before .before .before .before .before .before .before .before .before .before .before .before .before .before .ahead .ensures) (c .before .before .before .before .before .before .before .before .before .before .before .before .before .before .before .before .before .before .before .before .before .before .before .lower .ensures)) (c .before .before .before .before .before .before .before .before .before .before .before .before .before .before .before .before .before .before .before .a .given .1))) (arm-from _ _ (c .before .before .before .before .before .before .before .before .before .before .before .before .before .before .before .before .before .before .before .before .before .before .before .before .before .before .before .before .before .before .before .before .args .b .now) (c .before .before .before .before .before .before .before .before .before .before .before .before .before .before .before .before .before .before .before .before .before .before .before .before .before .before .before .before .before .before .before .before .args .d) (c .before .before .before .before .before .before .before .before .before .before .before .before .before .before .before .before .before .before .before .before .before .before .before .before .before .before .before .before .before .before .before .before .args .conjunction) (c .before .before .before .before .before .before .before .before .before .before .before .before .before .before .before .before .before .before .before .before .before .before .before .before .before .before .before .before .before .before .before .before .args .no) _ _ _ _ _ _ (further (c .before .before .before .before .before .before .before .before .before .before .before .before .before .before .before .before .before .before .before .a .given .0 .1 .0) 2) (c .before .before .before .before .before .before .before .before .ahead2 .ensures) (c .before .before .before .before .before .before .lower2 .ensures))) (c .before .before .o .given .1)) _ refl, choices.is-code (context-of (c .before .before .before .before .before .before .before .before .before .before .before .before .before .before .before .before .before .before .before .before .before .before .before .before .before .before .before .before .before .before .before .before .args .kinds .now) (c .before .before .before .before .before .before .before .before .before .before .before .before .before .before .before .before .before .before .before .before .before .before .before .before .before .before .before .before .before .before .before .before .args .l .generated)) refl (arm (c .before .before .before .before .before .before .before .before .before .before .before .before .before .before .before .before .before .before .before .before .before .before .before .before .before .before .before .before .before .before .before .before .args .b .now) (c .before .before .before .before .before .before .before .before .before .before .before .before .before .before .before .before .before .before .before .before .before .before .before .before .before .before .before .before .before .before .before .before .args .d) (c .before .before .before .before .before .before .before .before .before .before .before .before .before .before .before .before .before .before .before .before .before .before .before .before .before .before .before .before .before .before .before .before .args .conjunction) (c .before .before .before .before .before .before .before .before .before .before .before .before .before .before .before .before .before .before .before .before .before .before .before .before .before .before .before .before .before .before .before .before .args .yes) (c .before .before .before .before .before .before .before .before .before .before .before .before .before .before .before .before .before .before .before .before .before .before .before .before .before .before .before .before .before .before .before .before .args .c .node)) (arm (c .before .before .before .before .before .before .before .before .before .before .before .before .before .before .before .before .before .before .before .before .before .before .before .before .before .before .before .before .before .before .before .before .args .b .now) (c .before .before .before .before .before .before .before .before .before .before .before .before .before .before .before .before .before .before .before .before .before .before .before .before .before .before .before .before .before .before .before .before .args .d) (c .before .before .before .before .before .before .before .before .before .before .before .before .before .before .before .before .before .before .before .before .before .before .before .before .before .before .before .before .before .before .before .before .args .conjunction) (c .before .before .before .before .before .before .before .before .before .before .before .before .before .before .before .before .before .before .before .before .before .before .before .before .before .before .before .before .before .before .before .before .args .no) (past (c .before .before .before .before .before .before .before .before .before .before .before .before .before .before .before .before .before .before .before .before .before .before .before .before .before .before .before .before .before .before .before .before .args .b .now) (c .before .before .before .before .before .before .before .before .before .before .before .before .before .before .before .before .before .before .before .before .before .before .before .before .before .before .before .before .before .before .before .before .args .d) (c .before .before .before .before .before .before .before .before .before .before .before .before .before .before .before .before .before .before .before .before .before .before .before .before .before .before .before .before .before .before .before .before .args .yes) (c .before .before .before .before .before .before .before .before .before .before .before .before .before .before .before .before .before .before .before .before .before .before .before .before .before .before .before .before .before .before .before .before .args .c .node))) (c .before .before .before .before .before .before .before .before .before .before .before .before .before .before .before .before .before .before .before .before .before .before .before .before .before .before .before .before .before .before .before .before .args .v) (past (c .before .before .before .before .before .before .before .before .before .before .before .before .before .before .before .before .before .before .before .before .before .before .before .before .before .before .before .before .before .before .before .before .args .b .now) (c .before .before .before .before .before .before .before .before .before .before .before .before .before .before .before .before .before .before .before .before .before .before .before .before .before .before .before .before .before .before .before .before .args .d) (c .before .before .before .before .before .before .before .before .before .before .before .before .before .before .before .before .before .before .before .before .before .before .before .before .before .before .before .before .before .before .before .before .args .yes) (c .before .before .before .before .before .before .before .before .before .before .before .before .before .before .before .before .before .before .before .before .before .before .before .before .before .before .before .before .before .before .before .before .args .c .node)) (past (c .before .before .before .before .before .before .before .before .before .before .before .before .before .before .before .before .before .before .before .before .before .before .before .before .before .before .before .before .before .before .before .before .args .b .now) (c .before .before .before .before .before .before .before .before .before .before .before .before .before .before .before .before .before .before .before .before .before .before .before .before .before .before .before .before .before .before .before .before .args .d) (c .before .before .before .before .before .before .before .before .before .before .before .before .before .before .before .before .before .before .before .before .before .before .before .before .before .before .before .before .before .before .before .before .args .no) (past (c .before .before .before .before .before .before .before .before .before .before .before .before .before .before .before .before .before .before .before .before .before .before .before .before .before .before .before .before .before .before .before .before .args .b .now) (c .before .before .before .before .before .before .before .before .before .before .before .before .before .before .before .before .before .before .before .before .before .before .before .before .before .before .before .before .before .before .before .before .args .d) (c .before .before .before .before .before .before .before .before .before .before .before .before .before .before .before .before .before .before .before .before .before .before .before .before .before .before .before .before .before .before .before .before .args .yes) (c .before .before .before .before .before .before .before .before .before .before .before .before .before .before .before .before .before .before .before .before .before .before .before .before .before .before .before .before .before .before .before .before .args .c .node))) (c .before .before .before .before .before .before .before .before .before .before .before .before .before .before .before .before .before .before .before .before .before .before .before .before .before .before .before .before .before .before .before .before .pre .1 .0) (c .before .before .before .before .before .before .before .before .before .before .before .before .before .before .before .before .before .before .before .before .before .before .before .before .before .before .before .before .if1 .taken) (c .before .before .before .before .before .before .before .before .before .before .before .before .before .before .before .before .before .before .before .before .before .before .before .before .before .before .before .unsupported .result) (c .before .before .before .before .before .before .before .before .before .before .before .before .before .before .before .before .before .before .before .before .before .before .before .before .before .before .before .unsupported .ensures) (c .before .before .before .before .before .before .before .before .before .before .before .before .before .before .before .before .before .before .before .before .before .before .before .before .before .before .if2 .left) (c .before .before .before .before .before .before .before .before .before .before .before .before .before .before .before .before .before .before .before .before .before .before .before .lower .last .1 .0) (c .before .before .before .before .before .before .before .before .before .before .before .before .before .before .before .before .before .before .before .a .given .0 .0) (c .before .before .before .before .before .before .before .before .before .before .before .before .before .before .before .before .before .before .before .a .given .0 .1 .0) (taken _ _ _ _ _ _ (c .before .before .before .before .before .before .before .before .before .before .before .before .before .before .before .before .before .before .before .a .given .0 .0) (c .before .before .before .before .before .before .before .before .before .before .before .before .before .before .before .before .before .before .before .a .given .0 .1 .0) (arm-from _ _ (c .before .before .before .before .before .before .before .before .before .before .before .before .before .before .before .before .before .before .before .before .before .before .before .before .before .before .before .before .before .before .before .before .args .b .now) (c .before .before .before .before .before .before .before .before .before .before .before .before .before .before .before .before .before .before .before .before .before .before .before .before .before .before .before .before .before .before .before .before .args .d) (c .before .before .before .before .before .before .before .before .before .before .before .before .before .before .before .before .before .before .before .before .before .before .before .before .before .before .before .before .before .before .before .before .args .conjunction) (c .before .before .before .before .before .before .before .before .before .before .before .before .before .before .before .before .before .before .before .before .before .before .before .before .before .before .before .before .before .before .before .before .args .yes) _ _ _ _ _ _ (further (c .before .before .before .before .before .before .before .before .before .before .before .before .before .before .before .before .before .before .before .before .before .before .before .before .before .before .before .before .before .before .before .before .args .c) 1) (c .before .before .before .before .before .before .before .before .before .before .before .before .before .before .before .before .before .before .before .before .before .before .before .before .before .ahead .ensures) (c .before .before .before .before .before .before .before .before .before .before .before .before .before .before .before .before .before .before .before .before .before .before .before .lower .ensures)) (c .before .before .before .before .before .before .before .before .before .before .before .before .before .before .before .before .before .before .before .a .given .1)), (c .before .before .before .before .before .before .before .before .before .before .before .before .before .before .before .before .before .before .before .before .before .before .before .before .before .before .before .before .before .before .before .before .pre .1 .0) .code, (c .before .before .before .before .before .before .before .before .before .before .before .before .before .before .before .before .before .before .before .before .before .before .before .before .before .before .before .before .before .before .before .before .pre .1 .0) .records, (c .before .before .before .before .before .before .before .before .before .before .before .before .before .before .before .before .before .before .before .before .before .before .before .before .before .before .before .before .before .before .before .before .pre .1 .0) .lists), omega (arith, choices.n₄′ (context-of (c .before .before .before .before .before .before .before .before .before .before .before .before .before .before .before .before .before .before .before .before .before .before .before .before .before .before .before .before .before .before .before .before .args .kinds .now) (c .before .before .before .before .before .before .before .before .before .before .before .before .before .before .before .before .before .before .before .before .before .before .before .before .before .before .before .before .before .before .before .before .args .l .generated)) refl (arm (c .before .before .before .before .before .before .before .before .before .before .before .before .before .before .before .before .before .before .before .before .before .before .before .before .before .before .before .before .before .before .before .before .args .b .now) (c .before .before .before .before .before .before .before .before .before .before .before .before .before .before .before .before .before .before .before .before .before .before .before .before .before .before .before .before .before .before .before .before .args .d) (c .before .before .before .before .before .before .before .before .before .before .before .before .before .before .before .before .before .before .before .before .before .before .before .before .before .before .before .before .before .before .before .before .args .conjunction) (c .before .before .before .before .before .before .before .before .before .before .before .before .before .before .before .before .before .before .before .before .before .before .before .before .before .before .before .before .before .before .before .before .args .yes) (c .before .before .before .before .before .before .before .before .before .before .before .before .before .before .before .before .before .before .before .before .before .before .before .before .before .before .before .before .before .before .before .before .args .c .node)) (arm (c .before .before .before .before .before .before .before .before .before .before .before .before .before .before .before .before .before .before .before .before .before .before .before .before .before .before .before .before .before .before .before .before .args .b .now) (c .before .before .before .before .before .before .before .before .before .before .before .before .before .before .before .before .before .before .before .before .before .before .before .before .before .before .before .before .before .before .before .before .args .d) (c .before .before .before .before .before .before .before .before .before .before .before .before .before .before .before .before .before .before .before .before .before .before .before .before .before .before .before .before .before .before .before .before .args .conjunction) (c .before .before .before .before .before .before .before .before .before .before .before .before .before .before .before .before .before .before .before .before .before .before .before .before .before .before .before .before .before .before .before .before .args .no) (past (c .before .before .before .before .before .before .before .before .before .before .before .before .before .before .before .before .before .before .before .before .before .before .before .before .before .before .before .before .before .before .before .before .args .b .now) (c .before .before .before .before .before .before .before .before .before .before .before .before .before .before .before .before .before .before .before .before .before .before .before .before .before .before .before .before .before .before .before .before .args .d) (c .before .before .before .before .before .before .before .before .before .before .before .before .before .before .before .before .before .before .before .before .before .before .before .before .before .before .before .before .before .before .before .before .args .yes) (c .before .before .before .before .before .before .before .before .before .before .before .before .before .before .before .before .before .before .before .before .before .before .before .before .before .before .before .before .before .before .before .before .args .c .node))) (c .before .before .before .before .before .before .before .before .before .before .before .before .before .before .before .before .before .before .before .before .before .before .before .before .before .before .before .before .before .before .before .before .args .v) (past (c .before .before .before .before .before .before .before .before .before .before .before .before .before .before .before .before .before .before .before .before .before .before .before .before .before .before .before .before .before .before .before .before .args .b .now) (c .before .before .before .before .before .before .before .before .before .before .before .before .before .before .before .before .before .before .before .before .before .before .before .before .before .before .before .before .before .before .before .before .args .d) (c .before .before .before .before .before .before .before .before .before .before .before .before .before .before .before .before .before .before .before .before .before .before .before .before .before .before .before .before .before .before .before .before .args .yes) (c .before .before .before .before .before .before .before .before .before .before .before .before .before .before .before .before .before .before .before .before .before .before .before .before .before .before .before .before .before .before .before .before .args .c .node)) (past (c .before .before .before .before .before .before .before .before .before .before .before .before .before .before .before .before .before .before .before .before .before .before .before .before .before .before .before .before .before .before .before .before .args .b .now) (c .before .before .before .before .before .before .before .before .before .before .before .before .before .before .before .before .before .before .before .before .before .before .before .before .before .before .before .before .before .before .before .before .args .d) (c .before .before .before .before .before .before .before .before .before .before .before .before .before .before .before .before .before .before .before .before .before .before .before .before .before .before .before .before .before .before .before .before .args .no) (past (c .before .before .before .before .before .before .before .before .before .before .before .before .before .before .before .before .before .before .before .before .before .before .before .before .before .before .before .before .before .before .before .before .args .b .now) (c .before .before .before .before .before .before .before .before .before .before .before .before .before .before .before .before .before .before .before .before .before .before .before .before .before .before .before .before .before .before .before .before .args .d) (c .before .before .before .before .before .before .before .before .before .before .before .before .before .before .before .before .before .before .before .before .before .before .before .before .before .before .before .before .before .before .before .before .args .yes) (c .before .before .before .before .before .before .before .before .before .before .before .before .before .before .before .before .before .before .before .before .before .before .before .before .before .before .before .before .before .before .before .before .args .c .node))) (c .before .before .before .before .before .before .before .before .before .before .before .before .before .before .before .before .before .before .before .before .before .before .before .before .before .before .before .before .before .before .before .before .pre .1 .0) (c .before .before .before .before .before .before .before .before .before .before .before .before .before .before .before .before .before .before .before .before .before .before .before .before .before .before .before .before .if1 .taken) (c .before .before .before .before .before .before .before .before .before .before .before .before .before .before .before .before .before .before .before .before .before .before .before .before .before .before .before .unsupported .result) (c .before .before .before .before .before .before .before .before .before .before .before .before .before .before .before .before .before .before .before .before .before .before .before .before .before .before .before .unsupported .ensures) (c .before .before .before .before .before .before .before .before .before .before .before .before .before .before .before .before .before .before .before .before .before .before .before .before .before .before .if2 .left) (c .before .before .before .before .before .before .before .before .before .before .before .before .before .before .before .before .before .before .before .before .before .before .before .lower .last .1 .0) (c .before .before .before .before .before .before .before .before .before .before .before .before .before .before .before .before .before .before .before .a .given .0 .0) (c .before .before .before .before .before .before .before .before .before .before .before .before .before .before .before .before .before .before .before .a .given .0 .1 .0) (taken _ _ _ _ _ _ (c .before .before .before .before .before .before .before .before .before .before .before .before .before .before .before .before .before .before .before .a .given .0 .0) (c .before .before .before .before .before .before .before .before .before .before .before .before .before .before .before .before .before .before .before .a .given .0 .1 .0) (arm-from _ _ (c .before .before .before .before .before .before .before .before .before .before .before .before .before .before .before .before .before .before .before .before .before .before .before .before .before .before .before .before .before .before .before .before .args .b .now) (c .before .before .before .before .before .before .before .before .before .before .before .before .before .before .before .before .before .before .before .before .before .before .before .before .before .before .before .before .before .before .before .before .args .d) (c .before .before .before .before .before .before .before .before .before .before .before .before .before .before .before .before .before .before .before .before .before .before .before .before .before .before .before .before .before .before .before .before .args .conjunction) (c .before .before .before .before .before .before .before .before .before .before .before .before .before .before .before .before .before .before .before .before .before .before .before .before .before .before .before .before .before .before .before .before .args .yes) _ _ _ _ _ _ (further (c .before .before .before .before .before .before .before .before .before .before .before .before .before .before .before .before .before .before .before .before .before .before .before .before .before .before .before .before .before .before .before .before .args .c) 1) (c .before .before .before .before .before .before .before .before .before .before .before .before .before .before .before .before .before .before .before .before .before .before .before .before .before .ahead .ensures) (c .before .before .before .before .before .before .before .before .before .before .before .before .before .before .before .before .before .before .before .before .before .before .before .lower .ensures)) (c .before .before .before .before .before .before .before .before .before .before .before .before .before .before .before .before .before .before .before .a .given .1)) (c .before .before .before .before .before .before .before .before .before .before .before .before .before .before .before .put-row .last .0) (c .before .before .before .before .before .before .before .before .before .before .before .put-row2 .last .0) (c .before .before .before .before .before .before .before .before .before .before .before .before .before .before .before .put-row .ensures) (c .before .before .before .before .before .before .before .before .before .before .before .put-row2 .ensures) (c .before .before .before .before .before .before .lower2 .last .1 .0) (c .before .before .o .given .0 .0) (c .before .before .o .given .0 .1 .0) (taken _ _ _ _ _ _ (c .before .before .o .given .0 .0) (c .before .before .o .given .0 .1 .0) (arm-at _ _ (c .before .before .before .before .before .before .before .before .before .before .before .before .before .before .before .before .before .before .before .before .before .before .before .before .before .before .before .before .before .before .before .before .args .b .now) (c .before .before .before .before .before .before .before .before .before .before .before .before .before .before .before .before .before .before .before .before .before .before .before .before .before .before .before .before .before .before .before .before .args .d) (c .before .before .before .before .before .before .before .before .before .before .before .before .before .before .before .before .before .before .before .before .before .before .before .before .before .before .before .before .before .before .before .before .args .conjunction) (c .before .before .before .before .before .before .before .before .before .before .before .before .before .before .before .before .before .before .before .before .before .before .before .before .before .before .before .before .before .before .before .before .args .no) _ _ _ _ _ _ ((c .before .before .before .before .before .before .before .before .before .before .before .before .before .before .before .before .before .before .before .a .given .0 .1 .0) .node) (past (c .before .before .before .before .before .before .before .before .before .before .before .before .before .before .before .before .before .before .before .before .before .before .before .before .before .before .before .before .before .before .before .before .args .b .now) (c .before .before .before .before .before .before .before .before .before .before .before .before .before .before .before .before .before .before .before .before .before .before .before .before .before .before .before .before .before .before .before .before .args .d) (c .before .before .before .before .before .before .before .before .before .before .before .before .before .before .before .before .before .before .before .before .before .before .before .before .before .before .before .before .before .before .before .before .args .yes) (c .before .before .before .before .before .before .before .before .before .before .before .before .before .before .before .before .before .before .before .before .before .before .before .before .before .before .before .before .before .before .before .before .args .c .node)) (choices.is-node (context-of (c .before .before .before .before .before .before .before .before .before .before .before .before .before .before .before .before .before .before .before .before .before .before .before .before .before .before .before .before .before .before .before .before .args .kinds .now) (c .before .before .before .before .before .before .before .before .before .before .before .before .before .before .before .before .before .before .before .before .before .before .before .before .before .before .before .before .before .before .before .before .args .l .generated)) refl (arm (c .before .before .before .before .before .before .before .before .before .before .before .before .before .before .before .before .before .before .before .before .before .before .before .before .before .before .before .before .before .before .before .before .args .b .now) (c .before .before .before .before .before .before .before .before .before .before .before .before .before .before .before .before .before .before .before .before .before .before .before .before .before .before .before .before .before .before .before .before .args .d) (c .before .before .before .before .before .before .before .before .before .before .before .before .before .before .before .before .before .before .before .before .before .before .before .before .before .before .before .before .before .before .before .before .args .conjunction) (c .before .before .before .before .before .before .before .before .before .before .before .before .before .before .before .before .before .before .before .before .before .before .before .before .before .before .before .before .before .before .before .before .args .yes) (c .before .before .before .before .before .before .before .before .before .before .before .before .before .before .before .before .before .before .before .before .before .before .before .before .before .before .before .before .before .before .before .before .args .c .node)) (arm (c .before .before .before .before .before .before .before .before .before .before .before .before .before .before .before .before .before .before .before .before .before .before .before .before .before .before .before .before .before .before .before .before .args .b .now) (c .before .before .before .before .before .before .before .before .before .before .before .before .before .before .before .before .before .before .before .before .before .before .before .before .before .before .before .before .before .before .before .before .args .d) (c .before .before .before .before .before .before .before .before .before .before .before .before .before .before .before .before .before .before .before .before .before .before .before .before .before .before .before .before .before .before .before .before .args .conjunction) (c .before .before .before .before .before .before .before .before .before .before .before .before .before .before .before .before .before .before .before .before .before .before .before .before .before .before .before .before .before .before .before .before .args .no) (past (c .before .before .before .before .before .before .before .before .before .before .before .before .before .before .before .before .before .before .before .before .before .before .before .before .before .before .before .before .before .before .before .before .args .b .now) (c .before .before .before .before .before .before .before .before .before .before .before .before .before .before .before .before .before .before .before .before .before .before .before .before .before .before .before .before .before .before .before .before .args .d) (c .before .before .before .before .before .before .before .before .before .before .before .before .before .before .before .before .before .before .before .before .before .before .before .before .before .before .before .before .before .before .before .before .args .yes) (c .before .before .before .before .before .before .before .before .before .before .before .before .before .before .before .before .before .before .before .before .before .before .before .before .before .before .before .before .before .before .before .before .args .c .node))) (c .before .before .before .before .before .before .before .before .before .before .before .before .before .before .before .before .before .before .before .before .before .before .before .before .before .before .before .before .before .before .before .before .args .v) (past (c .before .before .before .before .before .before .before .before .before .before .before .before .before .before .before .before .before .before .before .before .before .before .before .before .before .before .before .before .before .before .before .before .args .b .now) (c .before .before .before .before .before .before .before .before .before .before .before .before .before .before .before .before .before .before .before .before .before .before .before .before .before .before .before .before .before .before .before .before .args .d) (c .before .before .before .before .before .before .before .before .before .before .before .before .before .before .before .before .before .before .before .before .before .before .before .before .before .before .before .before .before .before .before .before .args .yes) (c .before .before .before .before .before .before .before .before .before .before .before .before .before .before .before .before .before .before .before .before .before .before .before .before .before .before .before .before .before .before .before .before .args .c .node)) (past (c .before .before .before .before .before .before .before .before .before .before .before .before .before .before .before .before .before .before .before .before .before .before .before .before .before .before .before .before .before .before .before .before .args .b .now) (c .before .before .before .before .before .before .before .before .before .before .before .before .before .before .before .before .before .before .before .before .before .before .before .before .before .before .before .before .before .before .before .before .args .d) (c .before .before .before .before .before .before .before .before .before .before .before .before .before .before .before .before .before .before .before .before .before .before .before .before .before .before .before .before .before .before .before .before .args .no) (past (c .before .before .before .before .before .before .before .before .before .before .before .before .before .before .before .before .before .before .before .before .before .before .before .before .before .before .before .before .before .before .before .before .args .b .now) (c .before .before .before .before .before .before .before .before .before .before .before .before .before .before .before .before .before .before .before .before .before .before .before .before .before .before .before .before .before .before .before .before .args .d) (c .before .before .before .before .before .before .before .before .before .before .before .before .before .before .before .before .before .before .before .before .before .before .before .before .before .before .before .before .before .before .before .before .args .yes) (c .before .before .before .before .before .before .before .before .before .before .before .before .before .before .before .before .before .before .before .before .before .before .before .before .before .before .before .before .before .before .before .before .args .c .node))) (c .before .before .before .before .before .before .before .before .before .before .before .before .before .before .before .before .before .before .before .before .before .before .before .before .before .before .before .before .before .before .before .before .pre .1 .0) (c .before .before .before .before .before .before .before .before .before .before .before .before .before .before .before .before .before .before .before .before .before .before .before .before .before .before .before .before .if1 .taken) (c .before .before .before .before .before .before .before .before .before .before .before .before .before .before .before .before .before .before .before .before .before .before .before .before .before .before .before .unsupported .result) (c .before .before .before .before .before .before .before .before .before .before .before .before .before .before .before .before .before .before .before .before .before .before .before .before .before .before .before .unsupported .ensures) (c .before .before .before .before .before .before .before .before .before .before .before .before .before .before .before .before .before .before .before .before .before .before .before .before .before .before .if2 .left) (c .before .before .before .before .before .before .before .before .before .before .before .before .before .before .before .before .before .before .before .before .before .before .before .lower .last .1 .0) (c .before .before .before .before .before .before .before .before .before .before .before .before .before .before .before .before .before .before .before .a .given .0 .0) (c .before .before .before .before .before .before .before .before .before .before .before .before .before .before .before .before .before .before .before .a .given .0 .1 .0) (taken _ _ _ _ _ _ (c .before .before .before .before .before .before .before .before .before .before .before .before .before .before .before .before .before .before .before .a .given .0 .0) (c .before .before .before .before .before .before .before .before .before .before .before .before .before .before .before .before .before .before .before .a .given .0 .1 .0) (arm-from _ _ (c .before .before .before .before .before .before .before .before .before .before .before .before .before .before .before .before .before .before .before .before .before .before .before .before .before .before .before .before .before .before .before .before .args .b .now) (c .before .before .before .before .before .before .before .before .before .before .before .before .before .before .before .before .before .before .before .before .before .before .before .before .before .before .before .before .before .before .before .before .args .d) (c .before .before .before .before .before .before .before .before .before .before .before .before .before .before .before .before .before .before .before .before .before .before .before .before .before .before .before .before .before .before .before .before .args .conjunction) (c .before .before .before .before .before .before .before .before .before .before .before .before .before .before .before .before .before .before .before .before .before .before .before .before .before .before .before .before .before .before .before .before .args .yes) _ _ _ _ _ _ (further (c .before .before .before .before .before .before .before .before .before .before .before .before .before .before .before .before .before .before .before .before .before .before .before .before .before .before .before .before .before .before .before .before .args .c) 1) (c .before .before .before .before .before .before .before .before .before .before .before .before .before .before .before .before .before .before .before .before .before .before .before .before .before .ahead .ensures) (c .before .before .before .before .before .before .before .before .before .before .before .before .before .before .before .before .before .before .before .before .before .before .before .lower .ensures)) (c .before .before .before .before .before .before .before .before .before .before .before .before .before .before .before .before .before .before .before .a .given .1))) (arm-from _ _ (c .before .before .before .before .before .before .before .before .before .before .before .before .before .before .before .before .before .before .before .before .before .before .before .before .before .before .before .before .before .before .before .before .args .b .now) (c .before .before .before .before .before .before .before .before .before .before .before .before .before .before .before .before .before .before .before .before .before .before .before .before .before .before .before .before .before .before .before .before .args .d) (c .before .before .before .before .before .before .before .before .before .before .before .before .before .before .before .before .before .before .before .before .before .before .before .before .before .before .before .before .before .before .before .before .args .conjunction) (c .before .before .before .before .before .before .before .before .before .before .before .before .before .before .before .before .before .before .before .before .before .before .before .before .before .before .before .before .before .before .before .before .args .no) _ _ _ _ _ _ (further (c .before .before .before .before .before .before .before .before .before .before .before .before .before .before .before .before .before .before .before .a .given .0 .1 .0) 2) (c .before .before .before .before .before .before .before .before .ahead2 .ensures) (c .before .before .before .before .before .before .lower2 .ensures))) (c .before .before .o .given .1)) _ refl, choices.z-code (context-of (c .before .before .before .before .before .before .before .before .before .before .before .before .before .before .before .before .before .before .before .before .before .before .before .before .before .before .before .before .before .before .before .before .args .kinds .now) (c .before .before .before .before .before .before .before .before .before .before .before .before .before .before .before .before .before .before .before .before .before .before .before .before .before .before .before .before .before .before .before .before .args .l .generated)) refl (arm (c .before .before .before .before .before .before .before .before .before .before .before .before .before .before .before .before .before .before .before .before .before .before .before .before .before .before .before .before .before .before .before .before .args .b .now) (c .before .before .before .before .before .before .before .before .before .before .before .before .before .before .before .before .before .before .before .before .before .before .before .before .before .before .before .before .before .before .before .before .args .d) (c .before .before .before .before .before .before .before .before .before .before .before .before .before .before .before .before .before .before .before .before .before .before .before .before .before .before .before .before .before .before .before .before .args .conjunction) (c .before .before .before .before .before .before .before .before .before .before .before .before .before .before .before .before .before .before .before .before .before .before .before .before .before .before .before .before .before .before .before .before .args .yes) (c .before .before .before .before .before .before .before .before .before .before .before .before .before .before .before .before .before .before .before .before .before .before .before .before .before .before .before .before .before .before .before .before .args .c .node)) (arm (c .before .before .before .before .before .before .before .before .before .before .before .before .before .before .before .before .before .before .before .before .before .before .before .before .before .before .before .before .before .before .before .before .args .b .now) (c .before .before .before .before .before .before .before .before .before .before .before .before .before .before .before .before .before .before .before .before .before .before .before .before .before .before .before .before .before .before .before .before .args .d) (c .before .before .before .before .before .before .before .before .before .before .before .before .before .before .before .before .before .before .before .before .before .before .before .before .before .before .before .before .before .before .before .before .args .conjunction) (c .before .before .before .before .before .before .before .before .before .before .before .before .before .before .before .before .before .before .before .before .before .before .before .before .before .before .before .before .before .before .before .before .args .no) (past (c .before .before .before .before .before .before .before .before .before .before .before .before .before .before .before .before .before .before .before .before .before .before .before .before .before .before .before .before .before .before .before .before .args .b .now) (c .before .before .before .before .before .before .before .before .before .before .before .before .before .before .before .before .before .before .before .before .before .before .before .before .before .before .before .before .before .before .before .before .args .d) (c .before .before .before .before .before .before .before .before .before .before .before .before .before .before .before .before .before .before .before .before .before .before .before .before .before .before .before .before .before .before .before .before .args .yes) (c .before .before .before .before .before .before .before .before .before .before .before .before .before .before .before .before .before .before .before .before .before .before .before .before .before .before .before .before .before .before .before .before .args .c .node))) (c .before .before .before .before .before .before .before .before .before .before .before .before .before .before .before .before .before .before .before .before .before .before .before .before .before .before .before .before .before .before .before .before .args .v) (past (c .before .before .before .before .before .before .before .before .before .before .before .before .before .before .before .before .before .before .before .before .before .before .before .before .before .before .before .before .before .before .before .before .args .b .now) (c .before .before .before .before .before .before .before .before .before .before .before .before .before .before .before .before .before .before .before .before .before .before .before .before .before .before .before .before .before .before .before .before .args .d) (c .before .before .before .before .before .before .before .before .before .before .before .before .before .before .before .before .before .before .before .before .before .before .before .before .before .before .before .before .before .before .before .before .args .yes) (c .before .before .before .before .before .before .before .before .before .before .before .before .before .before .before .before .before .before .before .before .before .before .before .before .before .before .before .before .before .before .before .before .args .c .node)) (past (c .before .before .before .before .before .before .before .before .before .before .before .before .before .before .before .before .before .before .before .before .before .before .before .before .before .before .before .before .before .before .before .before .args .b .now) (c .before .before .before .before .before .before .before .before .before .before .before .before .before .before .before .before .before .before .before .before .before .before .before .before .before .before .before .before .before .before .before .before .args .d) (c .before .before .before .before .before .before .before .before .before .before .before .before .before .before .before .before .before .before .before .before .before .before .before .before .before .before .before .before .before .before .before .before .args .no) (past (c .before .before .before .before .before .before .before .before .before .before .before .before .before .before .before .before .before .before .before .before .before .before .before .before .before .before .before .before .before .before .before .before .args .b .now) (c .before .before .before .before .before .before .before .before .before .before .before .before .before .before .before .before .before .before .before .before .before .before .before .before .before .before .before .before .before .before .before .before .args .d) (c .before .before .before .before .before .before .before .before .before .before .before .before .before .before .before .before .before .before .before .before .before .before .before .before .before .before .before .before .before .before .before .before .args .yes) (c .before .before .before .before .before .before .before .before .before .before .before .before .before .before .before .before .before .before .before .before .before .before .before .before .before .before .before .before .before .before .before .before .args .c .node))) (c .before .before .before .before .before .before .before .before .before .before .before .before .before .before .before .before .before .before .before .before .before .before .before .before .before .before .before .before .before .before .before .before .pre .1 .0) (c .before .before .before .before .before .before .before .before .before .before .before .before .before .before .before .before .before .before .before .before .before .before .before .before .before .before .before .before .if1 .taken) (c .before .before .before .before .before .before .before .before .before .before .before .before .before .before .before .before .before .before .before .before .before .before .before .before .before .before .before .unsupported .result) (c .before .before .before .before .before .before .before .before .before .before .before .before .before .before .before .before .before .before .before .before .before .before .before .before .before .before .before .unsupported .ensures) (c .before .before .before .before .before .before .before .before .before .before .before .before .before .before .before .before .before .before .before .before .before .before .before .before .before .before .if2 .left) (c .before .before .before .before .before .before .before .before .before .before .before .before .before .before .before .before .before .before .before .before .before .before .before .lower .last .1 .0) (c .before .before .before .before .before .before .before .before .before .before .before .before .before .before .before .before .before .before .before .a .given .0 .0) (c .before .before .before .before .before .before .before .before .before .before .before .before .before .before .before .before .before .before .before .a .given .0 .1 .0) (taken _ _ _ _ _ _ (c .before .before .before .before .before .before .before .before .before .before .before .before .before .before .before .before .before .before .before .a .given .0 .0) (c .before .before .before .before .before .before .before .before .before .before .before .before .before .before .before .before .before .before .before .a .given .0 .1 .0) (arm-from _ _ (c .before .before .before .before .before .before .before .before .before .before .before .before .before .before .before .before .before .before .before .before .before .before .before .before .before .before .before .before .before .before .before .before .args .b .now) (c .before .before .before .before .before .before .before .before .before .before .before .before .before .before .before .before .before .before .before .before .before .before .before .before .before .before .before .before .before .before .before .before .args .d) (c .before .before .before .before .before .before .before .before .before .before .before .before .before .before .before .before .before .before .before .before .before .before .before .before .before .before .before .before .before .before .before .before .args .conjunction) (c .before .before .before .before .before .before .before .before .before .before .before .before .before .before .before .before .before .before .before .before .before .before .before .before .before .before .before .before .before .before .before .before .args .yes) _ _ _ _ _ _ (further (c .before .before .before .before .before .before .before .before .before .before .before .before .before .before .before .before .before .before .before .before .before .before .before .before .before .before .before .before .before .before .before .before .args .c) 1) (c .before .before .before .before .before .before .before .before .before .before .before .before .before .before .before .before .before .before .before .before .before .before .before .before .before .ahead .ensures) (c .before .before .before .before .before .before .before .before .before .before .before .before .before .before .before .before .before .before .before .before .before .before .before .lower .ensures)) (c .before .before .before .before .before .before .before .before .before .before .before .before .before .before .before .before .before .before .before .a .given .1)) (c .before .before .before .before .before .before .before .before .before .before .before .before .before .before .before .put-row .last .0) (c .before .before .before .before .before .before .before .before .before .before .before .put-row2 .last .0) (c .before .before .before .before .before .before .before .before .before .before .before .before .before .before .before .put-row .ensures) (c .before .before .before .before .before .before .before .before .before .before .before .put-row2 .ensures) (c .before .before .before .before .before .before .lower2 .last .1 .0) (c .before .before .o .given .0 .0) (c .before .before .o .given .0 .1 .0) (taken _ _ _ _ _ _ (c .before .before .o .given .0 .0) (c .before .before .o .given .0 .1 .0) (arm-at _ _ (c .before .before .before .before .before .before .before .before .before .before .before .before .before .before .before .before .before .before .before .before .before .before .before .before .before .before .before .before .before .before .before .before .args .b .now) (c .before .before .before .before .before .before .before .before .before .before .before .before .before .before .before .before .before .before .before .before .before .before .before .before .before .before .before .before .before .before .before .before .args .d) (c .before .before .before .before .before .before .before .before .before .before .before .before .before .before .before .before .before .before .before .before .before .before .before .before .before .before .before .before .before .before .before .before .args .conjunction) (c .before .before .before .before .before .before .before .before .before .before .before .before .before .before .before .before .before .before .before .before .before .before .before .before .before .before .before .before .before .before .before .before .args .no) _ _ _ _ _ _ ((c .before .before .before .before .before .before .before .before .before .before .before .before .before .before .before .before .before .before .before .a .given .0 .1 .0) .node) (past (c .before .before .before .before .before .before .before .before .before .before .before .before .before .before .before .before .before .before .before .before .before .before .before .before .before .before .before .before .before .before .before .before .args .b .now) (c .before .before .before .before .before .before .before .before .before .before .before .before .before .before .before .before .before .before .before .before .before .before .before .before .before .before .before .before .before .before .before .before .args .d) (c .before .before .before .before .before .before .before .before .before .before .before .before .before .before .before .before .before .before .before .before .before .before .before .before .before .before .before .before .before .before .before .before .args .yes) (c .before .before .before .before .before .before .before .before .before .before .before .before .before .before .before .before .before .before .before .before .before .before .before .before .before .before .before .before .before .before .before .before .args .c .node)) (choices.is-node (context-of (c .before .before .before .before .before .before .before .before .before .before .before .before .before .before .before .before .before .before .before .before .before .before .before .before .before .before .before .before .before .before .before .before .args .kinds .now) (c .before .before .before .before .before .before .before .before .before .before .before .before .before .before .before .before .before .before .before .before .before .before .before .before .before .before .before .before .before .before .before .before .args .l .generated)) refl (arm (c .before .before .before .before .before .before .before .before .before .before .before .before .before .before .before .before .before .before .before .before .before .before .before .before .before .before .before .before .before .before .before .before .args .b .now) (c .before .before .before .before .before .before .before .before .before .before .before .before .before .before .before .before .before .before .before .before .before .before .before .before .before .before .before .before .before .before .before .before .args .d) (c .before .before .before .before .before .before .before .before .before .before .before .before .before .before .before .before .before .before .before .before .before .before .before .before .before .before .before .before .before .before .before .before .args .conjunction) (c .before .before .before .before .before .before .before .before .before .before .before .before .before .before .before .before .before .before .before .before .before .before .before .before .before .before .before .before .before .before .before .before .args .yes) (c .before .before .before .before .before .before .before .before .before .before .before .before .before .before .before .before .before .before .before .before .before .before .before .before .before .before .before .before .before .before .before .before .args .c .node)) (arm (c .before .before .before .before .before .before .before .before .before .before .before .before .before .before .before .before .before .before .before .before .before .before .before .before .before .before .before .before .before .before .before .before .args .b .now) (c .before .before .before .before .before .before .before .before .before .before .before .before .before .before .before .before .before .before .before .before .before .before .before .before .before .before .before .before .before .before .before .before .args .d) (c .before .before .before .before .before .before .before .before .before .before .before .before .before .before .before .before .before .before .before .before .before .before .before .before .before .before .before .before .before .before .before .before .args .conjunction) (c .before .before .before .before .before .before .before .before .before .before .before .before .before .before .before .before .before .before .before .before .before .before .before .before .before .before .before .before .before .before .before .before .args .no) (past (c .before .before .before .before .before .before .before .before .before .before .before .before .before .before .before .before .before .before .before .before .before .before .before .before .before .before .before .before .before .before .before .before .args .b .now) (c .before .before .before .before .before .before .before .before .before .before .before .before .before .before .before .before .before .before .before .before .before .before .before .before .before .before .before .before .before .before .before .before .args .d) (c .before .before .before .before .before .before .before .before .before .before .before .before .before .before .before .before .before .before .before .before .before .before .before .before .before .before .before .before .before .before .before .before .args .yes) (c .before .before .before .before .before .before .before .before .before .before .before .before .before .before .before .before .before .before .before .before .before .before .before .before .before .before .before .before .before .before .before .before .args .c .node))) (c .before .before .before .before .before .before .before .before .before .before .before .before .before .before .before .before .before .before .before .before .before .before .before .before .before .before .before .before .before .before .before .before .args .v) (past (c .before .before .before .before .before .before .before .before .before .before .before .before .before .before .before .before .before .before .before .before .before .before .before .before .before .before .before .before .before .before .before .before .args .b .now) (c .before .before .before .before .before .before .before .before .before .before .before .before .before .before .before .before .before .before .before .before .before .before .before .before .before .before .before .before .before .before .before .before .args .d) (c .before .before .before .before .before .before .before .before .before .before .before .before .before .before .before .before .before .before .before .before .before .before .before .before .before .before .before .before .before .before .before .before .args .yes) (c .before .before .before .before .before .before .before .before .before .before .before .before .before .before .before .before .before .before .before .before .before .before .before .before .before .before .before .before .before .before .before .before .args .c .node)) (past (c .before .before .before .before .before .before .before .before .before .before .before .before .before .before .before .before .before .before .before .before .before .before .before .before .before .before .before .before .before .before .before .before .args .b .now) (c .before .before .before .before .before .before .before .before .before .before .before .before .before .before .before .before .before .before .before .before .before .before .before .before .before .before .before .before .before .before .before .before .args .d) (c .before .before .before .before .before .before .before .before .before .before .before .before .before .before .before .before .before .before .before .before .before .before .before .before .before .before .before .before .before .before .before .before .args .no) (past (c .before .before .before .before .before .before .before .before .before .before .before .before .before .before .before .before .before .before .before .before .before .before .before .before .before .before .before .before .before .before .before .before .args .b .now) (c .before .before .before .before .before .before .before .before .before .before .before .before .before .before .before .before .before .before .before .before .before .before .before .before .before .before .before .before .before .before .before .before .args .d) (c .before .before .before .before .before .before .before .before .before .before .before .before .before .before .before .before .before .before .before .before .before .before .before .before .before .before .before .before .before .before .before .before .args .yes) (c .before .before .before .before .before .before .before .before .before .before .before .before .before .before .before .before .before .before .before .before .before .before .before .before .before .before .before .before .before .before .before .before .args .c .node))) (c .before .before .before .before .before .before .before .before .before .before .before .before .before .before .before .before .before .before .before .before .before .before .before .before .before .before .before .before .before .before .before .before .pre .1 .0) (c .before .before .before .before .before .before .before .before .before .before .before .before .before .before .before .before .before .before .before .before .before .before .before .before .before .before .before .before .if1 .taken) (c .before .before .before .before .before .before .before .before .before .before .before .before .before .before .before .before .before .before .before .before .before .before .before .before .before .before .before .unsupported .result) (c .before .before .before .before .before .before .before .before .before .before .before .before .before .before .before .before .before .before .before .before .before .before .before .before .before .before .before .unsupported .ensures) (c .before .before .before .before .before .before .before .before .before .before .before .before .before .before .before .before .before .before .before .before .before .before .before .before .before .before .if2 .left) (c .before .before .before .before .before .before .before .before .before .before .before .before .before .before .before .before .before .before .before .before .before .before .before .lower .last .1 .0) (c .before .before .before .before .before .before .before .before .before .before .before .before .before .before .before .before .before .before .before .a .given .0 .0) (c .before .before .before .before .before .before .before .before .before .before .before .before .before .before .before .before .before .before .before .a .given .0 .1 .0) (taken _ _ _ _ _ _ (c .before .before .before .before .before .before .before .before .before .before .before .before .before .before .before .before .before .before .before .a .given .0 .0) (c .before .before .before .before .before .before .before .before .before .before .before .before .before .before .before .before .before .before .before .a .given .0 .1 .0) (arm-from _ _ (c .before .before .before .before .before .before .before .before .before .before .before .before .before .before .before .before .before .before .before .before .before .before .before .before .before .before .before .before .before .before .before .before .args .b .now) (c .before .before .before .before .before .before .before .before .before .before .before .before .before .before .before .before .before .before .before .before .before .before .before .before .before .before .before .before .before .before .before .before .args .d) (c .before .before .before .before .before .before .before .before .before .before .before .before .before .before .before .before .before .before .before .before .before .before .before .before .before .before .before .before .before .before .before .before .args .conjunction) (c .before .before .before .before .before .before .before .before .before .before .before .before .before .before .before .before .before .before .before .before .before .before .before .before .before .before .before .before .before .before .before .before .args .yes) _ _ _ _ _ _ (further (c .before .before .before .before .before .before .before .before .before .before .before .before .before .before .before .before .before .before .before .before .before .before .before .before .before .before .before .before .before .before .before .before .args .c) 1) (c .before .before .before .before .before .before .before .before .before .before .before .before .before .before .before .before .before .before .before .before .before .before .before .before .before .ahead .ensures) (c .before .before .before .before .before .before .before .before .before .before .before .before .before .before .before .before .before .before .before .before .before .before .before .lower .ensures)) (c .before .before .before .before .before .before .before .before .before .before .before .before .before .before .before .before .before .before .before .a .given .1))) (arm-from _ _ (c .before .before .before .before .before .before .before .before .before .before .before .before .before .before .before .before .before .before .before .before .before .before .before .before .before .before .before .before .before .before .before .before .args .b .now) (c .before .before .before .before .before .before .before .before .before .before .before .before .before .before .before .before .before .before .before .before .before .before .before .before .before .before .before .before .before .before .before .before .args .d) (c .before .before .before .before .before .before .before .before .before .before .before .before .before .before .before .before .before .before .before .before .before .before .before .before .before .before .before .before .before .before .before .before .args .conjunction) (c .before .before .before .before .before .before .before .before .before .before .before .before .before .before .before .before .before .before .before .before .before .before .before .before .before .before .before .before .before .before .before .before .args .no) _ _ _ _ _ _ (further (c .before .before .before .before .before .before .before .before .before .before .before .before .before .before .before .before .before .before .before .a .given .0 .1 .0) 2) (c .before .before .before .before .before .before .before .before .ahead2 .ensures) (c .before .before .before .before .before .before .lower2 .ensures))) (c .before .before .o .given .1)) _ refl, choices.is-code (context-of (c .before .before .before .before .before .before .before .before .before .before .before .before .before .before .before .before .before .before .before .before .before .before .before .before .before .before .before .before .before .before .before .before .args .kinds .now) (c .before .before .before .before .before .before .before .before .before .before .before .before .before .before .before .before .before .before .before .before .before .before .before .before .before .before .before .before .before .before .before .before .args .l .generated)) refl (arm (c .before .before .before .before .before .before .before .before .before .before .before .before .before .before .before .before .before .before .before .before .before .before .before .before .before .before .before .before .before .before .before .before .args .b .now) (c .before .before .before .before .before .before .before .before .before .before .before .before .before .before .before .before .before .before .before .before .before .before .before .before .before .before .before .before .before .before .before .before .args .d) (c .before .before .before .before .before .before .before .before .before .before .before .before .before .before .before .before .before .before .before .before .before .before .before .before .before .before .before .before .before .before .before .before .args .conjunction) (c .before .before .before .before .before .before .before .before .before .before .before .before .before .before .before .before .before .before .before .before .before .before .before .before .before .before .before .before .before .before .before .before .args .yes) (c .before .before .before .before .before .before .before .before .before .before .before .before .before .before .before .before .before .before .before .before .before .before .before .before .before .before .before .before .before .before .before .before .args .c .node)) (arm (c .before .before .before .before .before .before .before .before .before .before .before .before .before .before .before .before .before .before .before .before .before .before .before .before .before .before .before .before .before .before .before .before .args .b .now) (c .before .before .before .before .before .before .before .before .before .before .before .before .before .before .before .before .before .before .before .before .before .before .before .before .before .before .before .before .before .before .before .before .args .d) (c .before .before .before .before .before .before .before .before .before .before .before .before .before .before .before .before .before .before .before .before .before .before .before .before .before .before .before .before .before .before .before .before .args .conjunction) (c .before .before .before .before .before .before .before .before .before .before .before .before .before .before .before .before .before .before .before .before .before .before .before .before .before .before .before .before .before .before .before .before .args .no) (past (c .before .before .before .before .before .before .before .before .before .before .before .before .before .before .before .before .before .before .before .before .before .before .before .before .before .before .before .before .before .before .before .before .args .b .now) (c .before .before .before .before .before .before .before .before .before .before .before .before .before .before .before .before .before .before .before .before .before .before .before .before .before .before .before .before .before .before .before .before .args .d) (c .before .before .before .before .before .before .before .before .before .before .before .before .before .before .before .before .before .before .before .before .before .before .before .before .before .before .before .before .before .before .before .before .args .yes) (c .before .before .before .before .before .before .before .before .before .before .before .before .before .before .before .before .before .before .before .before .before .before .before .before .before .before .before .before .before .before .before .before .args .c .node))) (c .before .before .before .before .before .before .before .before .before .before .before .before .before .before .before .before .before .before .before .before .before .before .before .before .before .before .before .before .before .before .before .before .args .v) (past (c .before .before .before .before .before .before .before .before .before .before .before .before .before .before .before .before .before .before .before .before .before .before .before .before .before .before .before .before .before .before .before .before .args .b .now) (c .before .before .before .before .before .before .before .before .before .before .before .before .before .before .before .before .before .before .before .before .before .before .before .before .before .before .before .before .before .before .before .before .args .d) (c .before .before .before .before .before .before .before .before .before .before .before .before .before .before .before .before .before .before .before .before .before .before .before .before .before .before .before .before .before .before .before .before .args .yes) (c .before .before .before .before .before .before .before .before .before .before .before .before .before .before .before .before .before .before .before .before .before .before .before .before .before .before .before .before .before .before .before .before .args .c .node)) (past (c .before .before .before .before .before .before .before .before .before .before .before .before .before .before .before .before .before .before .before .before .before .before .before .before .before .before .before .before .before .before .before .before .args .b .now) (c .before .before .before .before .before .before .before .before .before .before .before .before .before .before .before .before .before .before .before .before .before .before .before .before .before .before .before .before .before .before .before .before .args .d) (c .before .before .before .before .before .before .before .before .before .before .before .before .before .before .before .before .before .before .before .before .before .before .before .before .before .before .before .before .before .before .before .before .args .no) (past (c .before .before .before .before .before .before .before .before .before .before .before .before .before .before .before .before .before .before .before .before .before .before .before .before .before .before .before .before .before .before .before .before .args .b .now) (c .before .before .before .before .before .before .before .before .before .before .before .before .before .before .before .before .before .before .before .before .before .before .before .before .before .before .before .before .before .before .before .before .args .d) (c .before .before .before .before .before .before .before .before .before .before .before .before .before .before .before .before .before .before .before .before .before .before .before .before .before .before .before .before .before .before .before .before .args .yes) (c .before .before .before .before .before .before .before .before .before .before .before .before .before .before .before .before .before .before .before .before .before .before .before .before .before .before .before .before .before .before .before .before .args .c .node))) (c .before .before .before .before .before .before .before .before .before .before .before .before .before .before .before .before .before .before .before .before .before .before .before .before .before .before .before .before .before .before .before .before .pre .1 .0) (c .before .before .before .before .before .before .before .before .before .before .before .before .before .before .before .before .before .before .before .before .before .before .before .before .before .before .before .before .if1 .taken) (c .before .before .before .before .before .before .before .before .before .before .before .before .before .before .before .before .before .before .before .before .before .before .before .before .before .before .before .unsupported .result) (c .before .before .before .before .before .before .before .before .before .before .before .before .before .before .before .before .before .before .before .before .before .before .before .before .before .before .before .unsupported .ensures) (c .before .before .before .before .before .before .before .before .before .before .before .before .before .before .before .before .before .before .before .before .before .before .before .before .before .before .if2 .left) (c .before .before .before .before .before .before .before .before .before .before .before .before .before .before .before .before .before .before .before .before .before .before .before .lower .last .1 .0) (c .before .before .before .before .before .before .before .before .before .before .before .before .before .before .before .before .before .before .before .a .given .0 .0) (c .before .before .before .before .before .before .before .before .before .before .before .before .before .before .before .before .before .before .before .a .given .0 .1 .0) (taken _ _ _ _ _ _ (c .before .before .before .before .before .before .before .before .before .before .before .before .before .before .before .before .before .before .before .a .given .0 .0) (c .before .before .before .before .before .before .before .before .before .before .before .before .before .before .before .before .before .before .before .a .given .0 .1 .0) (arm-from _ _ (c .before .before .before .before .before .before .before .before .before .before .before .before .before .before .before .before .before .before .before .before .before .before .before .before .before .before .before .before .before .before .before .before .args .b .now) (c .before .before .before .before .before .before .before .before .before .before .before .before .before .before .before .before .before .before .before .before .before .before .before .before .before .before .before .before .before .before .before .before .args .d) (c .before .before .before .before .before .before .before .before .before .before .before .before .before .before .before .before .before .before .before .before .before .before .before .before .before .before .before .before .before .before .before .before .args .conjunction) (c .before .before .before .before .before .before .before .before .before .before .before .before .before .before .before .before .before .before .before .before .before .before .before .before .before .before .before .before .before .before .before .before .args .yes) _ _ _ _ _ _ (further (c .before .before .before .before .before .before .before .before .before .before .before .before .before .before .before .before .before .before .before .before .before .before .before .before .before .before .before .before .before .before .before .before .args .c) 1) (c .before .before .before .before .before .before .before .before .before .before .before .before .before .before .before .before .before .before .before .before .before .before .before .before .before .ahead .ensures) (c .before .before .before .before .before .before .before .before .before .before .before .before .before .before .before .before .before .before .before .before .before .before .before .lower .ensures)) (c .before .before .before .before .before .before .before .before .before .before .before .before .before .before .before .before .before .before .before .a .given .1)), (c .before .before .before .before .before .before .before .before .before .before .before .before .before .before .before .before .before .before .before .before .before .before .before .before .before .before .before .before .before .before .before .before .pre .1 .0) .code, (c .before .before .before .before .before .before .before .before .before .before .before .before .before .before .before .before .before .before .before .before .before .before .before .before .before .before .before .before .before .before .before .before .pre .1 .0) .records, (c .before .before .before .before .before .before .before .before .before .before .before .before .before .before .before .before .before .before .before .before .before .before .before .before .before .before .before .before .before .before .before .before .pre .1 .0) .lists), omega (arith, choices.is-code (context-of (c .before .before .before .before .before .before .before .before .before .before .before .before .before .before .before .before .before .before .before .before .before .before .before .before .before .before .before .before .before .before .before .before .args .kinds .now) (c .before .before .before .before .before .before .before .before .before .before .before .before .before .before .before .before .before .before .before .before .before .before .before .before .before .before .before .before .before .before .before .before .args .l .generated)) refl (arm (c .before .before .before .before .before .before .before .before .before .before .before .before .before .before .before .before .before .before .before .before .before .before .before .before .before .before .before .before .before .before .before .before .args .b .now) (c .before .before .before .before .before .before .before .before .before .before .before .before .before .before .before .before .before .before .before .before .before .before .before .before .before .before .before .before .before .before .before .before .args .d) (c .before .before .before .before .before .before .before .before .before .before .before .before .before .before .before .before .before .before .before .before .before .before .before .before .before .before .before .before .before .before .before .before .args .conjunction) (c .before .before .before .before .before .before .before .before .before .before .before .before .before .before .before .before .before .before .before .before .before .before .before .before .before .before .before .before .before .before .before .before .args .yes) (c .before .before .before .before .before .before .before .before .before .before .before .before .before .before .before .before .before .before .before .before .before .before .before .before .before .before .before .before .before .before .before .before .args .c .node)) (arm (c .before .before .before .before .before .before .before .before .before .before .before .before .before .before .before .before .before .before .before .before .before .before .before .before .before .before .before .before .before .before .before .before .args .b .now) (c .before .before .before .before .before .before .before .before .before .before .before .before .before .before .before .before .before .before .before .before .before .before .before .before .before .before .before .before .before .before .before .before .args .d) (c .before .before .before .before .before .before .before .before .before .before .before .before .before .before .before .before .before .before .before .before .before .before .before .before .before .before .before .before .before .before .before .before .args .conjunction) (c .before .before .before .before .before .before .before .before .before .before .before .before .before .before .before .before .before .before .before .before .before .before .before .before .before .before .before .before .before .before .before .before .args .no) (past (c .before .before .before .before .before .before .before .before .before .before .before .before .before .before .before .before .before .before .before .before .before .before .before .before .before .before .before .before .before .before .before .before .args .b .now) (c .before .before .before .before .before .before .before .before .before .before .before .before .before .before .before .before .before .before .before .before .before .before .before .before .before .before .before .before .before .before .before .before .args .d) (c .before .before .before .before .before .before .before .before .before .before .before .before .before .before .before .before .before .before .before .before .before .before .before .before .before .before .before .before .before .before .before .before .args .yes) (c .before .before .before .before .before .before .before .before .before .before .before .before .before .before .before .before .before .before .before .before .before .before .before .before .before .before .before .before .before .before .before .before .args .c .node))) (c .before .before .before .before .before .before .before .before .before .before .before .before .before .before .before .before .before .before .before .before .before .before .before .before .before .before .before .before .before .before .before .before .args .v) (past (c .before .before .before .before .before .before .before .before .before .before .before .before .before .before .before .before .before .before .before .before .before .before .before .before .before .before .before .before .before .before .before .before .args .b .now) (c .before .before .before .before .before .before .before .before .before .before .before .before .before .before .before .before .before .before .before .before .before .before .before .before .before .before .before .before .before .before .before .before .args .d) (c .before .before .before .before .before .before .before .before .before .before .before .before .before .before .before .before .before .before .before .before .before .before .before .before .before .before .before .before .before .before .before .before .args .yes) (c .before .before .before .before .before .before .before .before .before .before .before .before .before .before .before .before .before .before .before .before .before .before .before .before .before .before .before .before .before .before .before .before .args .c .node)) (past (c .before .before .before .before .before .before .before .before .before .before .before .before .before .before .before .before .before .before .before .before .before .before .before .before .before .before .before .before .before .before .before .before .args .b .now) (c .before .before .before .before .before .before .before .before .before .before .before .before .before .before .before .before .before .before .before .before .before .before .before .before .before .before .before .before .before .before .before .before .args .d) (c .before .before .before .before .before .before .before .before .before .before .before .before .before .before .before .before .before .before .before .before .before .before .before .before .before .before .before .before .before .before .before .before .args .no) (past (c .before .before .before .before .before .before .before .before .before .before .before .before .before .before .before .before .before .before .before .before .before .before .before .before .before .before .before .before .before .before .before .before .args .b .now) (c .before .before .before .before .before .before .before .before .before .before .before .before .before .before .before .before .before .before .before .before .before .before .before .before .before .before .before .before .before .before .before .before .args .d) (c .before .before .before .before .before .before .before .before .before .before .before .before .before .before .before .before .before .before .before .before .before .before .before .before .before .before .before .before .before .before .before .before .args .yes) (c .before .before .before .before .before .before .before .before .before .before .before .before .before .before .before .before .before .before .before .before .before .before .before .before .before .before .before .before .before .before .before .before .args .c .node))) (c .before .before .before .before .before .before .before .before .before .before .before .before .before .before .before .before .before .before .before .before .before .before .before .before .before .before .before .before .before .before .before .before .pre .1 .0) (c .before .before .before .before .before .before .before .before .before .before .before .before .before .before .before .before .before .before .before .before .before .before .before .before .before .before .before .before .if1 .taken) (c .before .before .before .before .before .before .before .before .before .before .before .before .before .before .before .before .before .before .before .before .before .before .before .before .before .before .before .unsupported .result) (c .before .before .before .before .before .before .before .before .before .before .before .before .before .before .before .before .before .before .before .before .before .before .before .before .before .before .before .unsupported .ensures) (c .before .before .before .before .before .before .before .before .before .before .before .before .before .before .before .before .before .before .before .before .before .before .before .before .before .before .if2 .left) (c .before .before .before .before .before .before .before .before .before .before .before .before .before .before .before .before .before .before .before .before .before .before .before .lower .last .1 .0) (c .before .before .before .before .before .before .before .before .before .before .before .before .before .before .before .before .before .before .before .a .given .0 .0) (c .before .before .before .before .before .before .before .before .before .before .before .before .before .before .before .before .before .before .before .a .given .0 .1 .0) (taken _ _ _ _ _ _ (c .before .before .before .before .before .before .before .before .before .before .before .before .before .before .before .before .before .before .before .a .given .0 .0) (c .before .before .before .before .before .before .before .before .before .before .before .before .before .before .before .before .before .before .before .a .given .0 .1 .0) (arm-from _ _ (c .before .before .before .before .before .before .before .before .before .before .before .before .before .before .before .before .before .before .before .before .before .before .before .before .before .before .before .before .before .before .before .before .args .b .now) (c .before .before .before .before .before .before .before .before .before .before .before .before .before .before .before .before .before .before .before .before .before .before .before .before .before .before .before .before .before .before .before .before .args .d) (c .before .before .before .before .before .before .before .before .before .before .before .before .before .before .before .before .before .before .before .before .before .before .before .before .before .before .before .before .before .before .before .before .args .conjunction) (c .before .before .before .before .before .before .before .before .before .before .before .before .before .before .before .before .before .before .before .before .before .before .before .before .before .before .before .before .before .before .before .before .args .yes) _ _ _ _ _ _ (further (c .before .before .before .before .before .before .before .before .before .before .before .before .before .before .before .before .before .before .before .before .before .before .before .before .before .before .before .before .before .before .before .before .args .c) 1) (c .before .before .before .before .before .before .before .before .before .before .before .before .before .before .before .before .before .before .before .before .before .before .before .before .before .ahead .ensures) (c .before .before .before .before .before .before .before .before .before .before .before .before .before .before .before .before .before .before .before .before .before .before .before .lower .ensures)) (c .before .before .before .before .before .before .before .before .before .before .before .before .before .before .before .before .before .before .before .a .given .1)), choices.is-reg (context-of (c .before .before .before .before .before .before .before .before .before .before .before .before .before .before .before .before .before .before .before .before .before .before .before .before .before .before .before .before .before .before .before .before .args .kinds .now) (c .before .before .before .before .before .before .before .before .before .before .before .before .before .before .before .before .before .before .before .before .before .before .before .before .before .before .before .before .before .before .before .before .args .l .generated)) refl (arm (c .before .before .before .before .before .before .before .before .before .before .before .before .before .before .before .before .before .before .before .before .before .before .before .before .before .before .before .before .before .before .before .before .args .b .now) (c .before .before .before .before .before .before .before .before .before .before .before .before .before .before .before .before .before .before .before .before .before .before .before .before .before .before .before .before .before .before .before .before .args .d) (c .before .before .before .before .before .before .before .before .before .before .before .before .before .before .before .before .before .before .before .before .before .before .before .before .before .before .before .before .before .before .before .before .args .conjunction) (c .before .before .before .before .before .before .before .before .before .before .before .before .before .before .before .before .before .before .before .before .before .before .before .before .before .before .before .before .before .before .before .before .args .yes) (c .before .before .before .before .before .before .before .before .before .before .before .before .before .before .before .before .before .before .before .before .before .before .before .before .before .before .before .before .before .before .before .before .args .c .node)) (arm (c .before .before .before .before .before .before .before .before .before .before .before .before .before .before .before .before .before .before .before .before .before .before .before .before .before .before .before .before .before .before .before .before .args .b .now) (c .before .before .before .before .before .before .before .before .before .before .before .before .before .before .before .before .before .before .before .before .before .before .before .before .before .before .before .before .before .before .before .before .args .d) (c .before .before .before .before .before .before .before .before .before .before .before .before .before .before .before .before .before .before .before .before .before .before .before .before .before .before .before .before .before .before .before .before .args .conjunction) (c .before .before .before .before .before .before .before .before .before .before .before .before .before .before .before .before .before .before .before .before .before .before .before .before .before .before .before .before .before .before .before .before .args .no) (past (c .before .before .before .before .before .before .before .before .before .before .before .before .before .before .before .before .before .before .before .before .before .before .before .before .before .before .before .before .before .before .before .before .args .b .now) (c .before .before .before .before .before .before .before .before .before .before .before .before .before .before .before .before .before .before .before .before .before .before .before .before .before .before .before .before .before .before .before .before .args .d) (c .before .before .before .before .before .before .before .before .before .before .before .before .before .before .before .before .before .before .before .before .before .before .before .before .before .before .before .before .before .before .before .before .args .yes) (c .before .before .before .before .before .before .before .before .before .before .before .before .before .before .before .before .before .before .before .before .before .before .before .before .before .before .before .before .before .before .before .before .args .c .node))) (c .before .before .before .before .before .before .before .before .before .before .before .before .before .before .before .before .before .before .before .before .before .before .before .before .before .before .before .before .before .before .before .before .args .v) (past (c .before .before .before .before .before .before .before .before .before .before .before .before .before .before .before .before .before .before .before .before .before .before .before .before .before .before .before .before .before .before .before .before .args .b .now) (c .before .before .before .before .before .before .before .before .before .before .before .before .before .before .before .before .before .before .before .before .before .before .before .before .before .before .before .before .before .before .before .before .args .d) (c .before .before .before .before .before .before .before .before .before .before .before .before .before .before .before .before .before .before .before .before .before .before .before .before .before .before .before .before .before .before .before .before .args .yes) (c .before .before .before .before .before .before .before .before .before .before .before .before .before .before .before .before .before .before .before .before .before .before .before .before .before .before .before .before .before .before .before .before .args .c .node)) (past (c .before .before .before .before .before .before .before .before .before .before .before .before .before .before .before .before .before .before .before .before .before .before .before .before .before .before .before .before .before .before .before .before .args .b .now) (c .before .before .before .before .before .before .before .before .before .before .before .before .before .before .before .before .before .before .before .before .before .before .before .before .before .before .before .before .before .before .before .before .args .d) (c .before .before .before .before .before .before .before .before .before .before .before .before .before .before .before .before .before .before .before .before .before .before .before .before .before .before .before .before .before .before .before .before .args .no) (past (c .before .before .before .before .before .before .before .before .before .before .before .before .before .before .before .before .before .before .before .before .before .before .before .before .before .before .before .before .before .before .before .before .args .b .now) (c .before .before .before .before .before .before .before .before .before .before .before .before .before .before .before .before .before .before .before .before .before .before .before .before .before .before .before .before .before .before .before .before .args .d) (c .before .before .before .before .before .before .before .before .before .before .before .before .before .before .before .before .before .before .before .before .before .before .before .before .before .before .before .before .before .before .before .before .args .yes) (c .before .before .before .before .before .before .before .before .before .before .before .before .before .before .before .before .before .before .before .before .before .before .before .before .before .before .before .before .before .before .before .before .args .c .node))) (c .before .before .before .before .before .before .before .before .before .before .before .before .before .before .before .before .before .before .before .before .before .before .before .before .before .before .before .before .before .before .before .before .pre .1 .0) (c .before .before .before .before .before .before .before .before .before .before .before .before .before .before .before .before .before .before .before .before .before .before .before .before .before .before .before .before .if1 .taken) (c .before .before .before .before .before .before .before .before .before .before .before .before .before .before .before .before .before .before .before .before .before .before .before .before .before .before .before .unsupported .result) (c .before .before .before .before .before .before .before .before .before .before .before .before .before .before .before .before .before .before .before .before .before .before .before .before .before .before .before .unsupported .ensures) (c .before .before .before .before .before .before .before .before .before .before .before .before .before .before .before .before .before .before .before .before .before .before .before .before .before .before .if2 .left) (c .before .before .before .before .before .before .before .before .before .before .before .before .before .before .before .before .before .before .before .before .before .before .before .lower .last .1 .0) (c .before .before .before .before .before .before .before .before .before .before .before .before .before .before .before .before .before .before .before .a .given .0 .0) (c .before .before .before .before .before .before .before .before .before .before .before .before .before .before .before .before .before .before .before .a .given .0 .1 .0) (taken _ _ _ _ _ _ (c .before .before .before .before .before .before .before .before .before .before .before .before .before .before .before .before .before .before .before .a .given .0 .0) (c .before .before .before .before .before .before .before .before .before .before .before .before .before .before .before .before .before .before .before .a .given .0 .1 .0) (arm-from _ _ (c .before .before .before .before .before .before .before .before .before .before .before .before .before .before .before .before .before .before .before .before .before .before .before .before .before .before .before .before .before .before .before .before .args .b .now) (c .before .before .before .before .before .before .before .before .before .before .before .before .before .before .before .before .before .before .before .before .before .before .before .before .before .before .before .before .before .before .before .before .args .d) (c .before .before .before .before .before .before .before .before .before .before .before .before .before .before .before .before .before .before .before .before .before .before .before .before .before .before .before .before .before .before .before .before .args .conjunction) (c .before .before .before .before .before .before .before .before .before .before .before .before .before .before .before .before .before .before .before .before .before .before .before .before .before .before .before .before .before .before .before .before .args .yes) _ _ _ _ _ _ (further (c .before .before .before .before .before .before .before .before .before .before .before .before .before .before .before .before .before .before .before .before .before .before .before .before .before .before .before .before .before .before .before .before .args .c) 1) (c .before .before .before .before .before .before .before .before .before .before .before .before .before .before .before .before .before .before .before .before .before .before .before .before .before .ahead .ensures) (c .before .before .before .before .before .before .before .before .before .before .before .before .before .before .before .before .before .before .before .before .before .before .before .lower .ensures)) (c .before .before .before .before .before .before .before .before .before .before .before .before .before .before .before .before .before .before .before .a .given .1)), fewer-registers (arm (c .before .before .before .before .before .before .before .before .before .before .before .before .before .before .before .before .before .before .before .before .before .before .before .before .before .before .before .before .before .before .before .before .args .b .now) (c .before .before .before .before .before .before .before .before .before .before .before .before .before .before .before .before .before .before .before .before .before .before .before .before .before .before .before .before .before .before .before .before .args .d) (c .before .before .before .before .before .before .before .before .before .before .before .before .before .before .before .before .before .before .before .before .before .before .before .before .before .before .before .before .before .before .before .before .args .conjunction) (c .before .before .before .before .before .before .before .before .before .before .before .before .before .before .before .before .before .before .before .before .before .before .before .before .before .before .before .before .before .before .before .before .args .yes) (c .before .before .before .before .before .before .before .before .before .before .before .before .before .before .before .before .before .before .before .before .before .before .before .before .before .before .before .before .before .before .before .before .args .c .node)), (c .before .before .before .before .before .before .before .before .before .before .before .before .before .before .before .before .before .before .before .before .before .before .before .before .before .before .before .before .before .before .before .before .pre .1 .0) .registers, c .before .before .before .before .before .before .before .before .before .before .before .before .before .before .before .before .before .before .before .before .before .before .before .before .before .before .before .before .before .before .before .before .good .1 .0 .0, (c .before .before .before .before .before .before .before .before .before .before .before .before .before .before .before .before .before .before .before .before .before .before .before .before .before .before .before .before .before .before .before .before .pre .1 .0) .code, (c .before .before .before .before .before .before .before .before .before .before .before .before .before .before .before .before .before .before .before .before .before .before .before .before .before .before .before .before .before .before .before .before .pre .1 .0) .records, (c .before .before .before .before .before .before .before .before .before .before .before .before .before .before .before .before .before .before .before .before .before .before .before .before .before .before .before .before .before .before .before .before .pre .1 .0) .lists))
+branch-join-requires : (t : ℕ) → branch-lts.Need-join-requires (branch-calls t) (branch-at t) branch.Post
+branch-join-requires t c κs =
+    let args = c .before .before .before .before .before .before .before .before .before .before .before .before .before .before .before .before .before .before .before .before .before .before .before .before .before .before .before .before .before .before .before .before .args in
+    let pre = c .before .before .before .before .before .before .before .before .before .before .before .before .before .before .before .before .before .before .before .before .before .before .before .before .before .before .before .before .before .before .before .before .pre in
+    let good = c .before .before .before .before .before .before .before .before .before .before .before .before .before .before .before .before .before .before .before .before .before .before .before .before .before .before .before .before .before .before .before .before .good in
+    let if1 = c .before .before .before .before .before .before .before .before .before .before .before .before .before .before .before .before .before .before .before .before .before .before .before .before .before .before .before .before .if1 in
+    let unsupported = c .before .before .before .before .before .before .before .before .before .before .before .before .before .before .before .before .before .before .before .before .before .before .before .before .before .before .before .unsupported in
+    let if2 = c .before .before .before .before .before .before .before .before .before .before .before .before .before .before .before .before .before .before .before .before .before .before .before .before .before .before .if2 in
+    let ahead = c .before .before .before .before .before .before .before .before .before .before .before .before .before .before .before .before .before .before .before .before .before .before .before .before .before .ahead in
+    let lower = c .before .before .before .before .before .before .before .before .before .before .before .before .before .before .before .before .before .before .before .before .before .before .before .lower in
+    let a = c .before .before .before .before .before .before .before .before .before .before .before .before .before .before .before .before .before .before .before .a in
+    let put-row = c .before .before .before .before .before .before .before .before .before .before .before .before .before .before .before .put-row in
+    let put-row2 = c .before .before .before .before .before .before .before .before .before .before .before .put-row2 in
+    let ahead2 = c .before .before .before .before .before .before .before .before .ahead2 in
+    let lower2 = c .before .before .before .before .before .before .lower2 in
+    let o = c .before .before .o in
+    let left = if2 .left in
+    let ready = pre .1 .0 in
+    let taken2 = if1 .taken in
+    let b = args .b .now in
+    let o-value = o .given .0 .0 in
+    let a-value = a .given .0 .0 in
+    let put-row-says = put-row .ensures in
+    let put-row-bytes = put-row .last .0 in
+    let conjunction = args .conjunction in
+    let o-next = o .given .0 .1 .0 in
+    let put-row2-says = put-row2 .ensures in
+    let put-row2-bytes = put-row2 .last .0 in
+    let a-next = a .given .0 .1 .0 in
+    let lower-bytes = lower .last .1 .0 in
+    let lower2-bytes = lower2 .last .1 .0 in
+    let unsupported-gives = unsupported .result in
+    let unsupported-says = unsupported .ensures in
+    let context = context-of (args .kinds .now) (args .l .generated) in
+    let after-yes = past b (args .d) (args .yes) (args .c .node) in
+    let yes-arm = arm b (args .d) conjunction (args .yes) (args .c .node) in
+    let after-no = past b (args .d) (args .no) after-yes in
+    let no-arm = arm b (args .d) conjunction (args .no) after-yes in
+    let is-taken2 = taken _ _ _ _ _ _ a-value a-next
+    (arm-from _ _ b (args .d) conjunction (args .yes) _ _ _ _ _ _ (further (args .c) 1) (ahead .ensures) (lower .ensures)) (a .given .1) in
+    let is-taken = taken _ _ _ _ _ _ o-value o-next (arm-at _ _ b (args .d) conjunction (args .no) _ _ _ _ _ _ (a-next .node) after-yes
+    (choices.is-node context refl yes-arm no-arm (args .v) after-yes after-no ready taken2 unsupported-gives unsupported-says left lower-bytes a-value
+    a-next is-taken2) (arm-from _ _ b (args .d) conjunction (args .no) _ _ _ _ _ _ (further a-next 2) (ahead2 .ensures) (lower2 .ensures)))
+    (o .given .1) in (
+      omega (
+        arith,
+        choices.n₄′ context refl yes-arm no-arm (args .v) after-yes after-no ready taken2 unsupported-gives unsupported-says left
+            lower-bytes a-value a-next is-taken2 put-row-bytes put-row2-bytes put-row-says put-row2-says lower2-bytes o-value o-next is-taken _ refl,
+        choices.is-code context refl yes-arm no-arm (args .v) after-yes after-no ready taken2 unsupported-gives unsupported-says left lower-bytes
+            a-value a-next is-taken2,
+        ready .code,
+        ready .records,
+        ready .lists,
+      ),
+      omega (
+        arith,
+        choices.n₄′ context refl yes-arm no-arm (args .v) after-yes after-no ready taken2 unsupported-gives unsupported-says left
+            lower-bytes a-value a-next is-taken2 put-row-bytes put-row2-bytes put-row-says put-row2-says lower2-bytes o-value o-next is-taken _ refl,
+        choices.z-code context refl yes-arm no-arm (args .v) after-yes after-no ready taken2 unsupported-gives unsupported-says left lower-bytes a-value
+            a-next is-taken2 put-row-bytes put-row2-bytes put-row-says put-row2-says lower2-bytes o-value o-next is-taken _ refl,
+        choices.is-code context
+            refl yes-arm no-arm (args .v) after-yes after-no ready taken2 unsupported-gives unsupported-says left lower-bytes a-value a-next is-taken2,
+        ready .code,
+        ready .records,
+        ready .lists,
+      ),
+      omega (
+        arith,
+        choices.is-code context refl yes-arm no-arm (args .v) after-yes after-no ready taken2 unsupported-gives unsupported-says left
+            lower-bytes a-value a-next is-taken2,
+        choices.is-reg context refl yes-arm no-arm (args .v) after-yes after-no ready taken2 unsupported-gives
+            unsupported-says left lower-bytes a-value a-next is-taken2,
+        fewer-registers yes-arm,
+        ready .registers,
+        good .1 .0 .0,
+        ready .code,
+        ready .records,
+        ready .lists,
+      ),
+    )
 
-branch-same-length-3 : (t : ℕ) → branch-lts.Need-same-length-3 (
-  unsupported-reads.Asked,
-  unsupported-reads.Learnt,
-  ahead-reads.Asked,
-  ahead-reads.Learnt,
-  lower-below t,
-  lower.Post,
-  put-row-reads.Asked,
-  put-row-reads.Learnt,
-  join-reads.Asked,
-  join-reads.Learnt,
-) (branch-at t) branch.Post
-branch-same-length-3 t c = omega (arith, c .before .before .join .kept .0, c .before .before .before .before .before .before .before .before .before .lower2 .kept .1 .0, c .before .before .before .before .before .before .before .before .before .before .before .before .before .before .put-row2 .kept .0, c .before .before .before .before .before .before .before .before .before .before .before .before .before .before .before .before .before .before .put-row .kept .0, c .before .before .before .before .before .before .before .before .before .before .before .before .before .before .before .before .before .before .before .before .before .before .before .before .before .before .lower .kept .1 .0)
+branch-same-length-3 : (t : ℕ) → branch-lts.Need-same-length-3 (branch-calls t) (branch-at t) branch.Post
+branch-same-length-3 t c =
+    let lower = c .before .before .before .before .before .before .before .before .before .before .before .before .before .before .before .before .before .before .before .before .before .before .before .before .before .before .lower in
+    let put-row = c .before .before .before .before .before .before .before .before .before .before .before .before .before .before .before .before .before .before .put-row in
+    let put-row2 = c .before .before .before .before .before .before .before .before .before .before .before .before .before .before .put-row2 in
+    let lower2 = c .before .before .before .before .before .before .before .before .before .lower2 in
+    omega (arith, c .before .before .join .kept .0, lower2 .kept .1 .0, put-row2 .kept .0, put-row .kept .0, lower .kept .1 .0)
 
-branch-returns-4 : (t : ℕ) → branch-lts.Need-returns-4 (
-  unsupported-reads.Asked,
-  unsupported-reads.Learnt,
-  ahead-reads.Asked,
-  ahead-reads.Learnt,
-  lower-below t,
-  lower.Post,
-  put-row-reads.Asked,
-  put-row-reads.Learnt,
-  join-reads.Asked,
-  join-reads.Learnt,
-) (branch-at t) branch.Post
-branch-returns-4 t c = choices.both-joined (context-of (c .before .before .before .before .before .before .before .before .before .before .before .before .before .before .before .before .before .before .before .before .before .before .before .before .before .before .before .before .before .before .before .before .before .before .before .args .kinds .now) (c .before .before .before .before .before .before .before .before .before .before .before .before .before .before .before .before .before .before .before .before .before .before .before .before .before .before .before .before .before .before .before .before .before .before .before .args .l .generated)) refl (arm (c .before .before .before .before .before .before .before .before .before .before .before .before .before .before .before .before .before .before .before .before .before .before .before .before .before .before .before .before .before .before .before .before .before .before .before .args .b .now) (c .before .before .before .before .before .before .before .before .before .before .before .before .before .before .before .before .before .before .before .before .before .before .before .before .before .before .before .before .before .before .before .before .before .before .before .args .d) (c .before .before .before .before .before .before .before .before .before .before .before .before .before .before .before .before .before .before .before .before .before .before .before .before .before .before .before .before .before .before .before .before .before .before .before .args .conjunction) (c .before .before .before .before .before .before .before .before .before .before .before .before .before .before .before .before .before .before .before .before .before .before .before .before .before .before .before .before .before .before .before .before .before .before .before .args .yes) (c .before .before .before .before .before .before .before .before .before .before .before .before .before .before .before .before .before .before .before .before .before .before .before .before .before .before .before .before .before .before .before .before .before .before .before .args .c .node)) (arm (c .before .before .before .before .before .before .before .before .before .before .before .before .before .before .before .before .before .before .before .before .before .before .before .before .before .before .before .before .before .before .before .before .before .before .before .args .b .now) (c .before .before .before .before .before .before .before .before .before .before .before .before .before .before .before .before .before .before .before .before .before .before .before .before .before .before .before .before .before .before .before .before .before .before .before .args .d) (c .before .before .before .before .before .before .before .before .before .before .before .before .before .before .before .before .before .before .before .before .before .before .before .before .before .before .before .before .before .before .before .before .before .before .before .args .conjunction) (c .before .before .before .before .before .before .before .before .before .before .before .before .before .before .before .before .before .before .before .before .before .before .before .before .before .before .before .before .before .before .before .before .before .before .before .args .no) (past (c .before .before .before .before .before .before .before .before .before .before .before .before .before .before .before .before .before .before .before .before .before .before .before .before .before .before .before .before .before .before .before .before .before .before .before .args .b .now) (c .before .before .before .before .before .before .before .before .before .before .before .before .before .before .before .before .before .before .before .before .before .before .before .before .before .before .before .before .before .before .before .before .before .before .before .args .d) (c .before .before .before .before .before .before .before .before .before .before .before .before .before .before .before .before .before .before .before .before .before .before .before .before .before .before .before .before .before .before .before .before .before .before .before .args .yes) (c .before .before .before .before .before .before .before .before .before .before .before .before .before .before .before .before .before .before .before .before .before .before .before .before .before .before .before .before .before .before .before .before .before .before .before .args .c .node))) (c .before .before .before .before .before .before .before .before .before .before .before .before .before .before .before .before .before .before .before .before .before .before .before .before .before .before .before .before .before .before .before .before .before .before .before .args .v) (past (c .before .before .before .before .before .before .before .before .before .before .before .before .before .before .before .before .before .before .before .before .before .before .before .before .before .before .before .before .before .before .before .before .before .before .before .args .b .now) (c .before .before .before .before .before .before .before .before .before .before .before .before .before .before .before .before .before .before .before .before .before .before .before .before .before .before .before .before .before .before .before .before .before .before .before .args .d) (c .before .before .before .before .before .before .before .before .before .before .before .before .before .before .before .before .before .before .before .before .before .before .before .before .before .before .before .before .before .before .before .before .before .before .before .args .yes) (c .before .before .before .before .before .before .before .before .before .before .before .before .before .before .before .before .before .before .before .before .before .before .before .before .before .before .before .before .before .before .before .before .before .before .before .args .c .node)) (past (c .before .before .before .before .before .before .before .before .before .before .before .before .before .before .before .before .before .before .before .before .before .before .before .before .before .before .before .before .before .before .before .before .before .before .before .args .b .now) (c .before .before .before .before .before .before .before .before .before .before .before .before .before .before .before .before .before .before .before .before .before .before .before .before .before .before .before .before .before .before .before .before .before .before .before .args .d) (c .before .before .before .before .before .before .before .before .before .before .before .before .before .before .before .before .before .before .before .before .before .before .before .before .before .before .before .before .before .before .before .before .before .before .before .args .no) (past (c .before .before .before .before .before .before .before .before .before .before .before .before .before .before .before .before .before .before .before .before .before .before .before .before .before .before .before .before .before .before .before .before .before .before .before .args .b .now) (c .before .before .before .before .before .before .before .before .before .before .before .before .before .before .before .before .before .before .before .before .before .before .before .before .before .before .before .before .before .before .before .before .before .before .before .args .d) (c .before .before .before .before .before .before .before .before .before .before .before .before .before .before .before .before .before .before .before .before .before .before .before .before .before .before .before .before .before .before .before .before .before .before .before .args .yes) (c .before .before .before .before .before .before .before .before .before .before .before .before .before .before .before .before .before .before .before .before .before .before .before .before .before .before .before .before .before .before .before .before .before .before .before .args .c .node))) (c .before .before .before .before .before .before .before .before .before .before .before .before .before .before .before .before .before .before .before .before .before .before .before .before .before .before .before .before .before .before .before .before .before .before .before .pre .1 .0) (c .before .before .before .before .before .before .before .before .before .before .before .before .before .before .before .before .before .before .before .before .before .before .before .before .before .before .before .before .before .before .before .if1 .taken) (c .before .before .before .before .before .before .before .before .before .before .before .before .before .before .before .before .before .before .before .before .before .before .before .before .before .before .before .before .before .before .unsupported .result) (c .before .before .before .before .before .before .before .before .before .before .before .before .before .before .before .before .before .before .before .before .before .before .before .before .before .before .before .before .before .before .unsupported .ensures) (c .before .before .before .before .before .before .before .before .before .before .before .before .before .before .before .before .before .before .before .before .before .before .before .before .before .before .before .before .before .if2 .left) (c .before .before .before .before .before .before .before .before .before .before .before .before .before .before .before .before .before .before .before .before .before .before .before .before .before .before .lower .last .1 .0) (c .before .before .before .before .before .before .before .before .before .before .before .before .before .before .before .before .before .before .before .before .before .before .a .given .0 .0) (c .before .before .before .before .before .before .before .before .before .before .before .before .before .before .before .before .before .before .before .before .before .before .a .given .0 .1 .0) (taken _ _ _ _ _ _ (c .before .before .before .before .before .before .before .before .before .before .before .before .before .before .before .before .before .before .before .before .before .before .a .given .0 .0) (c .before .before .before .before .before .before .before .before .before .before .before .before .before .before .before .before .before .before .before .before .before .before .a .given .0 .1 .0) (arm-from _ _ (c .before .before .before .before .before .before .before .before .before .before .before .before .before .before .before .before .before .before .before .before .before .before .before .before .before .before .before .before .before .before .before .before .before .before .before .args .b .now) (c .before .before .before .before .before .before .before .before .before .before .before .before .before .before .before .before .before .before .before .before .before .before .before .before .before .before .before .before .before .before .before .before .before .before .before .args .d) (c .before .before .before .before .before .before .before .before .before .before .before .before .before .before .before .before .before .before .before .before .before .before .before .before .before .before .before .before .before .before .before .before .before .before .before .args .conjunction) (c .before .before .before .before .before .before .before .before .before .before .before .before .before .before .before .before .before .before .before .before .before .before .before .before .before .before .before .before .before .before .before .before .before .before .before .args .yes) _ _ _ _ _ _ (further (c .before .before .before .before .before .before .before .before .before .before .before .before .before .before .before .before .before .before .before .before .before .before .before .before .before .before .before .before .before .before .before .before .before .before .before .args .c) 1) (c .before .before .before .before .before .before .before .before .before .before .before .before .before .before .before .before .before .before .before .before .before .before .before .before .before .before .before .before .ahead .ensures) (c .before .before .before .before .before .before .before .before .before .before .before .before .before .before .before .before .before .before .before .before .before .before .before .before .before .before .lower .ensures)) (c .before .before .before .before .before .before .before .before .before .before .before .before .before .before .before .before .before .before .before .before .before .before .a .given .1)) (c .before .before .before .before .before .before .before .before .before .before .before .before .before .before .before .before .before .before .put-row .last .0) (c .before .before .before .before .before .before .before .before .before .before .before .before .before .before .put-row2 .last .0) (c .before .before .before .before .before .before .before .before .before .before .before .before .before .before .before .before .before .before .put-row .ensures) (c .before .before .before .before .before .before .before .before .before .before .before .before .before .before .put-row2 .ensures) (c .before .before .before .before .before .before .before .before .before .lower2 .last .1 .0) (c .before .before .before .before .before .o .given .0 .0) (c .before .before .before .before .before .o .given .0 .1 .0) (taken _ _ _ _ _ _ (c .before .before .before .before .before .o .given .0 .0) (c .before .before .before .before .before .o .given .0 .1 .0) (arm-at _ _ (c .before .before .before .before .before .before .before .before .before .before .before .before .before .before .before .before .before .before .before .before .before .before .before .before .before .before .before .before .before .before .before .before .before .before .before .args .b .now) (c .before .before .before .before .before .before .before .before .before .before .before .before .before .before .before .before .before .before .before .before .before .before .before .before .before .before .before .before .before .before .before .before .before .before .before .args .d) (c .before .before .before .before .before .before .before .before .before .before .before .before .before .before .before .before .before .before .before .before .before .before .before .before .before .before .before .before .before .before .before .before .before .before .before .args .conjunction) (c .before .before .before .before .before .before .before .before .before .before .before .before .before .before .before .before .before .before .before .before .before .before .before .before .before .before .before .before .before .before .before .before .before .before .before .args .no) _ _ _ _ _ _ ((c .before .before .before .before .before .before .before .before .before .before .before .before .before .before .before .before .before .before .before .before .before .before .a .given .0 .1 .0) .node) (past (c .before .before .before .before .before .before .before .before .before .before .before .before .before .before .before .before .before .before .before .before .before .before .before .before .before .before .before .before .before .before .before .before .before .before .before .args .b .now) (c .before .before .before .before .before .before .before .before .before .before .before .before .before .before .before .before .before .before .before .before .before .before .before .before .before .before .before .before .before .before .before .before .before .before .before .args .d) (c .before .before .before .before .before .before .before .before .before .before .before .before .before .before .before .before .before .before .before .before .before .before .before .before .before .before .before .before .before .before .before .before .before .before .before .args .yes) (c .before .before .before .before .before .before .before .before .before .before .before .before .before .before .before .before .before .before .before .before .before .before .before .before .before .before .before .before .before .before .before .before .before .before .before .args .c .node)) (choices.is-node (context-of (c .before .before .before .before .before .before .before .before .before .before .before .before .before .before .before .before .before .before .before .before .before .before .before .before .before .before .before .before .before .before .before .before .before .before .before .args .kinds .now) (c .before .before .before .before .before .before .before .before .before .before .before .before .before .before .before .before .before .before .before .before .before .before .before .before .before .before .before .before .before .before .before .before .before .before .before .args .l .generated)) refl (arm (c .before .before .before .before .before .before .before .before .before .before .before .before .before .before .before .before .before .before .before .before .before .before .before .before .before .before .before .before .before .before .before .before .before .before .before .args .b .now) (c .before .before .before .before .before .before .before .before .before .before .before .before .before .before .before .before .before .before .before .before .before .before .before .before .before .before .before .before .before .before .before .before .before .before .before .args .d) (c .before .before .before .before .before .before .before .before .before .before .before .before .before .before .before .before .before .before .before .before .before .before .before .before .before .before .before .before .before .before .before .before .before .before .before .args .conjunction) (c .before .before .before .before .before .before .before .before .before .before .before .before .before .before .before .before .before .before .before .before .before .before .before .before .before .before .before .before .before .before .before .before .before .before .before .args .yes) (c .before .before .before .before .before .before .before .before .before .before .before .before .before .before .before .before .before .before .before .before .before .before .before .before .before .before .before .before .before .before .before .before .before .before .before .args .c .node)) (arm (c .before .before .before .before .before .before .before .before .before .before .before .before .before .before .before .before .before .before .before .before .before .before .before .before .before .before .before .before .before .before .before .before .before .before .before .args .b .now) (c .before .before .before .before .before .before .before .before .before .before .before .before .before .before .before .before .before .before .before .before .before .before .before .before .before .before .before .before .before .before .before .before .before .before .before .args .d) (c .before .before .before .before .before .before .before .before .before .before .before .before .before .before .before .before .before .before .before .before .before .before .before .before .before .before .before .before .before .before .before .before .before .before .before .args .conjunction) (c .before .before .before .before .before .before .before .before .before .before .before .before .before .before .before .before .before .before .before .before .before .before .before .before .before .before .before .before .before .before .before .before .before .before .before .args .no) (past (c .before .before .before .before .before .before .before .before .before .before .before .before .before .before .before .before .before .before .before .before .before .before .before .before .before .before .before .before .before .before .before .before .before .before .before .args .b .now) (c .before .before .before .before .before .before .before .before .before .before .before .before .before .before .before .before .before .before .before .before .before .before .before .before .before .before .before .before .before .before .before .before .before .before .before .args .d) (c .before .before .before .before .before .before .before .before .before .before .before .before .before .before .before .before .before .before .before .before .before .before .before .before .before .before .before .before .before .before .before .before .before .before .before .args .yes) (c .before .before .before .before .before .before .before .before .before .before .before .before .before .before .before .before .before .before .before .before .before .before .before .before .before .before .before .before .before .before .before .before .before .before .before .args .c .node))) (c .before .before .before .before .before .before .before .before .before .before .before .before .before .before .before .before .before .before .before .before .before .before .before .before .before .before .before .before .before .before .before .before .before .before .before .args .v) (past (c .before .before .before .before .before .before .before .before .before .before .before .before .before .before .before .before .before .before .before .before .before .before .before .before .before .before .before .before .before .before .before .before .before .before .before .args .b .now) (c .before .before .before .before .before .before .before .before .before .before .before .before .before .before .before .before .before .before .before .before .before .before .before .before .before .before .before .before .before .before .before .before .before .before .before .args .d) (c .before .before .before .before .before .before .before .before .before .before .before .before .before .before .before .before .before .before .before .before .before .before .before .before .before .before .before .before .before .before .before .before .before .before .before .args .yes) (c .before .before .before .before .before .before .before .before .before .before .before .before .before .before .before .before .before .before .before .before .before .before .before .before .before .before .before .before .before .before .before .before .before .before .before .args .c .node)) (past (c .before .before .before .before .before .before .before .before .before .before .before .before .before .before .before .before .before .before .before .before .before .before .before .before .before .before .before .before .before .before .before .before .before .before .before .args .b .now) (c .before .before .before .before .before .before .before .before .before .before .before .before .before .before .before .before .before .before .before .before .before .before .before .before .before .before .before .before .before .before .before .before .before .before .before .args .d) (c .before .before .before .before .before .before .before .before .before .before .before .before .before .before .before .before .before .before .before .before .before .before .before .before .before .before .before .before .before .before .before .before .before .before .before .args .no) (past (c .before .before .before .before .before .before .before .before .before .before .before .before .before .before .before .before .before .before .before .before .before .before .before .before .before .before .before .before .before .before .before .before .before .before .before .args .b .now) (c .before .before .before .before .before .before .before .before .before .before .before .before .before .before .before .before .before .before .before .before .before .before .before .before .before .before .before .before .before .before .before .before .before .before .before .args .d) (c .before .before .before .before .before .before .before .before .before .before .before .before .before .before .before .before .before .before .before .before .before .before .before .before .before .before .before .before .before .before .before .before .before .before .before .args .yes) (c .before .before .before .before .before .before .before .before .before .before .before .before .before .before .before .before .before .before .before .before .before .before .before .before .before .before .before .before .before .before .before .before .before .before .before .args .c .node))) (c .before .before .before .before .before .before .before .before .before .before .before .before .before .before .before .before .before .before .before .before .before .before .before .before .before .before .before .before .before .before .before .before .before .before .before .pre .1 .0) (c .before .before .before .before .before .before .before .before .before .before .before .before .before .before .before .before .before .before .before .before .before .before .before .before .before .before .before .before .before .before .before .if1 .taken) (c .before .before .before .before .before .before .before .before .before .before .before .before .before .before .before .before .before .before .before .before .before .before .before .before .before .before .before .before .before .before .unsupported .result) (c .before .before .before .before .before .before .before .before .before .before .before .before .before .before .before .before .before .before .before .before .before .before .before .before .before .before .before .before .before .before .unsupported .ensures) (c .before .before .before .before .before .before .before .before .before .before .before .before .before .before .before .before .before .before .before .before .before .before .before .before .before .before .before .before .before .if2 .left) (c .before .before .before .before .before .before .before .before .before .before .before .before .before .before .before .before .before .before .before .before .before .before .before .before .before .before .lower .last .1 .0) (c .before .before .before .before .before .before .before .before .before .before .before .before .before .before .before .before .before .before .before .before .before .before .a .given .0 .0) (c .before .before .before .before .before .before .before .before .before .before .before .before .before .before .before .before .before .before .before .before .before .before .a .given .0 .1 .0) (taken _ _ _ _ _ _ (c .before .before .before .before .before .before .before .before .before .before .before .before .before .before .before .before .before .before .before .before .before .before .a .given .0 .0) (c .before .before .before .before .before .before .before .before .before .before .before .before .before .before .before .before .before .before .before .before .before .before .a .given .0 .1 .0) (arm-from _ _ (c .before .before .before .before .before .before .before .before .before .before .before .before .before .before .before .before .before .before .before .before .before .before .before .before .before .before .before .before .before .before .before .before .before .before .before .args .b .now) (c .before .before .before .before .before .before .before .before .before .before .before .before .before .before .before .before .before .before .before .before .before .before .before .before .before .before .before .before .before .before .before .before .before .before .before .args .d) (c .before .before .before .before .before .before .before .before .before .before .before .before .before .before .before .before .before .before .before .before .before .before .before .before .before .before .before .before .before .before .before .before .before .before .before .args .conjunction) (c .before .before .before .before .before .before .before .before .before .before .before .before .before .before .before .before .before .before .before .before .before .before .before .before .before .before .before .before .before .before .before .before .before .before .before .args .yes) _ _ _ _ _ _ (further (c .before .before .before .before .before .before .before .before .before .before .before .before .before .before .before .before .before .before .before .before .before .before .before .before .before .before .before .before .before .before .before .before .before .before .before .args .c) 1) (c .before .before .before .before .before .before .before .before .before .before .before .before .before .before .before .before .before .before .before .before .before .before .before .before .before .before .before .before .ahead .ensures) (c .before .before .before .before .before .before .before .before .before .before .before .before .before .before .before .before .before .before .before .before .before .before .before .before .before .before .lower .ensures)) (c .before .before .before .before .before .before .before .before .before .before .before .before .before .before .before .before .before .before .before .before .before .before .a .given .1))) (arm-from _ _ (c .before .before .before .before .before .before .before .before .before .before .before .before .before .before .before .before .before .before .before .before .before .before .before .before .before .before .before .before .before .before .before .before .before .before .before .args .b .now) (c .before .before .before .before .before .before .before .before .before .before .before .before .before .before .before .before .before .before .before .before .before .before .before .before .before .before .before .before .before .before .before .before .before .before .before .args .d) (c .before .before .before .before .before .before .before .before .before .before .before .before .before .before .before .before .before .before .before .before .before .before .before .before .before .before .before .before .before .before .before .before .before .before .before .args .conjunction) (c .before .before .before .before .before .before .before .before .before .before .before .before .before .before .before .before .before .before .before .before .before .before .before .before .before .before .before .before .before .before .before .before .before .before .before .args .no) _ _ _ _ _ _ (further (c .before .before .before .before .before .before .before .before .before .before .before .before .before .before .before .before .before .before .before .before .before .before .a .given .0 .1 .0) 2) (c .before .before .before .before .before .before .before .before .before .before .before .ahead2 .ensures) (c .before .before .before .before .before .before .before .before .before .lower2 .ensures))) (c .before .before .before .before .before .o .given .1)) _ refl (c .before .before .join .last .0) _ (c .before .before .join .ensures .0) (c .before .before .join .ensures .1)
+branch-returns-4 : (t : ℕ) → branch-lts.Need-returns-4 (branch-calls t) (branch-at t) branch.Post
+branch-returns-4 t c =
+    let args = c .before .before .before .before .before .before .before .before .before .before .before .before .before .before .before .before .before .before .before .before .before .before .before .before .before .before .before .before .before .before .before .before .before .before .before .args in
+    let pre = c .before .before .before .before .before .before .before .before .before .before .before .before .before .before .before .before .before .before .before .before .before .before .before .before .before .before .before .before .before .before .before .before .before .before .before .pre in
+    let if1 = c .before .before .before .before .before .before .before .before .before .before .before .before .before .before .before .before .before .before .before .before .before .before .before .before .before .before .before .before .before .before .before .if1 in
+    let unsupported = c .before .before .before .before .before .before .before .before .before .before .before .before .before .before .before .before .before .before .before .before .before .before .before .before .before .before .before .before .before .before .unsupported in
+    let if2 = c .before .before .before .before .before .before .before .before .before .before .before .before .before .before .before .before .before .before .before .before .before .before .before .before .before .before .before .before .before .if2 in
+    let ahead = c .before .before .before .before .before .before .before .before .before .before .before .before .before .before .before .before .before .before .before .before .before .before .before .before .before .before .before .before .ahead in
+    let lower = c .before .before .before .before .before .before .before .before .before .before .before .before .before .before .before .before .before .before .before .before .before .before .before .before .before .before .lower in
+    let a = c .before .before .before .before .before .before .before .before .before .before .before .before .before .before .before .before .before .before .before .before .before .before .a in
+    let put-row = c .before .before .before .before .before .before .before .before .before .before .before .before .before .before .before .before .before .before .put-row in
+    let put-row2 = c .before .before .before .before .before .before .before .before .before .before .before .before .before .before .put-row2 in
+    let ahead2 = c .before .before .before .before .before .before .before .before .before .before .before .ahead2 in
+    let lower2 = c .before .before .before .before .before .before .before .before .before .lower2 in
+    let o = c .before .before .before .before .before .o in
+    let join = c .before .before .join in
+    let b = args .b .now in
+    let conjunction = args .conjunction in
+    let a-next = a .given .0 .1 .0 in
+    let context = context-of (args .kinds .now) (args .l .generated) in
+    let after-yes = past b (args .d) (args .yes) (args .c .node) in
+    let yes-arm = arm b (args .d) conjunction (args .yes) (args .c .node) in
+    let after-no = past b (args .d) (args .no) after-yes in
+    let no-arm = arm b (args .d) conjunction (args .no) after-yes in
+    let is-taken = taken _ _ _ _ _ _ (a .given .0 .0) a-next
+    (arm-from _ _ b (args .d) conjunction (args .yes) _ _ _ _ _ _ (further (args .c) 1) (ahead .ensures) (lower .ensures)) (a .given .1) in
+    choices.both-joined context refl yes-arm no-arm (args .v) after-yes after-no (pre .1 .0) (if1 .taken) (unsupported .result) (unsupported .ensures)
+    (if2 .left) (lower .last .1 .0) (a .given .0 .0) a-next is-taken (put-row .last .0) (put-row2 .last .0) (put-row .ensures) (put-row2 .ensures)
+    (lower2 .last .1 .0) (o .given .0 .0) (o .given .0 .1 .0) (taken _ _ _ _ _ _ (o .given .0 .0) (o .given .0 .1 .0) (arm-at _ _ b (args .d)
+    conjunction (args .no) _ _ _ _ _ _ (a-next .node) after-yes (choices.is-node context refl yes-arm no-arm (args .v) after-yes after-no (pre .1 .0)
+    (if1 .taken) (unsupported .result) (unsupported .ensures) (if2 .left) (lower .last .1 .0) (a .given .0 .0) a-next is-taken)
+    (arm-from _ _ b (args .d) conjunction (args .no) _ _ _ _ _ _ (further a-next 2) (ahead2 .ensures) (lower2 .ensures))) (o .given .1)) _ refl
+    (join .last .0) _ (join .ensures .0) (join .ensures .1)
 
-branch-returns-5 : (t : ℕ) → branch-lts.Need-returns-5 (
-  unsupported-reads.Asked,
-  unsupported-reads.Learnt,
-  ahead-reads.Asked,
-  ahead-reads.Learnt,
-  lower-below t,
-  lower.Post,
-  put-row-reads.Asked,
-  put-row-reads.Learnt,
-  join-reads.Asked,
-  join-reads.Learnt,
-) (branch-at t) branch.Post
-branch-returns-5 t c = choices.not-boolean (context-of (c .before .before .before .before .args .kinds .now) (c .before .before .before .before .args .l .generated)) refl (arm (c .before .before .before .before .args .b .now) (c .before .before .before .before .args .d) (c .before .before .before .before .args .conjunction) (c .before .before .before .before .args .yes) (c .before .before .before .before .args .c .node)) (arm (c .before .before .before .before .args .b .now) (c .before .before .before .before .args .d) (c .before .before .before .before .args .conjunction) (c .before .before .before .before .args .no) (past (c .before .before .before .before .args .b .now) (c .before .before .before .before .args .d) (c .before .before .before .before .args .yes) (c .before .before .before .before .args .c .node))) (c .before .before .before .before .args .v) (past (c .before .before .before .before .args .b .now) (c .before .before .before .before .args .d) (c .before .before .before .before .args .yes) (c .before .before .before .before .args .c .node)) (past (c .before .before .before .before .args .b .now) (c .before .before .before .before .args .d) (c .before .before .before .before .args .no) (past (c .before .before .before .before .args .b .now) (c .before .before .before .before .args .d) (c .before .before .before .before .args .yes) (c .before .before .before .before .args .c .node))) (c .before .before .before .before .pre .1 .0) (c .if1 .left)
+branch-returns-5 : (t : ℕ) → branch-lts.Need-returns-5 (branch-calls t) (branch-at t) branch.Post
+branch-returns-5 t c =
+    let args = c .before .before .before .before .args in
+    let b = args .b .now in
+    let after-yes = past b (args .d) (args .yes) (args .c .node) in
+    choices.not-boolean (context-of (args .kinds .now) (args .l .generated)) refl (arm b (args .d) (args .conjunction) (args .yes) (args .c .node))
+    (arm b (args .d) (args .conjunction) (args .no) after-yes) (args .v) after-yes (past b (args .d) (args .no) after-yes)
+    (c .before .before .before .before .pre .1 .0) (c .if1 .left)
 
-link-lower-requires : (t : ℕ) → link-lts.Need-lower-requires (
-  lower-below t,
-  lower.Post,
-  branch-below t,
-  branch.Post,
-) (link-at t) link.Post
-link-lower-requires t c κs = (omega (arith, c .before .before .before .before .pre .0, c .before .before .before .before .pre .1 .1 .1), (split-first (c .before .before .before .before .args .b .now) (c .before .before .before .before .args .d) (c .before .before .before .before .args .conjunction) (yes-of (c .before .before .before .before .args .conjunction) (c .before .before .before .before .args .left)) (no-of (c .before .before .before .before .args .conjunction) (c .before .before .before .before .args .left)) (arm (c .before .before .before .before .args .b .now) (c .before .before .before .before .args .d) (c .before .before .before .before .args .conjunction) (c .before .before .before .before .args .left) (c .before .before .before .before .args .c .node)) (past (c .before .before .before .before .args .b .now) (c .before .before .before .before .args .d) (c .before .before .before .before .args .left) (c .before .before .before .before .args .c .node)) (link-splits (c .before .before .before .before .args .b .now) (c .before .before .before .before .args .d) (c .before .before .before .before .args .left) (c .before .before .before .before .args .c .node) (c .before .before .before .before .args .conjunction) (c .before .before .before .before .pre .1 .1 .1)) (link-past (c .before .before .before .before .args .b .now) (c .before .before .before .before .args .d) (c .before .before .before .before .args .left) (c .before .before .before .before .args .c .node) (c .before .before .before .before .args .conjunction) (c .before .before .before .before .pre .1 .1 .1)) (c .before .before .before .before .pre .1 .0) (context-of (c .before .before .before .before .args .kinds .now) (c .before .before .before .before .args .l .generated)), (one-well (c .before .before .before .before .args .b .now) (c .before .before .before .before .args .d) 1 (c .before .before .before .before .args .c .node) refl (first-well (c .before .before .before .before .args .b .now) (c .before .before .before .before .args .d) (c .before .before .before .before .args .left) (c .before .before .before .before .args .c .node) (λ z. omega (arith, c .before .before .before .before .pre .1 .1 .1)) (c .before .before .before .before .pre .1 .1 .0)), omega arith, omega arith)))
+link-lower-requires : (t : ℕ) → link-lts.Need-lower-requires (link-calls t) (link-at t) link.Post
+link-lower-requires t c κs =
+    let pre = c .before .before .before .before .pre in
+    let args = c .before .before .before .before .args in
+    let left = args .left in
+    let b = args .b .now in
+    let node = args .c .node in
+    let conjunction = args .conjunction in (
+      omega (arith, pre .0, pre .1 .1 .1),
+      (
+        split-first b (args .d) conjunction (yes-of conjunction left) (no-of conjunction left) (arm b (args .d) conjunction left node)
+            (past b (args .d) left node) (link-splits b (args .d) left node conjunction (pre .1 .1 .1))
+            (link-past b (args .d) left node conjunction (pre .1 .1 .1)) (pre .1 .0) (context-of (args .kinds .now) (args .l .generated)),
+        (
+          one-well b (args .d) 1 node refl (first-well b (args .d) left node (λ z. omega (arith, pre .1 .1 .1)) (pre .1 .1 .0)),
+          omega arith,
+          omega arith,
+        ),
+      ),
+    )
 
-link-enum-known-a : (t : ℕ) → link-lts.Need-enum-known-a (
-  lower-below t,
-  lower.Post,
-  branch-below t,
-  branch.Post,
-) (link-at t) link.Post
+link-enum-known-a : (t : ℕ) → link-lts.Need-enum-known-a (link-calls t) (link-at t) link.Post
 link-enum-known-a t c = search needs
 
-link-enum-told : (t : ℕ) → link-lts.Need-enum-told (
-  lower-below t,
-  lower.Post,
-  branch-below t,
-  branch.Post,
-) (link-at t) link.Post
+link-enum-told : (t : ℕ) → link-lts.Need-enum-told (link-calls t) (link-at t) link.Post
 link-enum-told t c = search needs
 
-link-same-length : (t : ℕ) → link-lts.Need-same-length (
-  lower-below t,
-  lower.Post,
-  branch-below t,
-  branch.Post,
-) (link-at t) link.Post
+link-same-length : (t : ℕ) → link-lts.Need-same-length (link-calls t) (link-at t) link.Post
 link-same-length t c = search needs
 
-link-returns : (t : ℕ) → link-lts.Need-returns (
-  lower-below t,
-  lower.Post,
-  branch-below t,
-  branch.Post,
-) (link-at t) link.Post
-link-returns t c = split-refused (c .before .before .before .before .before .before .before .before .before .args .b .now) (c .before .before .before .before .before .before .before .before .before .args .d) (c .before .before .before .before .before .before .before .before .before .args .conjunction) (yes-of (c .before .before .before .before .before .before .before .before .before .args .conjunction) (c .before .before .before .before .before .before .before .before .before .args .left)) (no-of (c .before .before .before .before .before .before .before .before .before .args .conjunction) (c .before .before .before .before .before .before .before .before .before .args .left)) (arm (c .before .before .before .before .before .before .before .before .before .args .b .now) (c .before .before .before .before .before .before .before .before .before .args .d) (c .before .before .before .before .before .before .before .before .before .args .conjunction) (c .before .before .before .before .before .before .before .before .before .args .left) (c .before .before .before .before .before .before .before .before .before .args .c .node)) (past (c .before .before .before .before .before .before .before .before .before .args .b .now) (c .before .before .before .before .before .before .before .before .before .args .d) (c .before .before .before .before .before .before .before .before .before .args .left) (c .before .before .before .before .before .before .before .before .before .args .c .node)) (link-splits (c .before .before .before .before .before .before .before .before .before .args .b .now) (c .before .before .before .before .before .before .before .before .before .args .d) (c .before .before .before .before .before .before .before .before .before .args .left) (c .before .before .before .before .before .before .before .before .before .args .c .node) (c .before .before .before .before .before .before .before .before .before .args .conjunction) (c .before .before .before .before .before .before .before .before .before .pre .1 .1 .1)) (link-past (c .before .before .before .before .before .before .before .before .before .args .b .now) (c .before .before .before .before .before .before .before .before .before .args .d) (c .before .before .before .before .before .before .before .before .before .args .left) (c .before .before .before .before .before .before .before .before .before .args .c .node) (c .before .before .before .before .before .before .before .before .before .args .conjunction) (c .before .before .before .before .before .before .before .before .before .pre .1 .1 .1)) (c .before .before .before .before .before .before .before .before .before .pre .1 .0) (context-of (c .before .before .before .before .before .before .before .before .before .args .kinds .now) (c .before .before .before .before .before .before .before .before .before .args .l .generated)) (c .before .before .before .before .lower .last .1 .0) (c .before .before .before .before .lower .result) (c .enum-told .given .0 .0) (c .enum-told .given .0 .1 .0) (refused _ _ _ _ _ _ (c .enum-told .given .0 .0) (c .enum-told .given .0 .1 .0) (c .before .before .before .before .lower .ensures) (c .enum-told .given .1)) (c .enum-told .given .1)
+link-returns : (t : ℕ) → link-lts.Need-returns (link-calls t) (link-at t) link.Post
+link-returns t c =
+    let args = c .before .before .before .before .before .before .before .before .before .args in
+    let pre = c .before .before .before .before .before .before .before .before .before .pre in
+    let lower = c .before .before .before .before .lower in
+    let left = args .left in
+    let b = args .b .now in
+    let node = args .c .node in
+    let conjunction = args .conjunction in
+    let given3 = c .enum-told .given .0 .0 in
+    let given2 = c .enum-told .given .0 .1 .0 in
+    split-refused b (args .d) conjunction (yes-of conjunction left) (no-of conjunction left) (arm b (args .d) conjunction left node)
+    (past b (args .d) left node) (link-splits b (args .d) left node conjunction (pre .1 .1 .1))
+    (link-past b (args .d) left node conjunction (pre .1 .1 .1)) (pre .1 .0) (context-of (args .kinds .now) (args .l .generated)) (lower .last .1 .0)
+    (lower .result) given3 given2 (refused _ _ _ _ _ _ given3 given2 (lower .ensures) (c .enum-told .given .1)) (c .enum-told .given .1)
 
-link-sub-branch : (t : ℕ) → link-lts.Need-sub-branch (
-  lower-below t,
-  lower.Post,
-  branch-below t,
-  branch.Post,
-) (link-at t) link.Post
+link-sub-branch : (t : ℕ) → link-lts.Need-sub-branch (link-calls t) (link-at t) link.Post
 link-sub-branch t c = search needs
 
-link-branch-requires : (t : ℕ) → link-lts.Need-branch-requires (
-  lower-below t,
-  lower.Post,
-  branch-below t,
-  branch.Post,
-) (link-at t) link.Post
-link-branch-requires t c κs = (omega (arith, c .before .before .before .before .before .before .before .before .before .before .before .before .pre .0, c .before .before .before .before .before .before .before .before .before .before .before .before .pre .1 .1 .1), (split-arms (c .before .before .before .before .before .before .before .before .before .before .before .before .args .b .now) (c .before .before .before .before .before .before .before .before .before .before .before .before .args .d) (c .before .before .before .before .before .before .before .before .before .before .before .before .args .conjunction) (yes-of (c .before .before .before .before .before .before .before .before .before .before .before .before .args .conjunction) (c .before .before .before .before .before .before .before .before .before .before .before .before .args .left)) (no-of (c .before .before .before .before .before .before .before .before .before .before .before .before .args .conjunction) (c .before .before .before .before .before .before .before .before .before .before .before .before .args .left)) (arm (c .before .before .before .before .before .before .before .before .before .before .before .before .args .b .now) (c .before .before .before .before .before .before .before .before .before .before .before .before .args .d) (c .before .before .before .before .before .before .before .before .before .before .before .before .args .conjunction) (c .before .before .before .before .before .before .before .before .before .before .before .before .args .left) (c .before .before .before .before .before .before .before .before .before .before .before .before .args .c .node)) (past (c .before .before .before .before .before .before .before .before .before .before .before .before .args .b .now) (c .before .before .before .before .before .before .before .before .before .before .before .before .args .d) (c .before .before .before .before .before .before .before .before .before .before .before .before .args .left) (c .before .before .before .before .before .before .before .before .before .before .before .before .args .c .node)) (link-splits (c .before .before .before .before .before .before .before .before .before .before .before .before .args .b .now) (c .before .before .before .before .before .before .before .before .before .before .before .before .args .d) (c .before .before .before .before .before .before .before .before .before .before .before .before .args .left) (c .before .before .before .before .before .before .before .before .before .before .before .before .args .c .node) (c .before .before .before .before .before .before .before .before .before .before .before .before .args .conjunction) (c .before .before .before .before .before .before .before .before .before .before .before .before .pre .1 .1 .1)) (link-past (c .before .before .before .before .before .before .before .before .before .before .before .before .args .b .now) (c .before .before .before .before .before .before .before .before .before .before .before .before .args .d) (c .before .before .before .before .before .before .before .before .before .before .before .before .args .left) (c .before .before .before .before .before .before .before .before .before .before .before .before .args .c .node) (c .before .before .before .before .before .before .before .before .before .before .before .before .args .conjunction) (c .before .before .before .before .before .before .before .before .before .before .before .before .pre .1 .1 .1)) (c .before .before .before .before .before .before .before .before .before .before .before .before .pre .1 .0) (context-of (c .before .before .before .before .before .before .before .before .before .before .before .before .args .kinds .now) (c .before .before .before .before .before .before .before .before .before .before .before .before .args .l .generated)) (c .before .before .before .before .before .before .before .lower .last .1 .0) (c .before .before .before .a .given .0 .0) (c .before .before .before .a .given .0 .1 .0) (taken _ _ _ _ _ _ (c .before .before .before .a .given .0 .0) (c .before .before .before .a .given .0 .1 .0) (c .before .before .before .before .before .before .before .lower .ensures) (c .before .before .before .a .given .1)) (c .before .before .before .before .before .before .before .before .before .before .before .before .args .left - 1) 0 (ap (λ (x : Bool). cond x (c .before .before .before .before .before .before .before .before .before .before .before .before .args .left - 1) 0) (sym (c .before .if1 .taken))) (ap (λ (x : Bool). cond x 0 (c .before .before .before .before .before .before .before .before .before .before .before .before .args .left - 1)) (sym (c .before .if1 .taken))), (rest-well-at (c .before .before .before .before .before .before .before .before .before .before .before .before .args .b .now) (c .before .before .before .before .before .before .before .before .before .before .before .before .args .d) (c .before .before .before .before .before .before .before .before .before .before .before .before .args .left) (c .before .before .before .before .before .before .before .before .before .before .before .before .args .c .node) ((c .before .before .before .a .given .0 .1 .0) .node) (λ z. omega (arith, c .before .before .before .before .before .before .before .before .before .before .before .before .pre .1 .1 .1)) (c .before .before .before .before .before .before .before .before .before .before .before .before .pre .1 .1 .0) (split-node (c .before .before .before .before .before .before .before .before .before .before .before .before .args .b .now) (c .before .before .before .before .before .before .before .before .before .before .before .before .args .d) (c .before .before .before .before .before .before .before .before .before .before .before .before .args .conjunction) (yes-of (c .before .before .before .before .before .before .before .before .before .before .before .before .args .conjunction) (c .before .before .before .before .before .before .before .before .before .before .before .before .args .left)) (no-of (c .before .before .before .before .before .before .before .before .before .before .before .before .args .conjunction) (c .before .before .before .before .before .before .before .before .before .before .before .before .args .left)) (arm (c .before .before .before .before .before .before .before .before .before .before .before .before .args .b .now) (c .before .before .before .before .before .before .before .before .before .before .before .before .args .d) (c .before .before .before .before .before .before .before .before .before .before .before .before .args .conjunction) (c .before .before .before .before .before .before .before .before .before .before .before .before .args .left) (c .before .before .before .before .before .before .before .before .before .before .before .before .args .c .node)) (past (c .before .before .before .before .before .before .before .before .before .before .before .before .args .b .now) (c .before .before .before .before .before .before .before .before .before .before .before .before .args .d) (c .before .before .before .before .before .before .before .before .before .before .before .before .args .left) (c .before .before .before .before .before .before .before .before .before .before .before .before .args .c .node)) (link-splits (c .before .before .before .before .before .before .before .before .before .before .before .before .args .b .now) (c .before .before .before .before .before .before .before .before .before .before .before .before .args .d) (c .before .before .before .before .before .before .before .before .before .before .before .before .args .left) (c .before .before .before .before .before .before .before .before .before .before .before .before .args .c .node) (c .before .before .before .before .before .before .before .before .before .before .before .before .args .conjunction) (c .before .before .before .before .before .before .before .before .before .before .before .before .pre .1 .1 .1)) (link-past (c .before .before .before .before .before .before .before .before .before .before .before .before .args .b .now) (c .before .before .before .before .before .before .before .before .before .before .before .before .args .d) (c .before .before .before .before .before .before .before .before .before .before .before .before .args .left) (c .before .before .before .before .before .before .before .before .before .before .before .before .args .c .node) (c .before .before .before .before .before .before .before .before .before .before .before .before .args .conjunction) (c .before .before .before .before .before .before .before .before .before .before .before .before .pre .1 .1 .1)) (c .before .before .before .before .before .before .before .before .before .before .before .before .pre .1 .0) (context-of (c .before .before .before .before .before .before .before .before .before .before .before .before .args .kinds .now) (c .before .before .before .before .before .before .before .before .before .before .before .before .args .l .generated)) (c .before .before .before .before .before .before .before .lower .last .1 .0) (c .before .before .before .a .given .0 .0) (c .before .before .before .a .given .0 .1 .0) (taken _ _ _ _ _ _ (c .before .before .before .a .given .0 .0) (c .before .before .before .a .given .0 .1 .0) (c .before .before .before .before .before .before .before .lower .ensures) (c .before .before .before .a .given .1))), none-well (c .before .before .before .before .before .before .before .before .before .before .before .before .args .b .now) (c .before .before .before .before .before .before .before .before .before .before .before .before .args .d) 0 (past (c .before .before .before .before .before .before .before .before .before .before .before .before .args .b .now) (c .before .before .before .before .before .before .before .before .before .before .before .before .args .d) (c .before .before .before .before .before .before .before .before .before .before .before .before .args .left - 1) ((c .before .before .before .a .given .0 .1 .0) .node)) refl, omega (arith, c .before .before .before .before .before .before .before .before .before .before .before .before .pre .1 .1 .2), omega arith)))
+link-branch-requires : (t : ℕ) → link-lts.Need-branch-requires (link-calls t) (link-at t) link.Post
+link-branch-requires t c κs =
+    let pre = c .before .before .before .before .before .before .before .before .before .before .before .before .pre in
+    let args = c .before .before .before .before .before .before .before .before .before .before .before .before .args in
+    let lower = c .before .before .before .before .before .before .before .lower in
+    let a = c .before .before .before .a in
+    let left = args .left in
+    let b = args .b .now in
+    let node2 = args .c .node in
+    let args2 = args .left - 1 in
+    let a-next = a .given .0 .1 .0 in
+    let conjunction = args .conjunction in
+    let node = a-next .node in
+    let sym2 = sym (c .before .if1 .taken) in
+    let no-of2 = no-of conjunction left in
+    let yes-of2 = yes-of conjunction left in
+    let context = context-of (args .kinds .now) (args .l .generated) in
+    let after = past b (args .d) left node2 in
+    let whole = arm b (args .d) conjunction left node2 in
+    let is-taken = taken _ _ _ _ _ _ (a .given .0 .0) a-next (lower .ensures) (a .given .1) in
+    let link-past2 = link-past b (args .d) left node2 conjunction (pre .1 .1 .1) in
+    let link-splits2 = link-splits b (args .d) left node2 conjunction (pre .1 .1 .1) in (
+      omega (arith, pre .0, pre .1 .1 .1),
+      (
+        split-arms b (args .d) conjunction yes-of2 no-of2 whole after link-splits2 link-past2 (pre .1 .0) context (lower .last .1 .0) (a .given .0 .0)
+            a-next is-taken args2 0 (ap (λ (x : Bool). cond x args2 0) sym2) (ap (λ (x : Bool). cond x 0 args2) sym2),
+        (
+          rest-well-at b (args .d) left node2 node (λ z. omega (arith, pre .1 .1 .1)) (pre .1 .1 .0) (split-node b (args .d) conjunction yes-of2
+              no-of2 whole after link-splits2 link-past2 (pre .1 .0) context (lower .last .1 .0) (a .given .0 .0) a-next is-taken),
+          none-well b (args .d) 0 (past b (args .d) args2 node) refl,
+          omega (arith, pre .1 .1 .2),
+          omega arith,
+        ),
+      ),
+    )
 
-link-same-length-2 : (t : ℕ) → link-lts.Need-same-length-2 (
-  lower-below t,
-  lower.Post,
-  branch-below t,
-  branch.Post,
-) (link-at t) link.Post
+link-same-length-2 : (t : ℕ) → link-lts.Need-same-length-2 (link-calls t) (link-at t) link.Post
 link-same-length-2 t c = search needs
 
-link-returns-2 : (t : ℕ) → link-lts.Need-returns-2 (
-  lower-below t,
-  lower.Post,
-  branch-below t,
-  branch.Post,
-) (link-at t) link.Post
-link-returns-2 t c = split-done (c .before .before .before .before .before .before .before .before .before .before .before .before .before .before .before .args .b .now) (c .before .before .before .before .before .before .before .before .before .before .before .before .before .before .before .args .d) (c .before .before .before .before .before .before .before .before .before .before .before .before .before .before .before .args .conjunction) (yes-of (c .before .before .before .before .before .before .before .before .before .before .before .before .before .before .before .args .conjunction) (c .before .before .before .before .before .before .before .before .before .before .before .before .before .before .before .args .left)) (no-of (c .before .before .before .before .before .before .before .before .before .before .before .before .before .before .before .args .conjunction) (c .before .before .before .before .before .before .before .before .before .before .before .before .before .before .before .args .left)) (arm (c .before .before .before .before .before .before .before .before .before .before .before .before .before .before .before .args .b .now) (c .before .before .before .before .before .before .before .before .before .before .before .before .before .before .before .args .d) (c .before .before .before .before .before .before .before .before .before .before .before .before .before .before .before .args .conjunction) (c .before .before .before .before .before .before .before .before .before .before .before .before .before .before .before .args .left) (c .before .before .before .before .before .before .before .before .before .before .before .before .before .before .before .args .c .node)) (past (c .before .before .before .before .before .before .before .before .before .before .before .before .before .before .before .args .b .now) (c .before .before .before .before .before .before .before .before .before .before .before .before .before .before .before .args .d) (c .before .before .before .before .before .before .before .before .before .before .before .before .before .before .before .args .left) (c .before .before .before .before .before .before .before .before .before .before .before .before .before .before .before .args .c .node)) (link-splits (c .before .before .before .before .before .before .before .before .before .before .before .before .before .before .before .args .b .now) (c .before .before .before .before .before .before .before .before .before .before .before .before .before .before .before .args .d) (c .before .before .before .before .before .before .before .before .before .before .before .before .before .before .before .args .left) (c .before .before .before .before .before .before .before .before .before .before .before .before .before .before .before .args .c .node) (c .before .before .before .before .before .before .before .before .before .before .before .before .before .before .before .args .conjunction) (c .before .before .before .before .before .before .before .before .before .before .before .before .before .before .before .pre .1 .1 .1)) (link-past (c .before .before .before .before .before .before .before .before .before .before .before .before .before .before .before .args .b .now) (c .before .before .before .before .before .before .before .before .before .before .before .before .before .before .before .args .d) (c .before .before .before .before .before .before .before .before .before .before .before .before .before .before .before .args .left) (c .before .before .before .before .before .before .before .before .before .before .before .before .before .before .before .args .c .node) (c .before .before .before .before .before .before .before .before .before .before .before .before .before .before .before .args .conjunction) (c .before .before .before .before .before .before .before .before .before .before .before .before .before .before .before .pre .1 .1 .1)) (c .before .before .before .before .before .before .before .before .before .before .before .before .before .before .before .pre .1 .0) (context-of (c .before .before .before .before .before .before .before .before .before .before .before .before .before .before .before .args .kinds .now) (c .before .before .before .before .before .before .before .before .before .before .before .before .before .before .before .args .l .generated)) (c .before .before .before .before .before .before .before .before .before .before .lower .last .1 .0) (c .before .before .before .before .before .before .a .given .0 .0) (c .before .before .before .before .before .before .a .given .0 .1 .0) (taken _ _ _ _ _ _ (c .before .before .before .before .before .before .a .given .0 .0) (c .before .before .before .before .before .before .a .given .0 .1 .0) (c .before .before .before .before .before .before .before .before .before .before .lower .ensures) (c .before .before .before .before .before .before .a .given .1)) (c .before .before .before .before .before .before .before .before .before .before .before .before .before .before .before .args .left - 1) 0 (ap (λ (x : Bool). cond x (c .before .before .before .before .before .before .before .before .before .before .before .before .before .before .before .args .left - 1) 0) (sym (c .before .before .before .before .if1 .taken))) (ap (λ (x : Bool). cond x 0 (c .before .before .before .before .before .before .before .before .before .before .before .before .before .before .before .args .left - 1)) (sym (c .before .before .before .before .if1 .taken))) (c .before .before .branch .last .1 .0) (c .before .before .branch .result) (c .before .before .branch .ensures)
+link-returns-2 : (t : ℕ) → link-lts.Need-returns-2 (link-calls t) (link-at t) link.Post
+link-returns-2 t c =
+    let args = c .before .before .before .before .before .before .before .before .before .before .before .before .before .before .before .args in
+    let pre = c .before .before .before .before .before .before .before .before .before .before .before .before .before .before .before .pre in
+    let lower = c .before .before .before .before .before .before .before .before .before .before .lower in
+    let a = c .before .before .before .before .before .before .a in
+    let if1 = c .before .before .before .before .if1 in
+    let branch = c .before .before .branch in
+    let left = args .left in
+    let b = args .b .now in
+    let node = args .c .node in
+    let conjunction = args .conjunction in
+    split-done b (args .d) conjunction (yes-of conjunction left) (no-of conjunction left) (arm b (args .d) conjunction left node)
+    (past b (args .d) left node) (link-splits b (args .d) left node conjunction (pre .1 .1 .1))
+    (link-past b (args .d) left node conjunction (pre .1 .1 .1)) (pre .1 .0) (context-of (args .kinds .now) (args .l .generated)) (lower .last .1 .0)
+    (a .given .0 .0) (a .given .0 .1 .0) (taken _ _ _ _ _ _ (a .given .0 .0) (a .given .0 .1 .0) (lower .ensures) (a .given .1)) (args .left - 1) 0
+    (ap (λ (x : Bool). cond x (args .left - 1) 0) (sym (if1 .taken))) (ap (λ (x : Bool). cond x 0 (args .left - 1)) (sym (if1 .taken)))
+    (branch .last .1 .0) (branch .result) (branch .ensures)
 
-link-sub-branch-2 : (t : ℕ) → link-lts.Need-sub-branch-2 (
-  lower-below t,
-  lower.Post,
-  branch-below t,
-  branch.Post,
-) (link-at t) link.Post
+link-sub-branch-2 : (t : ℕ) → link-lts.Need-sub-branch-2 (link-calls t) (link-at t) link.Post
 link-sub-branch-2 t c = search needs
 
-link-branch-requires-2 : (t : ℕ) → link-lts.Need-branch-requires-2 (
-  lower-below t,
-  lower.Post,
-  branch-below t,
-  branch.Post,
-) (link-at t) link.Post
-link-branch-requires-2 t c κs = (omega (arith, c .before .before .before .before .before .before .before .before .before .before .before .before .pre .0, c .before .before .before .before .before .before .before .before .before .before .before .before .pre .1 .1 .1), (split-arms (c .before .before .before .before .before .before .before .before .before .before .before .before .args .b .now) (c .before .before .before .before .before .before .before .before .before .before .before .before .args .d) (c .before .before .before .before .before .before .before .before .before .before .before .before .args .conjunction) (yes-of (c .before .before .before .before .before .before .before .before .before .before .before .before .args .conjunction) (c .before .before .before .before .before .before .before .before .before .before .before .before .args .left)) (no-of (c .before .before .before .before .before .before .before .before .before .before .before .before .args .conjunction) (c .before .before .before .before .before .before .before .before .before .before .before .before .args .left)) (arm (c .before .before .before .before .before .before .before .before .before .before .before .before .args .b .now) (c .before .before .before .before .before .before .before .before .before .before .before .before .args .d) (c .before .before .before .before .before .before .before .before .before .before .before .before .args .conjunction) (c .before .before .before .before .before .before .before .before .before .before .before .before .args .left) (c .before .before .before .before .before .before .before .before .before .before .before .before .args .c .node)) (past (c .before .before .before .before .before .before .before .before .before .before .before .before .args .b .now) (c .before .before .before .before .before .before .before .before .before .before .before .before .args .d) (c .before .before .before .before .before .before .before .before .before .before .before .before .args .left) (c .before .before .before .before .before .before .before .before .before .before .before .before .args .c .node)) (link-splits (c .before .before .before .before .before .before .before .before .before .before .before .before .args .b .now) (c .before .before .before .before .before .before .before .before .before .before .before .before .args .d) (c .before .before .before .before .before .before .before .before .before .before .before .before .args .left) (c .before .before .before .before .before .before .before .before .before .before .before .before .args .c .node) (c .before .before .before .before .before .before .before .before .before .before .before .before .args .conjunction) (c .before .before .before .before .before .before .before .before .before .before .before .before .pre .1 .1 .1)) (link-past (c .before .before .before .before .before .before .before .before .before .before .before .before .args .b .now) (c .before .before .before .before .before .before .before .before .before .before .before .before .args .d) (c .before .before .before .before .before .before .before .before .before .before .before .before .args .left) (c .before .before .before .before .before .before .before .before .before .before .before .before .args .c .node) (c .before .before .before .before .before .before .before .before .before .before .before .before .args .conjunction) (c .before .before .before .before .before .before .before .before .before .before .before .before .pre .1 .1 .1)) (c .before .before .before .before .before .before .before .before .before .before .before .before .pre .1 .0) (context-of (c .before .before .before .before .before .before .before .before .before .before .before .before .args .kinds .now) (c .before .before .before .before .before .before .before .before .before .before .before .before .args .l .generated)) (c .before .before .before .before .before .before .before .lower .last .1 .0) (c .before .before .before .a .given .0 .0) (c .before .before .before .a .given .0 .1 .0) (taken _ _ _ _ _ _ (c .before .before .before .a .given .0 .0) (c .before .before .before .a .given .0 .1 .0) (c .before .before .before .before .before .before .before .lower .ensures) (c .before .before .before .a .given .1)) 0 (c .before .before .before .before .before .before .before .before .before .before .before .before .args .left - 1) (ap (λ (x : Bool). cond x (c .before .before .before .before .before .before .before .before .before .before .before .before .args .left - 1) 0) (sym (c .before .if1 .left))) (ap (λ (x : Bool). cond x 0 (c .before .before .before .before .before .before .before .before .before .before .before .before .args .left - 1)) (sym (c .before .if1 .left))), (none-well (c .before .before .before .before .before .before .before .before .before .before .before .before .args .b .now) (c .before .before .before .before .before .before .before .before .before .before .before .before .args .d) 0 ((c .before .before .before .a .given .0 .1 .0) .node) refl, rest-well-past (c .before .before .before .before .before .before .before .before .before .before .before .before .args .b .now) (c .before .before .before .before .before .before .before .before .before .before .before .before .args .d) (c .before .before .before .before .before .before .before .before .before .before .before .before .args .left) (c .before .before .before .before .before .before .before .before .before .before .before .before .args .c .node) ((c .before .before .before .a .given .0 .1 .0) .node) (λ z. omega (arith, c .before .before .before .before .before .before .before .before .before .before .before .before .pre .1 .1 .1)) (c .before .before .before .before .before .before .before .before .before .before .before .before .pre .1 .1 .0) (split-node (c .before .before .before .before .before .before .before .before .before .before .before .before .args .b .now) (c .before .before .before .before .before .before .before .before .before .before .before .before .args .d) (c .before .before .before .before .before .before .before .before .before .before .before .before .args .conjunction) (yes-of (c .before .before .before .before .before .before .before .before .before .before .before .before .args .conjunction) (c .before .before .before .before .before .before .before .before .before .before .before .before .args .left)) (no-of (c .before .before .before .before .before .before .before .before .before .before .before .before .args .conjunction) (c .before .before .before .before .before .before .before .before .before .before .before .before .args .left)) (arm (c .before .before .before .before .before .before .before .before .before .before .before .before .args .b .now) (c .before .before .before .before .before .before .before .before .before .before .before .before .args .d) (c .before .before .before .before .before .before .before .before .before .before .before .before .args .conjunction) (c .before .before .before .before .before .before .before .before .before .before .before .before .args .left) (c .before .before .before .before .before .before .before .before .before .before .before .before .args .c .node)) (past (c .before .before .before .before .before .before .before .before .before .before .before .before .args .b .now) (c .before .before .before .before .before .before .before .before .before .before .before .before .args .d) (c .before .before .before .before .before .before .before .before .before .before .before .before .args .left) (c .before .before .before .before .before .before .before .before .before .before .before .before .args .c .node)) (link-splits (c .before .before .before .before .before .before .before .before .before .before .before .before .args .b .now) (c .before .before .before .before .before .before .before .before .before .before .before .before .args .d) (c .before .before .before .before .before .before .before .before .before .before .before .before .args .left) (c .before .before .before .before .before .before .before .before .before .before .before .before .args .c .node) (c .before .before .before .before .before .before .before .before .before .before .before .before .args .conjunction) (c .before .before .before .before .before .before .before .before .before .before .before .before .pre .1 .1 .1)) (link-past (c .before .before .before .before .before .before .before .before .before .before .before .before .args .b .now) (c .before .before .before .before .before .before .before .before .before .before .before .before .args .d) (c .before .before .before .before .before .before .before .before .before .before .before .before .args .left) (c .before .before .before .before .before .before .before .before .before .before .before .before .args .c .node) (c .before .before .before .before .before .before .before .before .before .before .before .before .args .conjunction) (c .before .before .before .before .before .before .before .before .before .before .before .before .pre .1 .1 .1)) (c .before .before .before .before .before .before .before .before .before .before .before .before .pre .1 .0) (context-of (c .before .before .before .before .before .before .before .before .before .before .before .before .args .kinds .now) (c .before .before .before .before .before .before .before .before .before .before .before .before .args .l .generated)) (c .before .before .before .before .before .before .before .lower .last .1 .0) (c .before .before .before .a .given .0 .0) (c .before .before .before .a .given .0 .1 .0) (taken _ _ _ _ _ _ (c .before .before .before .a .given .0 .0) (c .before .before .before .a .given .0 .1 .0) (c .before .before .before .before .before .before .before .lower .ensures) (c .before .before .before .a .given .1))), omega arith, omega (arith, c .before .before .before .before .before .before .before .before .before .before .before .before .pre .1 .1 .2))))
+link-branch-requires-2 : (t : ℕ) → link-lts.Need-branch-requires-2 (link-calls t) (link-at t) link.Post
+link-branch-requires-2 t c κs =
+    let pre = c .before .before .before .before .before .before .before .before .before .before .before .before .pre in
+    let args = c .before .before .before .before .before .before .before .before .before .before .before .before .args in
+    let lower = c .before .before .before .before .before .before .before .lower in
+    let a = c .before .before .before .a in
+    let left = args .left in
+    let b = args .b .now in
+    let node2 = args .c .node in
+    let a-next = a .given .0 .1 .0 in
+    let conjunction = args .conjunction in
+    let node = a-next .node in
+    let sym2 = sym (c .before .if1 .left) in
+    let no-of2 = no-of conjunction left in
+    let yes-of2 = yes-of conjunction left in
+    let context = context-of (args .kinds .now) (args .l .generated) in
+    let after = past b (args .d) left node2 in
+    let whole = arm b (args .d) conjunction left node2 in
+    let is-taken = taken _ _ _ _ _ _ (a .given .0 .0) a-next (lower .ensures) (a .given .1) in
+    let link-past2 = link-past b (args .d) left node2 conjunction (pre .1 .1 .1) in
+    let link-splits2 = link-splits b (args .d) left node2 conjunction (pre .1 .1 .1) in (
+      omega (arith, pre .0, pre .1 .1 .1),
+      (
+        split-arms b (args .d) conjunction yes-of2 no-of2 whole after link-splits2 link-past2 (pre .1 .0) context (lower .last .1 .0) (a .given .0 .0)
+            a-next is-taken 0 (args .left - 1) (ap (λ (x : Bool). cond x (args .left - 1) 0) sym2) (ap (λ (x : Bool). cond x 0 (args .left - 1)) sym2),
+        (
+          none-well b (args .d) 0 node refl,
+          rest-well-past b (args .d) left node2 node (λ z. omega (arith, pre .1 .1 .1)) (pre .1 .1 .0) (split-node b (args .d) conjunction yes-of2
+              no-of2 whole after link-splits2 link-past2 (pre .1 .0) context (lower .last .1 .0) (a .given .0 .0) a-next is-taken),
+          omega arith,
+          omega (arith, pre .1 .1 .2),
+        ),
+      ),
+    )
 
-link-same-length-3 : (t : ℕ) → link-lts.Need-same-length-3 (
-  lower-below t,
-  lower.Post,
-  branch-below t,
-  branch.Post,
-) (link-at t) link.Post
+link-same-length-3 : (t : ℕ) → link-lts.Need-same-length-3 (link-calls t) (link-at t) link.Post
 link-same-length-3 t c = search needs
 
-link-returns-3 : (t : ℕ) → link-lts.Need-returns-3 (
-  lower-below t,
-  lower.Post,
-  branch-below t,
-  branch.Post,
-) (link-at t) link.Post
-link-returns-3 t c = split-done (c .before .before .before .before .before .before .before .before .before .before .before .before .before .before .before .args .b .now) (c .before .before .before .before .before .before .before .before .before .before .before .before .before .before .before .args .d) (c .before .before .before .before .before .before .before .before .before .before .before .before .before .before .before .args .conjunction) (yes-of (c .before .before .before .before .before .before .before .before .before .before .before .before .before .before .before .args .conjunction) (c .before .before .before .before .before .before .before .before .before .before .before .before .before .before .before .args .left)) (no-of (c .before .before .before .before .before .before .before .before .before .before .before .before .before .before .before .args .conjunction) (c .before .before .before .before .before .before .before .before .before .before .before .before .before .before .before .args .left)) (arm (c .before .before .before .before .before .before .before .before .before .before .before .before .before .before .before .args .b .now) (c .before .before .before .before .before .before .before .before .before .before .before .before .before .before .before .args .d) (c .before .before .before .before .before .before .before .before .before .before .before .before .before .before .before .args .conjunction) (c .before .before .before .before .before .before .before .before .before .before .before .before .before .before .before .args .left) (c .before .before .before .before .before .before .before .before .before .before .before .before .before .before .before .args .c .node)) (past (c .before .before .before .before .before .before .before .before .before .before .before .before .before .before .before .args .b .now) (c .before .before .before .before .before .before .before .before .before .before .before .before .before .before .before .args .d) (c .before .before .before .before .before .before .before .before .before .before .before .before .before .before .before .args .left) (c .before .before .before .before .before .before .before .before .before .before .before .before .before .before .before .args .c .node)) (link-splits (c .before .before .before .before .before .before .before .before .before .before .before .before .before .before .before .args .b .now) (c .before .before .before .before .before .before .before .before .before .before .before .before .before .before .before .args .d) (c .before .before .before .before .before .before .before .before .before .before .before .before .before .before .before .args .left) (c .before .before .before .before .before .before .before .before .before .before .before .before .before .before .before .args .c .node) (c .before .before .before .before .before .before .before .before .before .before .before .before .before .before .before .args .conjunction) (c .before .before .before .before .before .before .before .before .before .before .before .before .before .before .before .pre .1 .1 .1)) (link-past (c .before .before .before .before .before .before .before .before .before .before .before .before .before .before .before .args .b .now) (c .before .before .before .before .before .before .before .before .before .before .before .before .before .before .before .args .d) (c .before .before .before .before .before .before .before .before .before .before .before .before .before .before .before .args .left) (c .before .before .before .before .before .before .before .before .before .before .before .before .before .before .before .args .c .node) (c .before .before .before .before .before .before .before .before .before .before .before .before .before .before .before .args .conjunction) (c .before .before .before .before .before .before .before .before .before .before .before .before .before .before .before .pre .1 .1 .1)) (c .before .before .before .before .before .before .before .before .before .before .before .before .before .before .before .pre .1 .0) (context-of (c .before .before .before .before .before .before .before .before .before .before .before .before .before .before .before .args .kinds .now) (c .before .before .before .before .before .before .before .before .before .before .before .before .before .before .before .args .l .generated)) (c .before .before .before .before .before .before .before .before .before .before .lower .last .1 .0) (c .before .before .before .before .before .before .a .given .0 .0) (c .before .before .before .before .before .before .a .given .0 .1 .0) (taken _ _ _ _ _ _ (c .before .before .before .before .before .before .a .given .0 .0) (c .before .before .before .before .before .before .a .given .0 .1 .0) (c .before .before .before .before .before .before .before .before .before .before .lower .ensures) (c .before .before .before .before .before .before .a .given .1)) 0 (c .before .before .before .before .before .before .before .before .before .before .before .before .before .before .before .args .left - 1) (ap (λ (x : Bool). cond x (c .before .before .before .before .before .before .before .before .before .before .before .before .before .before .before .args .left - 1) 0) (sym (c .before .before .before .before .if1 .left))) (ap (λ (x : Bool). cond x 0 (c .before .before .before .before .before .before .before .before .before .before .before .before .before .before .before .args .left - 1)) (sym (c .before .before .before .before .if1 .left))) (c .before .before .branch2 .last .1 .0) (c .before .before .branch2 .result) (c .before .before .branch2 .ensures)
+link-returns-3 : (t : ℕ) → link-lts.Need-returns-3 (link-calls t) (link-at t) link.Post
+link-returns-3 t c =
+    let args = c .before .before .before .before .before .before .before .before .before .before .before .before .before .before .before .args in
+    let pre = c .before .before .before .before .before .before .before .before .before .before .before .before .before .before .before .pre in
+    let lower = c .before .before .before .before .before .before .before .before .before .before .lower in
+    let a = c .before .before .before .before .before .before .a in
+    let if1 = c .before .before .before .before .if1 in
+    let branch2 = c .before .before .branch2 in
+    let left = args .left in
+    let b = args .b .now in
+    let node = args .c .node in
+    let conjunction = args .conjunction in
+    split-done b (args .d) conjunction (yes-of conjunction left) (no-of conjunction left) (arm b (args .d) conjunction left node)
+    (past b (args .d) left node) (link-splits b (args .d) left node conjunction (pre .1 .1 .1))
+    (link-past b (args .d) left node conjunction (pre .1 .1 .1)) (pre .1 .0) (context-of (args .kinds .now) (args .l .generated)) (lower .last .1 .0)
+    (a .given .0 .0) (a .given .0 .1 .0) (taken _ _ _ _ _ _ (a .given .0 .0) (a .given .0 .1 .0) (lower .ensures) (a .given .1)) 0 (args .left - 1)
+    (ap (λ (x : Bool). cond x (args .left - 1) 0) (sym (if1 .left))) (ap (λ (x : Bool). cond x 0 (args .left - 1)) (sym (if1 .left)))
+    (branch2 .last .1 .0) (branch2 .result) (branch2 .ensures)
 
-lower-enter-requires : (t : ℕ) → lower-lts.Need-enter-requires (
-  enter-reads.Asked,
-  enter-reads.Learnt,
-  constant-reads.Asked,
-  constant-reads.Learnt,
-  node-below t,
-  node.Post,
-  link-below t,
-  link.Post,
-) (lower-at t) lower.Post
-lower-enter-requires t c κs = enter-room (c .before .before .before .before .pre .1 .0) (path-one (arm (c .before .before .before .before .args .b .now) (c .before .before .before .before .args .d) (c .before .before .before .before .args .conjunction) (c .before .before .before .before .args .left) (c .before .before .before .before .args .c .node))) (c .before .before .before .before .args .step) (c .before .before .before .before .pre .1 .1 .1)
+lower-enter-requires : (t : ℕ) → lower-lts.Need-enter-requires (lower-calls t) (lower-at t) lower.Post
+lower-enter-requires t c κs =
+    let pre = c .before .before .before .before .pre in
+    let args = c .before .before .before .before .args in
+    enter-room (pre .1 .0) (path-one (arm (args .b .now) (args .d) (args .conjunction) (args .left) (args .c .node))) (args .step) (pre .1 .1 .1)
 
-lower-add-t16 : (t : ℕ) → lower-lts.Need-add-t16 (
-  enter-reads.Asked,
-  enter-reads.Learnt,
-  constant-reads.Asked,
-  constant-reads.Learnt,
-  node-below t,
-  node.Post,
-  link-below t,
-  link.Post,
-) (lower-at t) lower.Post
+lower-add-t16 : (t : ℕ) → lower-lts.Need-add-t16 (lower-calls t) (lower-at t) lower.Post
 lower-add-t16 t c = search needs
 
-lower-constant-requires : (t : ℕ) → lower-lts.Need-constant-requires (
-  enter-reads.Asked,
-  enter-reads.Learnt,
-  constant-reads.Asked,
-  constant-reads.Learnt,
-  node-below t,
-  node.Post,
-  link-below t,
-  link.Post,
-) (lower-at t) lower.Post
-lower-constant-requires t c κs = (omega (arith, (c .before .before .before .before .before .before .before .before .before .before .pre .1 .0) .code, (c .before .before .before .before .before .before .before .before .before .before .pre .1 .0) .records, (c .before .before .before .before .before .before .before .before .before .before .pre .1 .0) .lists, c .before .before .before .before .before .enter .kept .0, instruction-count-pos (arm (c .before .before .before .before .before .before .before .before .before .before .args .b .now) (c .before .before .before .before .before .before .before .before .before .before .args .d) (c .before .before .before .before .before .before .before .before .before .before .args .conjunction) (c .before .before .before .before .before .before .before .before .before .before .args .left) (c .before .before .before .before .before .before .before .before .before .before .args .c .node))), (c .before .before .before .before .before .before .before .before .before .before .pre .1 .0) .registers)
+lower-constant-requires : (t : ℕ) → lower-lts.Need-constant-requires (lower-calls t) (lower-at t) lower.Post
+lower-constant-requires t c κs =
+    let pre = c .before .before .before .before .before .before .before .before .before .before .pre in
+    let args = c .before .before .before .before .before .before .before .before .before .before .args in (
+      omega (
+        arith,
+        (pre .1 .0) .code,
+        (pre .1 .0) .records,
+        (pre .1 .0) .lists,
+        c .before .before .before .before .before .enter .kept .0,
+        instruction-count-pos (arm (args .b .now) (args .d) (args .conjunction) (args .left) (args .c .node)),
+      ),
+      (pre .1 .0) .registers,
+    )
 
-lower-same-length : (t : ℕ) → lower-lts.Need-same-length (
-  enter-reads.Asked,
-  enter-reads.Learnt,
-  constant-reads.Asked,
-  constant-reads.Learnt,
-  node-below t,
-  node.Post,
-  link-below t,
-  link.Post,
-) (lower-at t) lower.Post
+lower-same-length : (t : ℕ) → lower-lts.Need-same-length (lower-calls t) (lower-at t) lower.Post
 lower-same-length t c = search needs
 
-lower-returns : (t : ℕ) → lower-lts.Need-returns (
-  enter-reads.Asked,
-  enter-reads.Learnt,
-  constant-reads.Asked,
-  constant-reads.Learnt,
-  node-below t,
-  node.Post,
-  link-below t,
-  link.Post,
-) (lower-at t) lower.Post
-lower-returns t c = none-done (c .before .before .before .before .before .before .before .before .before .before .before .before .before .args .b .now) (c .before .before .before .before .before .before .before .before .before .before .before .before .before .args .d) (c .before .before .before .before .before .before .before .before .before .before .before .before .before .args .conjunction) (c .before .before .before .before .before .before .before .before .before .before .before .before .before .args .left) (c .before .before .before .before .before .before .before .before .before .before .before .before .before .pre .1 .0) (c .before .before .before .before .before .before .before .before .before .before .before .before .before .args .step) (c .before .before .before .before .before .before .before .before .before .before .before .before .before .pre .1 .1 .1) (c .before .before .before .before .before .before .before .before .enter .result) (c .before .before .before .before .before .before .before .before .enter .last .0) (c .before .before .before .before .before .before .before .before .enter .ensures .0) (c .before .before .before .before .before .before .before .before .enter .ensures .1) (context-of (c .before .before .before .before .before .before .before .before .before .before .before .before .before .args .kinds .now) (c .before .before .before .before .before .before .before .before .before .before .before .before .before .args .l .generated)) (c .before .before .before .before .before .if1 .taken) (c .before .before .constant .last .0) (c .before .before .constant .result) (c .before .before .constant .ensures .0) (rw (c .before .before .before .before .if2 .taken) (c .before .before .constant .ensures .1))
+lower-returns : (t : ℕ) → lower-lts.Need-returns (lower-calls t) (lower-at t) lower.Post
+lower-returns t c =
+    let args = c .before .before .before .before .before .before .before .before .before .before .before .before .before .args in
+    let pre = c .before .before .before .before .before .before .before .before .before .before .before .before .before .pre in
+    let enter = c .before .before .before .before .before .before .before .before .enter in
+    let constant = c .before .before .constant in
+    none-done (args .b .now) (args .d) (args .conjunction) (args .left) (pre .1 .0) (args .step) (pre .1 .1 .1) (enter .result) (enter .last .0)
+    (enter .ensures .0) (enter .ensures .1) (context-of (args .kinds .now) (args .l .generated))
+    (c .before .before .before .before .before .if1 .taken) (constant .last .0) (constant .result) (constant .ensures .0)
+    (rw (c .before .before .before .before .if2 .taken) (constant .ensures .1))
 
-lower-constant-requires-2 : (t : ℕ) → lower-lts.Need-constant-requires-2 (
-  enter-reads.Asked,
-  enter-reads.Learnt,
-  constant-reads.Asked,
-  constant-reads.Learnt,
-  node-below t,
-  node.Post,
-  link-below t,
-  link.Post,
-) (lower-at t) lower.Post
-lower-constant-requires-2 t c κs = (omega (arith, (c .before .before .before .before .before .before .before .before .before .before .pre .1 .0) .code, (c .before .before .before .before .before .before .before .before .before .before .pre .1 .0) .records, (c .before .before .before .before .before .before .before .before .before .before .pre .1 .0) .lists, c .before .before .before .before .before .enter .kept .0, instruction-count-pos (arm (c .before .before .before .before .before .before .before .before .before .before .args .b .now) (c .before .before .before .before .before .before .before .before .before .before .args .d) (c .before .before .before .before .before .before .before .before .before .before .args .conjunction) (c .before .before .before .before .before .before .before .before .before .before .args .left) (c .before .before .before .before .before .before .before .before .before .before .args .c .node))), (c .before .before .before .before .before .before .before .before .before .before .pre .1 .0) .registers)
+lower-constant-requires-2 : (t : ℕ) → lower-lts.Need-constant-requires-2 (lower-calls t) (lower-at t) lower.Post
+lower-constant-requires-2 t c κs =
+    let pre = c .before .before .before .before .before .before .before .before .before .before .pre in
+    let args = c .before .before .before .before .before .before .before .before .before .before .args in (
+      omega (
+        arith,
+        (pre .1 .0) .code,
+        (pre .1 .0) .records,
+        (pre .1 .0) .lists,
+        c .before .before .before .before .before .enter .kept .0,
+        instruction-count-pos (arm (args .b .now) (args .d) (args .conjunction) (args .left) (args .c .node)),
+      ),
+      (pre .1 .0) .registers,
+    )
 
-lower-same-length-2 : (t : ℕ) → lower-lts.Need-same-length-2 (
-  enter-reads.Asked,
-  enter-reads.Learnt,
-  constant-reads.Asked,
-  constant-reads.Learnt,
-  node-below t,
-  node.Post,
-  link-below t,
-  link.Post,
-) (lower-at t) lower.Post
+lower-same-length-2 : (t : ℕ) → lower-lts.Need-same-length-2 (lower-calls t) (lower-at t) lower.Post
 lower-same-length-2 t c = search needs
 
-lower-returns-2 : (t : ℕ) → lower-lts.Need-returns-2 (
-  enter-reads.Asked,
-  enter-reads.Learnt,
-  constant-reads.Asked,
-  constant-reads.Learnt,
-  node-below t,
-  node.Post,
-  link-below t,
-  link.Post,
-) (lower-at t) lower.Post
-lower-returns-2 t c = none-done (c .before .before .before .before .before .before .before .before .before .before .before .before .before .args .b .now) (c .before .before .before .before .before .before .before .before .before .before .before .before .before .args .d) (c .before .before .before .before .before .before .before .before .before .before .before .before .before .args .conjunction) (c .before .before .before .before .before .before .before .before .before .before .before .before .before .args .left) (c .before .before .before .before .before .before .before .before .before .before .before .before .before .pre .1 .0) (c .before .before .before .before .before .before .before .before .before .before .before .before .before .args .step) (c .before .before .before .before .before .before .before .before .before .before .before .before .before .pre .1 .1 .1) (c .before .before .before .before .before .before .before .before .enter .result) (c .before .before .before .before .before .before .before .before .enter .last .0) (c .before .before .before .before .before .before .before .before .enter .ensures .0) (c .before .before .before .before .before .before .before .before .enter .ensures .1) (context-of (c .before .before .before .before .before .before .before .before .before .before .before .before .before .args .kinds .now) (c .before .before .before .before .before .before .before .before .before .before .before .before .before .args .l .generated)) (c .before .before .before .before .before .if1 .taken) (c .before .before .constant2 .last .0) (c .before .before .constant2 .result) (c .before .before .constant2 .ensures .0) (rw (c .before .before .before .before .if2 .left) (c .before .before .constant2 .ensures .1))
+lower-returns-2 : (t : ℕ) → lower-lts.Need-returns-2 (lower-calls t) (lower-at t) lower.Post
+lower-returns-2 t c =
+    let args = c .before .before .before .before .before .before .before .before .before .before .before .before .before .args in
+    let pre = c .before .before .before .before .before .before .before .before .before .before .before .before .before .pre in
+    let enter = c .before .before .before .before .before .before .before .before .enter in
+    let constant2 = c .before .before .constant2 in
+    none-done (args .b .now) (args .d) (args .conjunction) (args .left) (pre .1 .0) (args .step) (pre .1 .1 .1) (enter .result) (enter .last .0)
+    (enter .ensures .0) (enter .ensures .1) (context-of (args .kinds .now) (args .l .generated))
+    (c .before .before .before .before .before .if1 .taken) (constant2 .last .0) (constant2 .result) (constant2 .ensures .0)
+    (rw (c .before .before .before .before .if2 .left) (constant2 .ensures .1))
 
-lower-node-requires : (t : ℕ) → lower-lts.Need-node-requires (
-  enter-reads.Asked,
-  enter-reads.Learnt,
-  constant-reads.Asked,
-  constant-reads.Learnt,
-  node-below t,
-  node.Post,
-  link-below t,
-  link.Post,
-) (lower-at t) lower.Post
-lower-node-requires t c κs = (omega (arith, c .before .before .before .before .before .before .before .before .before .before .pre .0), (ready-one (c .before .before .before .before .before .before .before .before .before .before .args .b .now) (c .before .before .before .before .before .before .before .before .before .before .args .d) (c .before .before .before .before .before .before .before .before .before .before .args .conjunction) (c .before .before .before .before .before .before .before .before .before .before .args .left) (c .before .before .before .before .before .before .before .before .before .before .pre .1 .0) (c .before .before .before .before .before .before .before .before .before .before .args .step) (c .before .before .before .before .before .before .before .before .before .before .pre .1 .1 .1) (c .before .before .before .before .before .enter .result) (c .before .before .before .before .before .enter .last .0) (c .before .before .before .before .before .enter .ensures .0) (c .before .before .before .before .before .enter .ensures .1) (c .before .if3 .taken), first-well (c .before .before .before .before .before .before .before .before .before .before .args .b .now) (c .before .before .before .before .before .before .before .before .before .before .args .d) (c .before .before .before .before .before .before .before .before .before .before .args .left) (c .before .before .before .before .before .before .before .before .before .before .args .c .node) (λ z. omega (arith, c .before .if3 .taken)) (c .before .before .before .before .before .before .before .before .before .before .pre .1 .1 .0)))
+lower-node-requires : (t : ℕ) → lower-lts.Need-node-requires (lower-calls t) (lower-at t) lower.Post
+lower-node-requires t c κs =
+    let pre = c .before .before .before .before .before .before .before .before .before .before .pre in
+    let args = c .before .before .before .before .before .before .before .before .before .before .args in
+    let enter = c .before .before .before .before .before .enter in (
+      omega (arith, pre .0),
+      (
+        ready-one (args .b .now) (args .d) (args .conjunction) (args .left) (pre .1 .0) (args .step) (pre .1 .1 .1) (enter .result) (enter .last .0)
+            (enter .ensures .0) (enter .ensures .1) (c .before .if3 .taken),
+        first-well (args .b .now) (args .d) (args .left) (args .c .node) (λ z. omega (arith, c .before .if3 .taken)) (pre .1 .1 .0),
+      ),
+    )
 
-lower-same-length-3 : (t : ℕ) → lower-lts.Need-same-length-3 (
-  enter-reads.Asked,
-  enter-reads.Learnt,
-  constant-reads.Asked,
-  constant-reads.Learnt,
-  node-below t,
-  node.Post,
-  link-below t,
-  link.Post,
-) (lower-at t) lower.Post
+lower-same-length-3 : (t : ℕ) → lower-lts.Need-same-length-3 (lower-calls t) (lower-at t) lower.Post
 lower-same-length-3 t c = search needs
 
-lower-returns-3 : (t : ℕ) → lower-lts.Need-returns-3 (
-  enter-reads.Asked,
-  enter-reads.Learnt,
-  constant-reads.Asked,
-  constant-reads.Learnt,
-  node-below t,
-  node.Post,
-  link-below t,
-  link.Post,
-) (lower-at t) lower.Post
-lower-returns-3 t c = one-done (c .before .before .before .before .before .before .before .before .before .before .before .before .before .args .b .now) (c .before .before .before .before .before .before .before .before .before .before .before .before .before .args .d) (c .before .before .before .before .before .before .before .before .before .before .before .before .before .args .conjunction) (c .before .before .before .before .before .before .before .before .before .before .before .before .before .args .left) (c .before .before .before .before .before .before .before .before .before .before .before .before .before .pre .1 .0) (c .before .before .before .before .before .before .before .before .before .before .before .before .before .args .step) (c .before .before .before .before .before .before .before .before .before .before .before .before .before .pre .1 .1 .1) (c .before .before .before .before .before .before .before .before .enter .result) (c .before .before .before .before .before .before .before .before .enter .last .0) (c .before .before .before .before .before .before .before .before .enter .ensures .0) (c .before .before .before .before .before .before .before .before .enter .ensures .1) (context-of (c .before .before .before .before .before .before .before .before .before .before .before .before .before .args .kinds .now) (c .before .before .before .before .before .before .before .before .before .before .before .before .before .args .l .generated)) (c .before .before .before .before .if3 .taken) (c .before .before .node .last .1 .0) (c .before .before .node .result) (c .before .before .node .ensures)
+lower-returns-3 : (t : ℕ) → lower-lts.Need-returns-3 (lower-calls t) (lower-at t) lower.Post
+lower-returns-3 t c =
+    let args = c .before .before .before .before .before .before .before .before .before .before .before .before .before .args in
+    let pre = c .before .before .before .before .before .before .before .before .before .before .before .before .before .pre in
+    let enter = c .before .before .before .before .before .before .before .before .enter in
+    let node = c .before .before .node in
+    one-done (args .b .now) (args .d) (args .conjunction) (args .left) (pre .1 .0) (args .step) (pre .1 .1 .1) (enter .result) (enter .last .0)
+    (enter .ensures .0) (enter .ensures .1) (context-of (args .kinds .now) (args .l .generated)) (c .before .before .before .before .if3 .taken)
+    (node .last .1 .0) (node .result) (node .ensures)
 
-lower-link-requires : (t : ℕ) → lower-lts.Need-link-requires (
-  enter-reads.Asked,
-  enter-reads.Learnt,
-  constant-reads.Asked,
-  constant-reads.Learnt,
-  node-below t,
-  node.Post,
-  link-below t,
-  link.Post,
-) (lower-at t) lower.Post
-lower-link-requires t c κs = (omega (arith, c .before .before .before .before .before .before .before .before .before .before .pre .0), (ready-own (c .before .before .before .before .before .before .before .before .before .before .args .b .now) (c .before .before .before .before .before .before .before .before .before .before .args .d) (c .before .before .before .before .before .before .before .before .before .before .args .conjunction) (c .before .before .before .before .before .before .before .before .before .before .args .left) (c .before .before .before .before .before .before .before .before .before .before .pre .1 .0) (c .before .before .before .before .before .before .before .before .before .before .args .step) (c .before .before .before .before .before .before .before .before .before .before .pre .1 .1 .1) (c .before .before .before .before .before .enter .result) (c .before .before .before .before .before .enter .last .0) (c .before .before .before .before .before .enter .ensures .0) (c .before .before .before .before .before .enter .ensures .1), (c .before .before .before .before .before .before .before .before .before .before .pre .1 .1 .0, omega (arith, c .before .before .if1 .left, c .before .if3 .left), c .before .before .before .before .before .before .before .before .before .before .pre .1 .1 .2)))
+lower-link-requires : (t : ℕ) → lower-lts.Need-link-requires (lower-calls t) (lower-at t) lower.Post
+lower-link-requires t c κs =
+    let pre = c .before .before .before .before .before .before .before .before .before .before .pre in
+    let args = c .before .before .before .before .before .before .before .before .before .before .args in
+    let enter = c .before .before .before .before .before .enter in (
+      omega (arith, pre .0),
+      (
+        ready-own (args .b .now) (args .d) (args .conjunction) (args .left) (pre .1 .0) (args .step) (pre .1 .1 .1) (enter .result) (enter .last .0)
+            (enter .ensures .0) (enter .ensures .1),
+        (pre .1 .1 .0, omega (arith, c .before .before .if1 .left, c .before .if3 .left), pre .1 .1 .2),
+      ),
+    )
 
-lower-same-length-4 : (t : ℕ) → lower-lts.Need-same-length-4 (
-  enter-reads.Asked,
-  enter-reads.Learnt,
-  constant-reads.Asked,
-  constant-reads.Learnt,
-  node-below t,
-  node.Post,
-  link-below t,
-  link.Post,
-) (lower-at t) lower.Post
+lower-same-length-4 : (t : ℕ) → lower-lts.Need-same-length-4 (lower-calls t) (lower-at t) lower.Post
 lower-same-length-4 t c = search needs
 
-lower-returns-4 : (t : ℕ) → lower-lts.Need-returns-4 (
-  enter-reads.Asked,
-  enter-reads.Learnt,
-  constant-reads.Asked,
-  constant-reads.Learnt,
-  node-below t,
-  node.Post,
-  link-below t,
-  link.Post,
-) (lower-at t) lower.Post
-lower-returns-4 t c = own-done (c .before .before .before .before .before .before .before .before .before .before .before .before .before .args .b .now) (c .before .before .before .before .before .before .before .before .before .before .before .before .before .args .d) (c .before .before .before .before .before .before .before .before .before .before .before .before .before .args .conjunction) (c .before .before .before .before .before .before .before .before .before .before .before .before .before .args .left) (c .before .before .before .before .before .before .before .before .before .before .before .before .before .pre .1 .0) (c .before .before .before .before .before .before .before .before .before .before .before .before .before .args .step) (c .before .before .before .before .before .before .before .before .before .before .before .before .before .pre .1 .1 .1) (c .before .before .before .before .before .before .before .before .enter .result) (c .before .before .before .before .before .before .before .before .enter .last .0) (c .before .before .before .before .before .before .before .before .enter .ensures .0) (c .before .before .before .before .before .before .before .before .enter .ensures .1) (context-of (c .before .before .before .before .before .before .before .before .before .before .before .before .before .args .kinds .now) (c .before .before .before .before .before .before .before .before .before .before .before .before .before .args .l .generated)) (c .before .before .link .last .1 .0) (c .before .before .link .result) (c .before .before .link .ensures)
+lower-returns-4 : (t : ℕ) → lower-lts.Need-returns-4 (lower-calls t) (lower-at t) lower.Post
+lower-returns-4 t c =
+    let args = c .before .before .before .before .before .before .before .before .before .before .before .before .before .args in
+    let pre = c .before .before .before .before .before .before .before .before .before .before .before .before .before .pre in
+    let enter = c .before .before .before .before .before .before .before .before .enter in
+    let link = c .before .before .link in
+    own-done (args .b .now) (args .d) (args .conjunction) (args .left) (pre .1 .0) (args .step) (pre .1 .1 .1) (enter .result) (enter .last .0)
+    (enter .ensures .0) (enter .ensures .1) (context-of (args .kinds .now) (args .l .generated)) (link .last .1 .0) (link .result) (link .ensures)
 
-node-node-requires : (t : ℕ) → node-lts.Need-node-requires (
-  node-reads.Asked,
-  node-reads.Learnt,
-  lower-leaf-reads.Asked,
-  lower-leaf-reads.Learnt,
-  link-below t,
-  link.Post,
-  chooses-reads.Asked,
-  chooses-reads.Learnt,
-  lower-below t,
-  lower.Post,
-  branch-below t,
-  branch.Post,
-  takes-reads.Asked,
-  takes-reads.Learnt,
-  listing-reads.Asked,
-  listing-reads.Learnt,
-  operands-below t,
-  operands.Post,
-  finish-reads.Asked,
-  finish-reads.Learnt,
-) (node-at t) node.Post
+node-node-requires : (t : ℕ) → node-lts.Need-node-requires (node-calls t) (node-at t) node.Post
 node-node-requires t c κs = search needs
 
-node-add-operands : (t : ℕ) → node-lts.Need-add-operands (
-  node-reads.Asked,
-  node-reads.Learnt,
-  lower-leaf-reads.Asked,
-  lower-leaf-reads.Learnt,
-  link-below t,
-  link.Post,
-  chooses-reads.Asked,
-  chooses-reads.Learnt,
-  lower-below t,
-  lower.Post,
-  branch-below t,
-  branch.Post,
-  takes-reads.Asked,
-  takes-reads.Learnt,
-  listing-reads.Asked,
-  listing-reads.Learnt,
-  operands-below t,
-  operands.Post,
-  finish-reads.Asked,
-  finish-reads.Learnt,
-) (node-at t) node.Post
-node-add-operands t c = omega (arith, wholes.node-inside (c .before .before .before .before .args .b .now) (c .before .before .before .before .args .d) (c .before .before .before .before .args .c .node) (c .node .result) (c .node .ensures .0) (c .before .before .before .before .pre .1 .1), c .before .before .before .before .good .0 .0)
+node-add-operands : (t : ℕ) → node-lts.Need-add-operands (node-calls t) (node-at t) node.Post
+node-add-operands t c =
+    let args = c .before .before .before .before .args in
+    omega (
+      arith,
+      wholes.node-inside (args .b .now) (args .d) (args .c .node) (c .node .result) (c .node .ensures .0)
+          (c .before .before .before .before .pre .1 .1),
+      c .before .before .before .before .good .0 .0,
+    )
 
-node-lower-leaf-requires : (t : ℕ) → node-lts.Need-lower-leaf-requires (
-  node-reads.Asked,
-  node-reads.Learnt,
-  lower-leaf-reads.Asked,
-  lower-leaf-reads.Learnt,
-  link-below t,
-  link.Post,
-  chooses-reads.Asked,
-  chooses-reads.Learnt,
-  lower-below t,
-  lower.Post,
-  branch-below t,
-  branch.Post,
-  takes-reads.Asked,
-  takes-reads.Learnt,
-  listing-reads.Asked,
-  listing-reads.Learnt,
-  operands-below t,
-  operands.Post,
-  finish-reads.Asked,
-  finish-reads.Learnt,
-) (node-at t) node.Post
-node-lower-leaf-requires t c κs = ready-moved (leaf-ready (c .before .before .before .node .result) (ready-term (term (tree-in (c .before .before .before .before .before .before .before .args .d) (c .before .before .before .before .before .before .before .args .b .now) (c .before .before .before .before .before .before .before .args .c .node))) (leaf (c .before .before .before .node .result)) (wholes.leaf-term-is (c .before .before .before .before .before .before .before .args .b .now) (c .before .before .before .before .before .before .before .args .d) (c .before .before .before .before .before .before .before .args .c .node) (c .before .before .before .node .result) (c .before .before .before .node .ensures .0) (c .before .before .before .before .before .before .before .pre .1 .1) (c .before .if1 .taken)) (c .before .before .before .before .before .before .before .pre .1 .0) (c .before .before .before .before .before .before .before .args .c .node))) ((c .before .before .before .before .before .before .before .args .c .node) + 16)
+node-lower-leaf-requires : (t : ℕ) → node-lts.Need-lower-leaf-requires (node-calls t) (node-at t) node.Post
+node-lower-leaf-requires t c κs =
+    let args = c .before .before .before .before .before .before .before .args in
+    let pre = c .before .before .before .before .before .before .before .pre in
+    let node = c .before .before .before .node in
+    let node2 = args .c .node in
+    ready-moved (leaf-ready (node .result) (ready-term (term (tree-in (args .d) (args .b .now) node2)) (leaf (node .result))
+    (wholes.leaf-term-is (args .b .now) (args .d) node2 (node .result) (node .ensures .0) (pre .1 .1) (c .before .if1 .taken)) (pre .1 .0) node2))
+    (node2 + 16)
 
-node-same-length : (t : ℕ) → node-lts.Need-same-length (
-  node-reads.Asked,
-  node-reads.Learnt,
-  lower-leaf-reads.Asked,
-  lower-leaf-reads.Learnt,
-  link-below t,
-  link.Post,
-  chooses-reads.Asked,
-  chooses-reads.Learnt,
-  lower-below t,
-  lower.Post,
-  branch-below t,
-  branch.Post,
-  takes-reads.Asked,
-  takes-reads.Learnt,
-  listing-reads.Asked,
-  listing-reads.Learnt,
-  operands-below t,
-  operands.Post,
-  finish-reads.Asked,
-  finish-reads.Learnt,
-) (node-at t) node.Post
+node-same-length : (t : ℕ) → node-lts.Need-same-length (node-calls t) (node-at t) node.Post
 node-same-length t c = search needs
 
-node-returns : (t : ℕ) → node-lts.Need-returns (
-  node-reads.Asked,
-  node-reads.Learnt,
-  lower-leaf-reads.Asked,
-  lower-leaf-reads.Learnt,
-  link-below t,
-  link.Post,
-  chooses-reads.Asked,
-  chooses-reads.Learnt,
-  lower-below t,
-  lower.Post,
-  branch-below t,
-  branch.Post,
-  takes-reads.Asked,
-  takes-reads.Learnt,
-  listing-reads.Asked,
-  listing-reads.Learnt,
-  operands-below t,
-  operands.Post,
-  finish-reads.Asked,
-  finish-reads.Learnt,
-) (node-at t) node.Post
-node-returns t c = as-node _ _ (term (tree-in (c .before .before .before .before .before .before .before .before .before .before .args .d) (c .before .before .before .before .before .before .before .before .before .before .args .b .now) (c .before .before .before .before .before .before .before .before .before .before .args .c .node))) (leaf (c .before .before .before .before .before .before .node .result)) _ _ ((c .before .before .before .before .before .before .before .before .before .before .args .c .node) + 16) _ ((c .before .before .before .before .before .before .before .before .before .before .args .c .node) + 16) (c .before .before .before .before .before .before .before .before .before .before .args .c) _ _ _ (wholes.leaf-term-is (c .before .before .before .before .before .before .before .before .before .before .args .b .now) (c .before .before .before .before .before .before .before .before .before .before .args .d) (c .before .before .before .before .before .before .before .before .before .before .args .c .node) (c .before .before .before .before .before .before .node .result) (c .before .before .before .before .before .before .node .ensures .0) (c .before .before .before .before .before .before .before .before .before .before .pre .1 .1) (c .before .before .before .before .if1 .taken)) (wholes.leaf-size (c .before .before .before .before .before .before .before .before .before .before .args .b .now) (c .before .before .before .before .before .before .before .before .before .before .args .d) (c .before .before .before .before .before .before .before .before .before .before .args .c .node) (c .before .before .before .before .before .before .node .result) (c .before .before .before .before .before .before .node .ensures .0) (c .before .before .before .before .before .before .before .before .before .before .pre .1 .1) (c .before .before .before .before .if1 .taken)) (c .before .before .lower-leaf .ensures)
+node-returns : (t : ℕ) → node-lts.Need-returns (node-calls t) (node-at t) node.Post
+node-returns t c =
+    let args = c .before .before .before .before .before .before .before .before .before .before .args in
+    let pre = c .before .before .before .before .before .before .before .before .before .before .pre in
+    let node = c .before .before .before .before .before .before .node in
+    let if1 = c .before .before .before .before .if1 in
+    let node2 = args .c .node in
+    as-node _ _ (term (tree-in (args .d) (args .b .now) node2)) (leaf (node .result)) _ _ (node2 + 16) _ (node2 + 16) (args .c) _ _ _
+    (wholes.leaf-term-is (args .b .now) (args .d) node2 (node .result) (node .ensures .0) (pre .1 .1) (if1 .taken))
+    (wholes.leaf-size (args .b .now) (args .d) node2 (node .result) (node .ensures .0) (pre .1 .1) (if1 .taken))
+    (c .before .before .lower-leaf .ensures)
 
-node-returns-2 : (t : ℕ) → node-lts.Need-returns-2 (
-  node-reads.Asked,
-  node-reads.Learnt,
-  lower-leaf-reads.Asked,
-  lower-leaf-reads.Learnt,
-  link-below t,
-  link.Post,
-  chooses-reads.Asked,
-  chooses-reads.Learnt,
-  lower-below t,
-  lower.Post,
-  branch-below t,
-  branch.Post,
-  takes-reads.Asked,
-  takes-reads.Learnt,
-  listing-reads.Asked,
-  listing-reads.Learnt,
-  operands-below t,
-  operands.Post,
-  finish-reads.Asked,
-  finish-reads.Learnt,
-) (node-at t) node.Post
-node-returns-2 t c = miscounted-here (c .before .before .before .before .before .before .before .before .before .before .pre .1 .0) _ (term (tree-in (c .before .before .before .before .before .before .before .before .before .before .args .d) (c .before .before .before .before .before .before .before .before .before .before .args .b .now) (c .before .before .before .before .before .before .before .before .before .before .args .c .node))) _ (wholes.few-is (c .before .before .before .before .before .before .before .before .before .before .args .b .now) (c .before .before .before .before .before .before .before .before .before .before .args .d) (c .before .before .before .before .before .before .before .before .before .before .args .c .node) (c .before .before .before .before .before .before .node .result) (c .before .before .before .before .before .before .node .ensures .0) (c .before .before .before .before .before .before .before .before .before .before .pre .1 .1) (c .before .before .if2 .taken) (c .if3 .taken))
+node-returns-2 : (t : ℕ) → node-lts.Need-returns-2 (node-calls t) (node-at t) node.Post
+node-returns-2 t c =
+    let pre = c .before .before .before .before .before .before .before .before .before .before .pre in
+    let args = c .before .before .before .before .before .before .before .before .before .before .args in
+    let node = c .before .before .before .before .before .before .node in
+    miscounted-here (pre .1 .0) _ (term (tree-in (args .d) (args .b .now) (args .c .node))) _ (wholes.few-is (args .b .now) (args .d) (args .c .node)
+    (node .result) (node .ensures .0) (pre .1 .1) (c .before .before .if2 .taken) (c .if3 .taken))
 
-node-sub-link : (t : ℕ) → node-lts.Need-sub-link (
-  node-reads.Asked,
-  node-reads.Learnt,
-  lower-leaf-reads.Asked,
-  lower-leaf-reads.Learnt,
-  link-below t,
-  link.Post,
-  chooses-reads.Asked,
-  chooses-reads.Learnt,
-  lower-below t,
-  lower.Post,
-  branch-below t,
-  branch.Post,
-  takes-reads.Asked,
-  takes-reads.Learnt,
-  listing-reads.Asked,
-  listing-reads.Learnt,
-  operands-below t,
-  operands.Post,
-  finish-reads.Asked,
-  finish-reads.Learnt,
-) (node-at t) node.Post
-node-sub-link t c = omega (arith, wholes.node-deep (c .before .before .before .before .before .before .before .before .before .before .before .before .args .b .now) (c .before .before .before .before .before .before .before .before .before .before .before .before .args .d) (c .before .before .before .before .before .before .before .before .before .before .before .before .args .c .node) (c .before .before .before .before .before .before .before .before .node .result) (c .before .before .before .before .before .before .before .before .node .ensures .0) (c .before .before .before .before .before .before .before .before .before .before .before .before .pre .1 .1))
+node-sub-link : (t : ℕ) → node-lts.Need-sub-link (node-calls t) (node-at t) node.Post
+node-sub-link t c =
+    let args = c .before .before .before .before .before .before .before .before .before .before .before .before .args in
+    let pre = c .before .before .before .before .before .before .before .before .before .before .before .before .pre in
+    let node = c .before .before .before .before .before .before .before .before .node in
+    omega (arith, wholes.node-deep (args .b .now) (args .d) (args .c .node) (node .result) (node .ensures .0) (pre .1 .1))
 
-node-link-requires : (t : ℕ) → node-lts.Need-link-requires (
-  node-reads.Asked,
-  node-reads.Learnt,
-  lower-leaf-reads.Asked,
-  lower-leaf-reads.Learnt,
-  link-below t,
-  link.Post,
-  chooses-reads.Asked,
-  chooses-reads.Learnt,
-  lower-below t,
-  lower.Post,
-  branch-below t,
-  branch.Post,
-  takes-reads.Asked,
-  takes-reads.Learnt,
-  listing-reads.Asked,
-  listing-reads.Learnt,
-  operands-below t,
-  operands.Post,
-  finish-reads.Asked,
-  finish-reads.Learnt,
-) (node-at t) node.Post
-node-link-requires t c κs = (omega (arith, c .before .before .before .before .before .before .before .before .before .before .before .before .pre .0, c .before .before .before .before .before .before .before .before .node .ensures .1, wholes.node-deep (c .before .before .before .before .before .before .before .before .before .before .before .before .args .b .now) (c .before .before .before .before .before .before .before .before .before .before .before .before .args .d) (c .before .before .before .before .before .before .before .before .before .before .before .before .args .c .node) (c .before .before .before .before .before .before .before .before .node .result) (c .before .before .before .before .before .before .before .before .node .ensures .0) (c .before .before .before .before .before .before .before .before .before .before .before .before .pre .1 .1)), (ready-term (term (tree-in (c .before .before .before .before .before .before .before .before .before .before .before .before .args .d) (c .before .before .before .before .before .before .before .before .before .before .before .before .args .b .now) (c .before .before .before .before .before .before .before .before .before .before .before .before .args .c .node))) (arm (c .before .before .before .before .before .before .before .before .before .before .before .before .args .b .now) (c .before .before .before .before .before .before .before .before .before .before .before .before .args .d - 1) (eqb ((c .before .before .before .before .before .before .before .before .node .result) .operator) 0) ((c .before .before .before .before .before .before .before .before .node .result) .children) ((c .before .before .before .before .before .before .before .before .before .before .before .before .args .c .node) + 16)) (wholes.link-is (c .before .before .before .before .before .before .before .before .before .before .before .before .args .b .now) (c .before .before .before .before .before .before .before .before .before .before .before .before .args .d) (c .before .before .before .before .before .before .before .before .before .before .before .before .args .c .node) (c .before .before .before .before .before .before .before .before .node .result) (c .before .before .before .before .before .before .before .before .node .ensures .0) (c .before .before .before .before .before .before .before .before .before .before .before .before .pre .1 .1) (c .before .before .before .before .if2 .taken) (omega (arith, c .before .before .if3 .left))) (c .before .before .before .before .before .before .before .before .before .before .before .before .pre .1 .0) ((c .before .before .before .before .before .before .before .before .before .before .before .before .args .c .node) + 16), (wholes.kids-well (c .before .before .before .before .before .before .before .before .before .before .before .before .args .b .now) (c .before .before .before .before .before .before .before .before .before .before .before .before .args .d) (c .before .before .before .before .before .before .before .before .before .before .before .before .args .c .node) (c .before .before .before .before .before .before .before .before .node .result) (c .before .before .before .before .before .before .before .before .node .ensures .0) (c .before .before .before .before .before .before .before .before .before .before .before .before .pre .1 .1), omega (arith, c .before .before .if3 .left), c .before .before .before .before .before .before .before .before .node .ensures .1)))
+node-link-requires : (t : ℕ) → node-lts.Need-link-requires (node-calls t) (node-at t) node.Post
+node-link-requires t c κs =
+    let pre = c .before .before .before .before .before .before .before .before .before .before .before .before .pre in
+    let args = c .before .before .before .before .before .before .before .before .before .before .before .before .args in
+    let node = c .before .before .before .before .before .before .before .before .node in
+    let node-gives = node .result in
+    let b = args .b .now in
+    let node2 = args .c .node in
+    let ensures = node .ensures .0 in (
+      omega (arith, pre .0, node .ensures .1, wholes.node-deep b (args .d) node2 node-gives ensures (pre .1 .1)),
+      (
+        ready-term (term (tree-in (args .d) b node2)) (arm b (args .d - 1) (eqb (node-gives .operator) 0) (node-gives .children) (node2 + 16))
+            (wholes.link-is b (args .d) node2 node-gives ensures (pre .1 .1) (c .before .before .before .before .if2 .taken)
+            (omega (arith, c .before .before .if3 .left))) (pre .1 .0) (node2 + 16),
+        (wholes.kids-well b (args .d) node2 node-gives ensures (pre .1 .1), omega (arith, c .before .before .if3 .left), node .ensures .1),
+      ),
+    )
 
-node-same-length-2 : (t : ℕ) → node-lts.Need-same-length-2 (
-  node-reads.Asked,
-  node-reads.Learnt,
-  lower-leaf-reads.Asked,
-  lower-leaf-reads.Learnt,
-  link-below t,
-  link.Post,
-  chooses-reads.Asked,
-  chooses-reads.Learnt,
-  lower-below t,
-  lower.Post,
-  branch-below t,
-  branch.Post,
-  takes-reads.Asked,
-  takes-reads.Learnt,
-  listing-reads.Asked,
-  listing-reads.Learnt,
-  operands-below t,
-  operands.Post,
-  finish-reads.Asked,
-  finish-reads.Learnt,
-) (node-at t) node.Post
+node-same-length-2 : (t : ℕ) → node-lts.Need-same-length-2 (node-calls t) (node-at t) node.Post
 node-same-length-2 t c = search needs
 
-node-returns-3 : (t : ℕ) → node-lts.Need-returns-3 (
-  node-reads.Asked,
-  node-reads.Learnt,
-  lower-leaf-reads.Asked,
-  lower-leaf-reads.Learnt,
-  link-below t,
-  link.Post,
-  chooses-reads.Asked,
-  chooses-reads.Learnt,
-  lower-below t,
-  lower.Post,
-  branch-below t,
-  branch.Post,
-  takes-reads.Asked,
-  takes-reads.Learnt,
-  listing-reads.Asked,
-  listing-reads.Learnt,
-  operands-below t,
-  operands.Post,
-  finish-reads.Asked,
-  finish-reads.Learnt,
-) (node-at t) node.Post
-node-returns-3 t c = as-node _ _ (term (tree-in (c .before .before .before .before .before .before .before .before .before .before .before .before .before .before .before .args .d) (c .before .before .before .before .before .before .before .before .before .before .before .before .before .before .before .args .b .now) (c .before .before .before .before .before .before .before .before .before .before .before .before .before .before .before .args .c .node))) (arm (c .before .before .before .before .before .before .before .before .before .before .before .before .before .before .before .args .b .now) (c .before .before .before .before .before .before .before .before .before .before .before .before .before .before .before .args .d - 1) (eqb ((c .before .before .before .before .before .before .before .before .before .before .before .node .result) .operator) 0) ((c .before .before .before .before .before .before .before .before .before .before .before .node .result) .children) ((c .before .before .before .before .before .before .before .before .before .before .before .before .before .before .before .args .c .node) + 16)) _ _ _ _ ((c .before .before .before .before .before .before .before .before .before .before .before .before .before .before .before .args .c .node) + 16) (c .before .before .before .before .before .before .before .before .before .before .before .before .before .before .before .args .c) _ _ _ (wholes.link-is (c .before .before .before .before .before .before .before .before .before .before .before .before .before .before .before .args .b .now) (c .before .before .before .before .before .before .before .before .before .before .before .before .before .before .before .args .d) (c .before .before .before .before .before .before .before .before .before .before .before .before .before .before .before .args .c .node) (c .before .before .before .before .before .before .before .before .before .before .before .node .result) (c .before .before .before .before .before .before .before .before .before .before .before .node .ensures .0) (c .before .before .before .before .before .before .before .before .before .before .before .before .before .before .before .pre .1 .1) (c .before .before .before .before .before .before .before .if2 .taken) (omega (arith, c .before .before .before .before .before .if3 .left))) (wholes.past-is (c .before .before .before .before .before .before .before .before .before .before .before .before .before .before .before .args .b .now) (c .before .before .before .before .before .before .before .before .before .before .before .before .before .before .before .args .d) (c .before .before .before .before .before .before .before .before .before .before .before .before .before .before .before .args .c .node) (c .before .before .before .before .before .before .before .before .before .before .before .node .result) (c .before .before .before .before .before .before .before .before .before .before .before .node .ensures .0) (c .before .before .before .before .before .before .before .before .before .before .before .before .before .before .before .pre .1 .1)) (c .before .before .link .ensures)
+node-returns-3 : (t : ℕ) → node-lts.Need-returns-3 (node-calls t) (node-at t) node.Post
+node-returns-3 t c =
+    let args = c .before .before .before .before .before .before .before .before .before .before .before .before .before .before .before .args in
+    let pre = c .before .before .before .before .before .before .before .before .before .before .before .before .before .before .before .pre in
+    let node = c .before .before .before .before .before .before .before .before .before .before .before .node in
+    let if2 = c .before .before .before .before .before .before .before .if2 in
+    let node-gives = node .result in
+    let b = args .b .now in
+    let node2 = args .c .node in
+    as-node _ _ (term (tree-in (args .d) b node2)) (arm b (args .d - 1) (eqb (node-gives .operator) 0) (node-gives .children) (node2 + 16)) _ _ _ _
+    (node2 + 16) (args .c) _ _ _ (wholes.link-is b (args .d) node2 node-gives (node .ensures .0) (pre .1 .1) (if2 .taken)
+    (omega (arith, c .before .before .before .before .before .if3 .left)))
+    (wholes.past-is b (args .d) node2 node-gives (node .ensures .0) (pre .1 .1)) (c .before .before .link .ensures)
 
-node-chooses-requires : (t : ℕ) → node-lts.Need-chooses-requires (
-  node-reads.Asked,
-  node-reads.Learnt,
-  lower-leaf-reads.Asked,
-  lower-leaf-reads.Learnt,
-  link-below t,
-  link.Post,
-  chooses-reads.Asked,
-  chooses-reads.Learnt,
-  lower-below t,
-  lower.Post,
-  branch-below t,
-  branch.Post,
-  takes-reads.Asked,
-  takes-reads.Learnt,
-  listing-reads.Asked,
-  listing-reads.Learnt,
-  operands-below t,
-  operands.Post,
-  finish-reads.Asked,
-  finish-reads.Learnt,
-) (node-at t) node.Post
+node-chooses-requires : (t : ℕ) → node-lts.Need-chooses-requires (node-calls t) (node-at t) node.Post
 node-chooses-requires t c κs = search needs
 
-node-sub-lower : (t : ℕ) → node-lts.Need-sub-lower (
-  node-reads.Asked,
-  node-reads.Learnt,
-  lower-leaf-reads.Asked,
-  lower-leaf-reads.Learnt,
-  link-below t,
-  link.Post,
-  chooses-reads.Asked,
-  chooses-reads.Learnt,
-  lower-below t,
-  lower.Post,
-  branch-below t,
-  branch.Post,
-  takes-reads.Asked,
-  takes-reads.Learnt,
-  listing-reads.Asked,
-  listing-reads.Learnt,
-  operands-below t,
-  operands.Post,
-  finish-reads.Asked,
-  finish-reads.Learnt,
-) (node-at t) node.Post
-node-sub-lower t c = omega (arith, wholes.node-deep (c .before .before .before .before .before .before .before .before .before .before .before .before .before .args .b .now) (c .before .before .before .before .before .before .before .before .before .before .before .before .before .args .d) (c .before .before .before .before .before .before .before .before .before .before .before .before .before .args .c .node) (c .before .before .before .before .before .before .before .before .before .node .result) (c .before .before .before .before .before .before .before .before .before .node .ensures .0) (c .before .before .before .before .before .before .before .before .before .before .before .before .before .pre .1 .1))
+node-sub-lower : (t : ℕ) → node-lts.Need-sub-lower (node-calls t) (node-at t) node.Post
+node-sub-lower t c =
+    let args = c .before .before .before .before .before .before .before .before .before .before .before .before .before .args in
+    let pre = c .before .before .before .before .before .before .before .before .before .before .before .before .before .pre in
+    let node = c .before .before .before .before .before .before .before .before .before .node in
+    omega (arith, wholes.node-deep (args .b .now) (args .d) (args .c .node) (node .result) (node .ensures .0) (pre .1 .1))
 
-node-lower-requires : (t : ℕ) → node-lts.Need-lower-requires (
-  node-reads.Asked,
-  node-reads.Learnt,
-  lower-leaf-reads.Asked,
-  lower-leaf-reads.Learnt,
-  link-below t,
-  link.Post,
-  chooses-reads.Asked,
-  chooses-reads.Learnt,
-  lower-below t,
-  lower.Post,
-  branch-below t,
-  branch.Post,
-  takes-reads.Asked,
-  takes-reads.Learnt,
-  listing-reads.Asked,
-  listing-reads.Learnt,
-  operands-below t,
-  operands.Post,
-  finish-reads.Asked,
-  finish-reads.Learnt,
-) (node-at t) node.Post
-node-lower-requires t c κs = (omega (arith, c .before .before .before .before .before .before .before .before .before .before .before .before .before .pre .0, wholes.node-deep (c .before .before .before .before .before .before .before .before .before .before .before .before .before .args .b .now) (c .before .before .before .before .before .before .before .before .before .before .before .before .before .args .d) (c .before .before .before .before .before .before .before .before .before .before .before .before .before .args .c .node) (c .before .before .before .before .before .before .before .before .before .node .result) (c .before .before .before .before .before .before .before .before .before .node .ensures .0) (c .before .before .before .before .before .before .before .before .before .before .before .before .before .pre .1 .1)), (split-first (c .before .before .before .before .before .before .before .before .before .before .before .before .before .args .b .now) (c .before .before .before .before .before .before .before .before .before .before .before .before .before .args .d - 1) true 1 1 (term (tree-in (c .before .before .before .before .before .before .before .before .before .before .before .before .before .args .d) (c .before .before .before .before .before .before .before .before .before .before .before .before .before .args .b .now) (c .before .before .before .before .before .before .before .before .before .before .before .before .before .args .c .node))) ((c .before .before .before .before .before .before .before .before .before .before .before .before .before .args .c .node) + 16 * size (tree-in (c .before .before .before .before .before .before .before .before .before .before .before .before .before .args .d) (c .before .before .before .before .before .before .before .before .before .before .before .before .before .args .b .now) (c .before .before .before .before .before .before .before .before .before .before .before .before .before .args .c .node))) (wholes.branch-is (c .before .before .before .before .before .before .before .before .before .before .before .before .before .args .b .now) (c .before .before .before .before .before .before .before .before .before .before .before .before .before .args .d) (c .before .before .before .before .before .before .before .before .before .before .before .before .before .args .c .node) (c .before .before .before .before .before .before .before .before .before .node .result) (c .before .before .before .before .before .before .before .before .before .node .ensures .0) (c .before .before .before .before .before .before .before .before .before .before .before .before .before .pre .1 .1) (sym (c .before .before .before .before .chooses .ensures) ∙ c .before .before .before .if4 .taken) (c .before .if5 .taken)) (three-past (c .before .before .before .before .before .before .before .before .before .before .before .before .before .args .b .now) (c .before .before .before .before .before .before .before .before .before .before .before .before .before .args .d - 1) ((c .before .before .before .before .before .before .before .before .before .before .before .before .before .args .c .node) + 16) ∙ (ap (λ (x : ℕ). past (c .before .before .before .before .before .before .before .before .before .before .before .before .before .args .b .now) (c .before .before .before .before .before .before .before .before .before .before .before .before .before .args .d - 1) x ((c .before .before .before .before .before .before .before .before .before .before .before .before .before .args .c .node) + 16)) (sym (c .before .if5 .taken)) ∙ wholes.past-is (c .before .before .before .before .before .before .before .before .before .before .before .before .before .args .b .now) (c .before .before .before .before .before .before .before .before .before .before .before .before .before .args .d) (c .before .before .before .before .before .before .before .before .before .before .before .before .before .args .c .node) (c .before .before .before .before .before .before .before .before .before .node .result) (c .before .before .before .before .before .before .before .before .before .node .ensures .0) (c .before .before .before .before .before .before .before .before .before .before .before .before .before .pre .1 .1))) (ready-moved (c .before .before .before .before .before .before .before .before .before .before .before .before .before .pre .1 .0) ((c .before .before .before .before .before .before .before .before .before .before .before .before .before .args .c .node) + 16)) (context-of (c .before .before .before .before .before .before .before .before .before .before .before .before .before .args .kinds .now) (c .before .before .before .before .before .before .before .before .before .before .before .before .before .args .l .generated)), (one-well (c .before .before .before .before .before .before .before .before .before .before .before .before .before .args .b .now) (c .before .before .before .before .before .before .before .before .before .before .before .before .before .args .d - 1) 1 ((c .before .before .before .before .before .before .before .before .before .before .before .before .before .args .c .node) + 16) refl (first-well (c .before .before .before .before .before .before .before .before .before .before .before .before .before .args .b .now) (c .before .before .before .before .before .before .before .before .before .before .before .before .before .args .d - 1) ((c .before .before .before .before .before .before .before .before .before .node .result) .children) ((c .before .before .before .before .before .before .before .before .before .before .before .before .before .args .c .node) + 16) (λ z. omega (arith, c .before .if5 .taken)) (wholes.kids-well (c .before .before .before .before .before .before .before .before .before .before .before .before .before .args .b .now) (c .before .before .before .before .before .before .before .before .before .before .before .before .before .args .d) (c .before .before .before .before .before .before .before .before .before .before .before .before .before .args .c .node) (c .before .before .before .before .before .before .before .before .before .node .result) (c .before .before .before .before .before .before .before .before .before .node .ensures .0) (c .before .before .before .before .before .before .before .before .before .before .before .before .before .pre .1 .1))), omega arith, omega arith)))
+node-lower-requires : (t : ℕ) → node-lts.Need-lower-requires (node-calls t) (node-at t) node.Post
+node-lower-requires t c κs =
+    let pre = c .before .before .before .before .before .before .before .before .before .before .before .before .before .pre in
+    let args = c .before .before .before .before .before .before .before .before .before .before .before .before .before .args in
+    let node = c .before .before .before .before .before .before .before .before .before .node in
+    let args2 = args .d - 1 in
+    let node-gives = node .result in
+    let b = args .b .now in
+    let node2 = args .c .node in
+    let ensures = node .ensures .0 in
+    let x2 = node2 + 16 in
+    let tree-in2 = tree-in (args .d) b node2 in (
+      omega (arith, pre .0, wholes.node-deep b (args .d) node2 node-gives ensures (pre .1 .1)),
+      (
+        split-first b args2 true 1 1 (term tree-in2) (node2 + 16 * size tree-in2) (wholes.branch-is b (args .d) node2 node-gives ensures (pre .1 .1)
+            (sym (c .before .before .before .before .chooses .ensures) ∙ c .before .before .before .if4 .taken) (c .before .if5 .taken)) (three-past b
+            args2 x2 ∙
+            (ap (λ (x : ℕ). past b args2 x x2) (sym (c .before .if5 .taken)) ∙ wholes.past-is b (args .d) node2 node-gives ensures (pre .1 .1)))
+            (ready-moved (pre .1 .0) x2) (context-of (args .kinds .now) (args .l .generated)),
+        (
+          one-well b args2 1 x2 refl (first-well b args2 (node-gives .children) x2 (λ z. omega (arith, c .before .if5 .taken))
+              (wholes.kids-well b (args .d) node2 node-gives ensures (pre .1 .1))),
+          omega arith,
+          omega arith,
+        ),
+      ),
+    )
 
-node-enum-known-a : (t : ℕ) → node-lts.Need-enum-known-a (
-  node-reads.Asked,
-  node-reads.Learnt,
-  lower-leaf-reads.Asked,
-  lower-leaf-reads.Learnt,
-  link-below t,
-  link.Post,
-  chooses-reads.Asked,
-  chooses-reads.Learnt,
-  lower-below t,
-  lower.Post,
-  branch-below t,
-  branch.Post,
-  takes-reads.Asked,
-  takes-reads.Learnt,
-  listing-reads.Asked,
-  listing-reads.Learnt,
-  operands-below t,
-  operands.Post,
-  finish-reads.Asked,
-  finish-reads.Learnt,
-) (node-at t) node.Post
+node-enum-known-a : (t : ℕ) → node-lts.Need-enum-known-a (node-calls t) (node-at t) node.Post
 node-enum-known-a t c = search needs
 
-node-enum-told : (t : ℕ) → node-lts.Need-enum-told (
-  node-reads.Asked,
-  node-reads.Learnt,
-  lower-leaf-reads.Asked,
-  lower-leaf-reads.Learnt,
-  link-below t,
-  link.Post,
-  chooses-reads.Asked,
-  chooses-reads.Learnt,
-  lower-below t,
-  lower.Post,
-  branch-below t,
-  branch.Post,
-  takes-reads.Asked,
-  takes-reads.Learnt,
-  listing-reads.Asked,
-  listing-reads.Learnt,
-  operands-below t,
-  operands.Post,
-  finish-reads.Asked,
-  finish-reads.Learnt,
-) (node-at t) node.Post
+node-enum-told : (t : ℕ) → node-lts.Need-enum-told (node-calls t) (node-at t) node.Post
 node-enum-told t c = search needs
 
-node-same-length-3 : (t : ℕ) → node-lts.Need-same-length-3 (
-  node-reads.Asked,
-  node-reads.Learnt,
-  lower-leaf-reads.Asked,
-  lower-leaf-reads.Learnt,
-  link-below t,
-  link.Post,
-  chooses-reads.Asked,
-  chooses-reads.Learnt,
-  lower-below t,
-  lower.Post,
-  branch-below t,
-  branch.Post,
-  takes-reads.Asked,
-  takes-reads.Learnt,
-  listing-reads.Asked,
-  listing-reads.Learnt,
-  operands-below t,
-  operands.Post,
-  finish-reads.Asked,
-  finish-reads.Learnt,
-) (node-at t) node.Post
+node-same-length-3 : (t : ℕ) → node-lts.Need-same-length-3 (node-calls t) (node-at t) node.Post
 node-same-length-3 t c = search needs
 
-node-returns-4 : (t : ℕ) → node-lts.Need-returns-4 (
-  node-reads.Asked,
-  node-reads.Learnt,
-  lower-leaf-reads.Asked,
-  lower-leaf-reads.Learnt,
-  link-below t,
-  link.Post,
-  chooses-reads.Asked,
-  chooses-reads.Learnt,
-  lower-below t,
-  lower.Post,
-  branch-below t,
-  branch.Post,
-  takes-reads.Asked,
-  takes-reads.Learnt,
-  listing-reads.Asked,
-  listing-reads.Learnt,
-  operands-below t,
-  operands.Post,
-  finish-reads.Asked,
-  finish-reads.Learnt,
-) (node-at t) node.Post
-node-returns-4 t c = as-node _ _ (term (tree-in (c .before .before .before .before .before .before .before .before .before .before .before .before .before .before .before .before .before .before .args .d) (c .before .before .before .before .before .before .before .before .before .before .before .before .before .before .before .before .before .before .args .b .now) (c .before .before .before .before .before .before .before .before .before .before .before .before .before .before .before .before .before .before .args .c .node))) (term (tree-in (c .before .before .before .before .before .before .before .before .before .before .before .before .before .before .before .before .before .before .args .d) (c .before .before .before .before .before .before .before .before .before .before .before .before .before .before .before .before .before .before .args .b .now) (c .before .before .before .before .before .before .before .before .before .before .before .before .before .before .before .before .before .before .args .c .node))) _ _ _ _ ((c .before .before .before .before .before .before .before .before .before .before .before .before .before .before .before .before .before .before .args .c .node) + 16) (c .before .before .before .before .before .before .before .before .before .before .before .before .before .before .before .before .before .before .args .c) _ _ _ refl refl (split-refused (c .before .before .before .before .before .before .before .before .before .before .before .before .before .before .before .before .before .before .args .b .now) (c .before .before .before .before .before .before .before .before .before .before .before .before .before .before .before .before .before .before .args .d - 1) true 1 1 (term (tree-in (c .before .before .before .before .before .before .before .before .before .before .before .before .before .before .before .before .before .before .args .d) (c .before .before .before .before .before .before .before .before .before .before .before .before .before .before .before .before .before .before .args .b .now) (c .before .before .before .before .before .before .before .before .before .before .before .before .before .before .before .before .before .before .args .c .node))) ((c .before .before .before .before .before .before .before .before .before .before .before .before .before .before .before .before .before .before .args .c .node) + 16 * size (tree-in (c .before .before .before .before .before .before .before .before .before .before .before .before .before .before .before .before .before .before .args .d) (c .before .before .before .before .before .before .before .before .before .before .before .before .before .before .before .before .before .before .args .b .now) (c .before .before .before .before .before .before .before .before .before .before .before .before .before .before .before .before .before .before .args .c .node))) (wholes.branch-is (c .before .before .before .before .before .before .before .before .before .before .before .before .before .before .before .before .before .before .args .b .now) (c .before .before .before .before .before .before .before .before .before .before .before .before .before .before .before .before .before .before .args .d) (c .before .before .before .before .before .before .before .before .before .before .before .before .before .before .before .before .before .before .args .c .node) (c .before .before .before .before .before .before .before .before .before .before .before .before .before .before .node .result) (c .before .before .before .before .before .before .before .before .before .before .before .before .before .before .node .ensures .0) (c .before .before .before .before .before .before .before .before .before .before .before .before .before .before .before .before .before .before .pre .1 .1) (sym (c .before .before .before .before .before .before .before .before .before .chooses .ensures) ∙ c .before .before .before .before .before .before .before .before .if4 .taken) (c .before .before .before .before .before .before .if5 .taken)) (three-past (c .before .before .before .before .before .before .before .before .before .before .before .before .before .before .before .before .before .before .args .b .now) (c .before .before .before .before .before .before .before .before .before .before .before .before .before .before .before .before .before .before .args .d - 1) ((c .before .before .before .before .before .before .before .before .before .before .before .before .before .before .before .before .before .before .args .c .node) + 16) ∙ (ap (λ (x : ℕ). past (c .before .before .before .before .before .before .before .before .before .before .before .before .before .before .before .before .before .before .args .b .now) (c .before .before .before .before .before .before .before .before .before .before .before .before .before .before .before .before .before .before .args .d - 1) x ((c .before .before .before .before .before .before .before .before .before .before .before .before .before .before .before .before .before .before .args .c .node) + 16)) (sym (c .before .before .before .before .before .before .if5 .taken)) ∙ wholes.past-is (c .before .before .before .before .before .before .before .before .before .before .before .before .before .before .before .before .before .before .args .b .now) (c .before .before .before .before .before .before .before .before .before .before .before .before .before .before .before .before .before .before .args .d) (c .before .before .before .before .before .before .before .before .before .before .before .before .before .before .before .before .before .before .args .c .node) (c .before .before .before .before .before .before .before .before .before .before .before .before .before .before .node .result) (c .before .before .before .before .before .before .before .before .before .before .before .before .before .before .node .ensures .0) (c .before .before .before .before .before .before .before .before .before .before .before .before .before .before .before .before .before .before .pre .1 .1))) (ready-moved (c .before .before .before .before .before .before .before .before .before .before .before .before .before .before .before .before .before .before .pre .1 .0) ((c .before .before .before .before .before .before .before .before .before .before .before .before .before .before .before .before .before .before .args .c .node) + 16)) (context-of (c .before .before .before .before .before .before .before .before .before .before .before .before .before .before .before .before .before .before .args .kinds .now) (c .before .before .before .before .before .before .before .before .before .before .before .before .before .before .before .before .before .before .args .l .generated)) (c .before .before .before .before .lower .last .1 .0) (c .before .before .before .before .lower .result) (c .enum-told .given .0 .0) (c .enum-told .given .0 .1 .0) (refused _ _ _ _ _ _ (c .enum-told .given .0 .0) (c .enum-told .given .0 .1 .0) (c .before .before .before .before .lower .ensures) (c .enum-told .given .1)) (c .enum-told .given .1))
+node-returns-4 : (t : ℕ) → node-lts.Need-returns-4 (node-calls t) (node-at t) node.Post
+node-returns-4 t c =
+    let args = c .before .before .before .before .before .before .before .before .before .before .before .before .before .before .before .before .before .before .args in
+    let pre = c .before .before .before .before .before .before .before .before .before .before .before .before .before .before .before .before .before .before .pre in
+    let node = c .before .before .before .before .before .before .before .before .before .before .before .before .before .before .node in
+    let chooses = c .before .before .before .before .before .before .before .before .before .chooses in
+    let if4 = c .before .before .before .before .before .before .before .before .if4 in
+    let if5 = c .before .before .before .before .before .before .if5 in
+    let lower = c .before .before .before .before .lower in
+    let b = args .b .now in
+    let node2 = args .c .node in
+    let x2 = node2 + 16 in
+    let given3 = c .enum-told .given .0 .0 in
+    let given2 = c .enum-told .given .0 .1 .0 in
+    let tree-in2 = tree-in (args .d) b node2 in
+    let term2 = term tree-in2 in
+    as-node _ _ term2 term2 _ _ _ _ x2 (args .c) _ _ _ refl refl (split-refused b (args .d - 1) true 1 1 term2 (node2 + 16 * size tree-in2)
+    (wholes.branch-is b (args .d) node2 (node .result) (node .ensures .0) (pre .1 .1) (sym (chooses .ensures) ∙ if4 .taken) (if5 .taken)) (three-past
+    b (args .d - 1) x2 ∙ (ap (λ (x : ℕ). past b (args .d - 1) x x2) (sym (if5 .taken)) ∙ wholes.past-is b (args .d) node2 (node .result)
+    (node .ensures .0) (pre .1 .1))) (ready-moved (pre .1 .0) x2) (context-of (args .kinds .now) (args .l .generated)) (lower .last .1 .0)
+    (lower .result) given3 given2 (refused _ _ _ _ _ _ given3 given2 (lower .ensures) (c .enum-told .given .1)) (c .enum-told .given .1))
 
-node-sub-branch : (t : ℕ) → node-lts.Need-sub-branch (
-  node-reads.Asked,
-  node-reads.Learnt,
-  lower-leaf-reads.Asked,
-  lower-leaf-reads.Learnt,
-  link-below t,
-  link.Post,
-  chooses-reads.Asked,
-  chooses-reads.Learnt,
-  lower-below t,
-  lower.Post,
-  branch-below t,
-  branch.Post,
-  takes-reads.Asked,
-  takes-reads.Learnt,
-  listing-reads.Asked,
-  listing-reads.Learnt,
-  operands-below t,
-  operands.Post,
-  finish-reads.Asked,
-  finish-reads.Learnt,
-) (node-at t) node.Post
-node-sub-branch t c = omega (arith, wholes.node-deep (c .before .before .before .before .before .before .before .before .before .before .before .before .before .before .before .before .before .before .before .before .args .b .now) (c .before .before .before .before .before .before .before .before .before .before .before .before .before .before .before .before .before .before .before .before .args .d) (c .before .before .before .before .before .before .before .before .before .before .before .before .before .before .before .before .before .before .before .before .args .c .node) (c .before .before .before .before .before .before .before .before .before .before .before .before .before .before .before .before .node .result) (c .before .before .before .before .before .before .before .before .before .before .before .before .before .before .before .before .node .ensures .0) (c .before .before .before .before .before .before .before .before .before .before .before .before .before .before .before .before .before .before .before .before .pre .1 .1))
+node-sub-branch : (t : ℕ) → node-lts.Need-sub-branch (node-calls t) (node-at t) node.Post
+node-sub-branch t c =
+    let args = c .before .before .before .before .before .before .before .before .before .before .before .before .before .before .before .before .before .before .before .before .args in
+    let pre = c .before .before .before .before .before .before .before .before .before .before .before .before .before .before .before .before .before .before .before .before .pre in
+    let node = c .before .before .before .before .before .before .before .before .before .before .before .before .before .before .before .before .node in
+    omega (arith, wholes.node-deep (args .b .now) (args .d) (args .c .node) (node .result) (node .ensures .0) (pre .1 .1))
 
-node-branch-requires : (t : ℕ) → node-lts.Need-branch-requires (
-  node-reads.Asked,
-  node-reads.Learnt,
-  lower-leaf-reads.Asked,
-  lower-leaf-reads.Learnt,
-  link-below t,
-  link.Post,
-  chooses-reads.Asked,
-  chooses-reads.Learnt,
-  lower-below t,
-  lower.Post,
-  branch-below t,
-  branch.Post,
-  takes-reads.Asked,
-  takes-reads.Learnt,
-  listing-reads.Asked,
-  listing-reads.Learnt,
-  operands-below t,
-  operands.Post,
-  finish-reads.Asked,
-  finish-reads.Learnt,
-) (node-at t) node.Post
-node-branch-requires t c κs = (omega (arith, c .before .before .before .before .before .before .before .before .before .before .before .before .before .before .before .before .before .before .before .before .pre .0, wholes.node-deep (c .before .before .before .before .before .before .before .before .before .before .before .before .before .before .before .before .before .before .before .before .args .b .now) (c .before .before .before .before .before .before .before .before .before .before .before .before .before .before .before .before .before .before .before .before .args .d) (c .before .before .before .before .before .before .before .before .before .before .before .before .before .before .before .before .before .before .before .before .args .c .node) (c .before .before .before .before .before .before .before .before .before .before .before .before .before .before .before .before .node .result) (c .before .before .before .before .before .before .before .before .before .before .before .before .before .before .before .before .node .ensures .0) (c .before .before .before .before .before .before .before .before .before .before .before .before .before .before .before .before .before .before .before .before .pre .1 .1)), (split-arms (c .before .before .before .before .before .before .before .before .before .before .before .before .before .before .before .before .before .before .before .before .args .b .now) (c .before .before .before .before .before .before .before .before .before .before .before .before .before .before .before .before .before .before .before .before .args .d - 1) true 1 1 (term (tree-in (c .before .before .before .before .before .before .before .before .before .before .before .before .before .before .before .before .before .before .before .before .args .d) (c .before .before .before .before .before .before .before .before .before .before .before .before .before .before .before .before .before .before .before .before .args .b .now) (c .before .before .before .before .before .before .before .before .before .before .before .before .before .before .before .before .before .before .before .before .args .c .node))) ((c .before .before .before .before .before .before .before .before .before .before .before .before .before .before .before .before .before .before .before .before .args .c .node) + 16 * size (tree-in (c .before .before .before .before .before .before .before .before .before .before .before .before .before .before .before .before .before .before .before .before .args .d) (c .before .before .before .before .before .before .before .before .before .before .before .before .before .before .before .before .before .before .before .before .args .b .now) (c .before .before .before .before .before .before .before .before .before .before .before .before .before .before .before .before .before .before .before .before .args .c .node))) (wholes.branch-is (c .before .before .before .before .before .before .before .before .before .before .before .before .before .before .before .before .before .before .before .before .args .b .now) (c .before .before .before .before .before .before .before .before .before .before .before .before .before .before .before .before .before .before .before .before .args .d) (c .before .before .before .before .before .before .before .before .before .before .before .before .before .before .before .before .before .before .before .before .args .c .node) (c .before .before .before .before .before .before .before .before .before .before .before .before .before .before .before .before .node .result) (c .before .before .before .before .before .before .before .before .before .before .before .before .before .before .before .before .node .ensures .0) (c .before .before .before .before .before .before .before .before .before .before .before .before .before .before .before .before .before .before .before .before .pre .1 .1) (sym (c .before .before .before .before .before .before .before .before .before .before .before .chooses .ensures) ∙ c .before .before .before .before .before .before .before .before .before .before .if4 .taken) (c .before .before .before .before .before .before .before .before .if5 .taken)) (three-past (c .before .before .before .before .before .before .before .before .before .before .before .before .before .before .before .before .before .before .before .before .args .b .now) (c .before .before .before .before .before .before .before .before .before .before .before .before .before .before .before .before .before .before .before .before .args .d - 1) ((c .before .before .before .before .before .before .before .before .before .before .before .before .before .before .before .before .before .before .before .before .args .c .node) + 16) ∙ (ap (λ (x : ℕ). past (c .before .before .before .before .before .before .before .before .before .before .before .before .before .before .before .before .before .before .before .before .args .b .now) (c .before .before .before .before .before .before .before .before .before .before .before .before .before .before .before .before .before .before .before .before .args .d - 1) x ((c .before .before .before .before .before .before .before .before .before .before .before .before .before .before .before .before .before .before .before .before .args .c .node) + 16)) (sym (c .before .before .before .before .before .before .before .before .if5 .taken)) ∙ wholes.past-is (c .before .before .before .before .before .before .before .before .before .before .before .before .before .before .before .before .before .before .before .before .args .b .now) (c .before .before .before .before .before .before .before .before .before .before .before .before .before .before .before .before .before .before .before .before .args .d) (c .before .before .before .before .before .before .before .before .before .before .before .before .before .before .before .before .before .before .before .before .args .c .node) (c .before .before .before .before .before .before .before .before .before .before .before .before .before .before .before .before .node .result) (c .before .before .before .before .before .before .before .before .before .before .before .before .before .before .before .before .node .ensures .0) (c .before .before .before .before .before .before .before .before .before .before .before .before .before .before .before .before .before .before .before .before .pre .1 .1))) (ready-moved (c .before .before .before .before .before .before .before .before .before .before .before .before .before .before .before .before .before .before .before .before .pre .1 .0) ((c .before .before .before .before .before .before .before .before .before .before .before .before .before .before .before .before .before .before .before .before .args .c .node) + 16)) (context-of (c .before .before .before .before .before .before .before .before .before .before .before .before .before .before .before .before .before .before .before .before .args .kinds .now) (c .before .before .before .before .before .before .before .before .before .before .before .before .before .before .before .before .before .before .before .before .args .l .generated)) (c .before .before .before .before .before .before .lower .last .1 .0) (c .before .before .a .given .0 .0) (c .before .before .a .given .0 .1 .0) (taken _ _ _ _ _ _ (c .before .before .a .given .0 .0) (c .before .before .a .given .0 .1 .0) (c .before .before .before .before .before .before .lower .ensures) (c .before .before .a .given .1)) 1 1 refl refl, (two-well (c .before .before .before .before .before .before .before .before .before .before .before .before .before .before .before .before .before .before .before .before .args .b .now) (c .before .before .before .before .before .before .before .before .before .before .before .before .before .before .before .before .before .before .before .before .args .d - 1) ((c .before .before .before .before .before .before .before .before .before .before .before .before .before .before .before .before .before .before .before .before .args .c .node) + 16) ((c .before .before .a .given .0 .1 .0) .node) ((c .before .before .before .before .before .before .before .before .before .before .before .before .before .before .before .before .node .result) .children) (c .before .before .before .before .before .before .before .before .if5 .taken) (wholes.kids-well (c .before .before .before .before .before .before .before .before .before .before .before .before .before .before .before .before .before .before .before .before .args .b .now) (c .before .before .before .before .before .before .before .before .before .before .before .before .before .before .before .before .before .before .before .before .args .d) (c .before .before .before .before .before .before .before .before .before .before .before .before .before .before .before .before .before .before .before .before .args .c .node) (c .before .before .before .before .before .before .before .before .before .before .before .before .before .before .before .before .node .result) (c .before .before .before .before .before .before .before .before .before .before .before .before .before .before .before .before .node .ensures .0) (c .before .before .before .before .before .before .before .before .before .before .before .before .before .before .before .before .before .before .before .before .pre .1 .1)) (split-node (c .before .before .before .before .before .before .before .before .before .before .before .before .before .before .before .before .before .before .before .before .args .b .now) (c .before .before .before .before .before .before .before .before .before .before .before .before .before .before .before .before .before .before .before .before .args .d - 1) true 1 1 (term (tree-in (c .before .before .before .before .before .before .before .before .before .before .before .before .before .before .before .before .before .before .before .before .args .d) (c .before .before .before .before .before .before .before .before .before .before .before .before .before .before .before .before .before .before .before .before .args .b .now) (c .before .before .before .before .before .before .before .before .before .before .before .before .before .before .before .before .before .before .before .before .args .c .node))) ((c .before .before .before .before .before .before .before .before .before .before .before .before .before .before .before .before .before .before .before .before .args .c .node) + 16 * size (tree-in (c .before .before .before .before .before .before .before .before .before .before .before .before .before .before .before .before .before .before .before .before .args .d) (c .before .before .before .before .before .before .before .before .before .before .before .before .before .before .before .before .before .before .before .before .args .b .now) (c .before .before .before .before .before .before .before .before .before .before .before .before .before .before .before .before .before .before .before .before .args .c .node))) (wholes.branch-is (c .before .before .before .before .before .before .before .before .before .before .before .before .before .before .before .before .before .before .before .before .args .b .now) (c .before .before .before .before .before .before .before .before .before .before .before .before .before .before .before .before .before .before .before .before .args .d) (c .before .before .before .before .before .before .before .before .before .before .before .before .before .before .before .before .before .before .before .before .args .c .node) (c .before .before .before .before .before .before .before .before .before .before .before .before .before .before .before .before .node .result) (c .before .before .before .before .before .before .before .before .before .before .before .before .before .before .before .before .node .ensures .0) (c .before .before .before .before .before .before .before .before .before .before .before .before .before .before .before .before .before .before .before .before .pre .1 .1) (sym (c .before .before .before .before .before .before .before .before .before .before .before .chooses .ensures) ∙ c .before .before .before .before .before .before .before .before .before .before .if4 .taken) (c .before .before .before .before .before .before .before .before .if5 .taken)) (three-past (c .before .before .before .before .before .before .before .before .before .before .before .before .before .before .before .before .before .before .before .before .args .b .now) (c .before .before .before .before .before .before .before .before .before .before .before .before .before .before .before .before .before .before .before .before .args .d - 1) ((c .before .before .before .before .before .before .before .before .before .before .before .before .before .before .before .before .before .before .before .before .args .c .node) + 16) ∙ (ap (λ (x : ℕ). past (c .before .before .before .before .before .before .before .before .before .before .before .before .before .before .before .before .before .before .before .before .args .b .now) (c .before .before .before .before .before .before .before .before .before .before .before .before .before .before .before .before .before .before .before .before .args .d - 1) x ((c .before .before .before .before .before .before .before .before .before .before .before .before .before .before .before .before .before .before .before .before .args .c .node) + 16)) (sym (c .before .before .before .before .before .before .before .before .if5 .taken)) ∙ wholes.past-is (c .before .before .before .before .before .before .before .before .before .before .before .before .before .before .before .before .before .before .before .before .args .b .now) (c .before .before .before .before .before .before .before .before .before .before .before .before .before .before .before .before .before .before .before .before .args .d) (c .before .before .before .before .before .before .before .before .before .before .before .before .before .before .before .before .before .before .before .before .args .c .node) (c .before .before .before .before .before .before .before .before .before .before .before .before .before .before .before .before .node .result) (c .before .before .before .before .before .before .before .before .before .before .before .before .before .before .before .before .node .ensures .0) (c .before .before .before .before .before .before .before .before .before .before .before .before .before .before .before .before .before .before .before .before .pre .1 .1))) (ready-moved (c .before .before .before .before .before .before .before .before .before .before .before .before .before .before .before .before .before .before .before .before .pre .1 .0) ((c .before .before .before .before .before .before .before .before .before .before .before .before .before .before .before .before .before .before .before .before .args .c .node) + 16)) (context-of (c .before .before .before .before .before .before .before .before .before .before .before .before .before .before .before .before .before .before .before .before .args .kinds .now) (c .before .before .before .before .before .before .before .before .before .before .before .before .before .before .before .before .before .before .before .before .args .l .generated)) (c .before .before .before .before .before .before .lower .last .1 .0) (c .before .before .a .given .0 .0) (c .before .before .a .given .0 .1 .0) (taken _ _ _ _ _ _ (c .before .before .a .given .0 .0) (c .before .before .a .given .0 .1 .0) (c .before .before .before .before .before .before .lower .ensures) (c .before .before .a .given .1))), three-well (c .before .before .before .before .before .before .before .before .before .before .before .before .before .before .before .before .before .before .before .before .args .b .now) (c .before .before .before .before .before .before .before .before .before .before .before .before .before .before .before .before .before .before .before .before .args .d - 1) ((c .before .before .before .before .before .before .before .before .before .before .before .before .before .before .before .before .before .before .before .before .args .c .node) + 16) ((c .before .before .a .given .0 .1 .0) .node) ((c .before .before .before .before .before .before .before .before .before .before .before .before .before .before .before .before .node .result) .children) (c .before .before .before .before .before .before .before .before .if5 .taken) (wholes.kids-well (c .before .before .before .before .before .before .before .before .before .before .before .before .before .before .before .before .before .before .before .before .args .b .now) (c .before .before .before .before .before .before .before .before .before .before .before .before .before .before .before .before .before .before .before .before .args .d) (c .before .before .before .before .before .before .before .before .before .before .before .before .before .before .before .before .before .before .before .before .args .c .node) (c .before .before .before .before .before .before .before .before .before .before .before .before .before .before .before .before .node .result) (c .before .before .before .before .before .before .before .before .before .before .before .before .before .before .before .before .node .ensures .0) (c .before .before .before .before .before .before .before .before .before .before .before .before .before .before .before .before .before .before .before .before .pre .1 .1)) (split-node (c .before .before .before .before .before .before .before .before .before .before .before .before .before .before .before .before .before .before .before .before .args .b .now) (c .before .before .before .before .before .before .before .before .before .before .before .before .before .before .before .before .before .before .before .before .args .d - 1) true 1 1 (term (tree-in (c .before .before .before .before .before .before .before .before .before .before .before .before .before .before .before .before .before .before .before .before .args .d) (c .before .before .before .before .before .before .before .before .before .before .before .before .before .before .before .before .before .before .before .before .args .b .now) (c .before .before .before .before .before .before .before .before .before .before .before .before .before .before .before .before .before .before .before .before .args .c .node))) ((c .before .before .before .before .before .before .before .before .before .before .before .before .before .before .before .before .before .before .before .before .args .c .node) + 16 * size (tree-in (c .before .before .before .before .before .before .before .before .before .before .before .before .before .before .before .before .before .before .before .before .args .d) (c .before .before .before .before .before .before .before .before .before .before .before .before .before .before .before .before .before .before .before .before .args .b .now) (c .before .before .before .before .before .before .before .before .before .before .before .before .before .before .before .before .before .before .before .before .args .c .node))) (wholes.branch-is (c .before .before .before .before .before .before .before .before .before .before .before .before .before .before .before .before .before .before .before .before .args .b .now) (c .before .before .before .before .before .before .before .before .before .before .before .before .before .before .before .before .before .before .before .before .args .d) (c .before .before .before .before .before .before .before .before .before .before .before .before .before .before .before .before .before .before .before .before .args .c .node) (c .before .before .before .before .before .before .before .before .before .before .before .before .before .before .before .before .node .result) (c .before .before .before .before .before .before .before .before .before .before .before .before .before .before .before .before .node .ensures .0) (c .before .before .before .before .before .before .before .before .before .before .before .before .before .before .before .before .before .before .before .before .pre .1 .1) (sym (c .before .before .before .before .before .before .before .before .before .before .before .chooses .ensures) ∙ c .before .before .before .before .before .before .before .before .before .before .if4 .taken) (c .before .before .before .before .before .before .before .before .if5 .taken)) (three-past (c .before .before .before .before .before .before .before .before .before .before .before .before .before .before .before .before .before .before .before .before .args .b .now) (c .before .before .before .before .before .before .before .before .before .before .before .before .before .before .before .before .before .before .before .before .args .d - 1) ((c .before .before .before .before .before .before .before .before .before .before .before .before .before .before .before .before .before .before .before .before .args .c .node) + 16) ∙ (ap (λ (x : ℕ). past (c .before .before .before .before .before .before .before .before .before .before .before .before .before .before .before .before .before .before .before .before .args .b .now) (c .before .before .before .before .before .before .before .before .before .before .before .before .before .before .before .before .before .before .before .before .args .d - 1) x ((c .before .before .before .before .before .before .before .before .before .before .before .before .before .before .before .before .before .before .before .before .args .c .node) + 16)) (sym (c .before .before .before .before .before .before .before .before .if5 .taken)) ∙ wholes.past-is (c .before .before .before .before .before .before .before .before .before .before .before .before .before .before .before .before .before .before .before .before .args .b .now) (c .before .before .before .before .before .before .before .before .before .before .before .before .before .before .before .before .before .before .before .before .args .d) (c .before .before .before .before .before .before .before .before .before .before .before .before .before .before .before .before .before .before .before .before .args .c .node) (c .before .before .before .before .before .before .before .before .before .before .before .before .before .before .before .before .node .result) (c .before .before .before .before .before .before .before .before .before .before .before .before .before .before .before .before .node .ensures .0) (c .before .before .before .before .before .before .before .before .before .before .before .before .before .before .before .before .before .before .before .before .pre .1 .1))) (ready-moved (c .before .before .before .before .before .before .before .before .before .before .before .before .before .before .before .before .before .before .before .before .pre .1 .0) ((c .before .before .before .before .before .before .before .before .before .before .before .before .before .before .before .before .before .before .before .before .args .c .node) + 16)) (context-of (c .before .before .before .before .before .before .before .before .before .before .before .before .before .before .before .before .before .before .before .before .args .kinds .now) (c .before .before .before .before .before .before .before .before .before .before .before .before .before .before .before .before .before .before .before .before .args .l .generated)) (c .before .before .before .before .before .before .lower .last .1 .0) (c .before .before .a .given .0 .0) (c .before .before .a .given .0 .1 .0) (taken _ _ _ _ _ _ (c .before .before .a .given .0 .0) (c .before .before .a .given .0 .1 .0) (c .before .before .before .before .before .before .lower .ensures) (c .before .before .a .given .1))), omega arith, omega arith)))
+node-branch-requires : (t : ℕ) → node-lts.Need-branch-requires (node-calls t) (node-at t) node.Post
+node-branch-requires t c κs =
+    let pre = c .before .before .before .before .before .before .before .before .before .before .before .before .before .before .before .before .before .before .before .before .pre in
+    let args = c .before .before .before .before .before .before .before .before .before .before .before .before .before .before .before .before .before .before .before .before .args in
+    let node = c .before .before .before .before .before .before .before .before .before .before .before .before .before .before .before .before .node in
+    let chooses = c .before .before .before .before .before .before .before .before .before .before .before .chooses in
+    let if4 = c .before .before .before .before .before .before .before .before .before .before .if4 in
+    let if5 = c .before .before .before .before .before .before .before .before .if5 in
+    let lower = c .before .before .before .before .before .before .lower in
+    let a = c .before .before .a in
+    let args2 = args .d - 1 in
+    let node-gives = node .result in
+    let b = args .b .now in
+    let node3 = args .c .node in
+    let a-value = a .given .0 .0 in
+    let sym2 = sym (if5 .taken) in
+    let ensures = node .ensures .0 in
+    let a-next = a .given .0 .1 .0 in
+    let lower-bytes = lower .last .1 .0 in
+    let x3 = node3 + 16 in
+    let children = node-gives .children in
+    let node2 = a-next .node in
+    let ready-moved2 = ready-moved (pre .1 .0) x3 in
+    let tree-in2 = tree-in (args .d) b node3 in
+    let context = context-of (args .kinds .now) (args .l .generated) in
+    let term2 = term tree-in2 in
+    let x2 = node3 + 16 * size tree-in2 in
+    let is-taken = taken _ _ _ _ _ _ a-value a-next (lower .ensures) (a .given .1) in
+    let kids-well = wholes.kids-well b (args .d) node3 node-gives ensures (pre .1 .1) in
+    let branch-is = wholes.branch-is b (args .d) node3 node-gives ensures (pre .1 .1) (sym (chooses .ensures) ∙ if4 .taken) (if5 .taken) in (
+      omega (arith, pre .0, wholes.node-deep b (args .d) node3 node-gives ensures (pre .1 .1)),
+      (
+        split-arms b args2 true 1 1 term2 x2 branch-is
+            (three-past b args2 x3 ∙ (ap (λ (x : ℕ). past b args2 x x3) sym2 ∙ wholes.past-is b (args .d) node3 node-gives ensures (pre .1 .1)))
+            ready-moved2 context lower-bytes a-value a-next is-taken 1 1 refl refl,
+        (
+          two-well b args2 x3 node2 children (if5 .taken) kids-well (split-node b args2 true 1 1 term2 x2 branch-is (three-past b args2 x3 ∙
+              (ap (λ (x : ℕ). past b args2 x x3) sym2 ∙ wholes.past-is b (args .d) node3 node-gives ensures (pre .1 .1))) ready-moved2 context lower-bytes
+              a-value a-next is-taken),
+          three-well b args2 x3 node2 children (if5 .taken) kids-well (split-node b args2 true 1 1 term2 x2 branch-is (three-past b args2 x3 ∙
+              (ap (λ (x : ℕ). past b args2 x x3) sym2 ∙ wholes.past-is b (args .d) node3 node-gives ensures (pre .1 .1))) ready-moved2 context lower-bytes
+              a-value a-next is-taken),
+          omega arith,
+          omega arith,
+        ),
+      ),
+    )
 
-node-same-length-4 : (t : ℕ) → node-lts.Need-same-length-4 (
-  node-reads.Asked,
-  node-reads.Learnt,
-  lower-leaf-reads.Asked,
-  lower-leaf-reads.Learnt,
-  link-below t,
-  link.Post,
-  chooses-reads.Asked,
-  chooses-reads.Learnt,
-  lower-below t,
-  lower.Post,
-  branch-below t,
-  branch.Post,
-  takes-reads.Asked,
-  takes-reads.Learnt,
-  listing-reads.Asked,
-  listing-reads.Learnt,
-  operands-below t,
-  operands.Post,
-  finish-reads.Asked,
-  finish-reads.Learnt,
-) (node-at t) node.Post
+node-same-length-4 : (t : ℕ) → node-lts.Need-same-length-4 (node-calls t) (node-at t) node.Post
 node-same-length-4 t c = search needs
 
-node-returns-5 : (t : ℕ) → node-lts.Need-returns-5 (
-  node-reads.Asked,
-  node-reads.Learnt,
-  lower-leaf-reads.Asked,
-  lower-leaf-reads.Learnt,
-  link-below t,
-  link.Post,
-  chooses-reads.Asked,
-  chooses-reads.Learnt,
-  lower-below t,
-  lower.Post,
-  branch-below t,
-  branch.Post,
-  takes-reads.Asked,
-  takes-reads.Learnt,
-  listing-reads.Asked,
-  listing-reads.Learnt,
-  operands-below t,
-  operands.Post,
-  finish-reads.Asked,
-  finish-reads.Learnt,
-) (node-at t) node.Post
-node-returns-5 t c = as-node _ _ (term (tree-in (c .before .before .before .before .before .before .before .before .before .before .before .before .before .before .before .before .before .before .before .before .before .before .before .args .d) (c .before .before .before .before .before .before .before .before .before .before .before .before .before .before .before .before .before .before .before .before .before .before .before .args .b .now) (c .before .before .before .before .before .before .before .before .before .before .before .before .before .before .before .before .before .before .before .before .before .before .before .args .c .node))) (term (tree-in (c .before .before .before .before .before .before .before .before .before .before .before .before .before .before .before .before .before .before .before .before .before .before .before .args .d) (c .before .before .before .before .before .before .before .before .before .before .before .before .before .before .before .before .before .before .before .before .before .before .before .args .b .now) (c .before .before .before .before .before .before .before .before .before .before .before .before .before .before .before .before .before .before .before .before .before .before .before .args .c .node))) _ _ _ _ ((c .before .before .before .before .before .before .before .before .before .before .before .before .before .before .before .before .before .before .before .before .before .before .before .args .c .node) + 16) (c .before .before .before .before .before .before .before .before .before .before .before .before .before .before .before .before .before .before .before .before .before .before .before .args .c) _ _ _ refl refl (split-done (c .before .before .before .before .before .before .before .before .before .before .before .before .before .before .before .before .before .before .before .before .before .before .before .args .b .now) (c .before .before .before .before .before .before .before .before .before .before .before .before .before .before .before .before .before .before .before .before .before .before .before .args .d - 1) true 1 1 (term (tree-in (c .before .before .before .before .before .before .before .before .before .before .before .before .before .before .before .before .before .before .before .before .before .before .before .args .d) (c .before .before .before .before .before .before .before .before .before .before .before .before .before .before .before .before .before .before .before .before .before .before .before .args .b .now) (c .before .before .before .before .before .before .before .before .before .before .before .before .before .before .before .before .before .before .before .before .before .before .before .args .c .node))) ((c .before .before .before .before .before .before .before .before .before .before .before .before .before .before .before .before .before .before .before .before .before .before .before .args .c .node) + 16 * size (tree-in (c .before .before .before .before .before .before .before .before .before .before .before .before .before .before .before .before .before .before .before .before .before .before .before .args .d) (c .before .before .before .before .before .before .before .before .before .before .before .before .before .before .before .before .before .before .before .before .before .before .before .args .b .now) (c .before .before .before .before .before .before .before .before .before .before .before .before .before .before .before .before .before .before .before .before .before .before .before .args .c .node))) (wholes.branch-is (c .before .before .before .before .before .before .before .before .before .before .before .before .before .before .before .before .before .before .before .before .before .before .before .args .b .now) (c .before .before .before .before .before .before .before .before .before .before .before .before .before .before .before .before .before .before .before .before .before .before .before .args .d) (c .before .before .before .before .before .before .before .before .before .before .before .before .before .before .before .before .before .before .before .before .before .before .before .args .c .node) (c .before .before .before .before .before .before .before .before .before .before .before .before .before .before .before .before .before .before .before .node .result) (c .before .before .before .before .before .before .before .before .before .before .before .before .before .before .before .before .before .before .before .node .ensures .0) (c .before .before .before .before .before .before .before .before .before .before .before .before .before .before .before .before .before .before .before .before .before .before .before .pre .1 .1) (sym (c .before .before .before .before .before .before .before .before .before .before .before .before .before .before .chooses .ensures) ∙ c .before .before .before .before .before .before .before .before .before .before .before .before .before .if4 .taken) (c .before .before .before .before .before .before .before .before .before .before .before .if5 .taken)) (three-past (c .before .before .before .before .before .before .before .before .before .before .before .before .before .before .before .before .before .before .before .before .before .before .before .args .b .now) (c .before .before .before .before .before .before .before .before .before .before .before .before .before .before .before .before .before .before .before .before .before .before .before .args .d - 1) ((c .before .before .before .before .before .before .before .before .before .before .before .before .before .before .before .before .before .before .before .before .before .before .before .args .c .node) + 16) ∙ (ap (λ (x : ℕ). past (c .before .before .before .before .before .before .before .before .before .before .before .before .before .before .before .before .before .before .before .before .before .before .before .args .b .now) (c .before .before .before .before .before .before .before .before .before .before .before .before .before .before .before .before .before .before .before .before .before .before .before .args .d - 1) x ((c .before .before .before .before .before .before .before .before .before .before .before .before .before .before .before .before .before .before .before .before .before .before .before .args .c .node) + 16)) (sym (c .before .before .before .before .before .before .before .before .before .before .before .if5 .taken)) ∙ wholes.past-is (c .before .before .before .before .before .before .before .before .before .before .before .before .before .before .before .before .before .before .before .before .before .before .before .args .b .now) (c .before .before .before .before .before .before .before .before .before .before .before .before .before .before .before .before .before .before .before .before .before .before .before .args .d) (c .before .before .before .before .before .before .before .before .before .before .before .before .before .before .before .before .before .before .before .before .before .before .before .args .c .node) (c .before .before .before .before .before .before .before .before .before .before .before .before .before .before .before .before .before .before .before .node .result) (c .before .before .before .before .before .before .before .before .before .before .before .before .before .before .before .before .before .before .before .node .ensures .0) (c .before .before .before .before .before .before .before .before .before .before .before .before .before .before .before .before .before .before .before .before .before .before .before .pre .1 .1))) (ready-moved (c .before .before .before .before .before .before .before .before .before .before .before .before .before .before .before .before .before .before .before .before .before .before .before .pre .1 .0) ((c .before .before .before .before .before .before .before .before .before .before .before .before .before .before .before .before .before .before .before .before .before .before .before .args .c .node) + 16)) (context-of (c .before .before .before .before .before .before .before .before .before .before .before .before .before .before .before .before .before .before .before .before .before .before .before .args .kinds .now) (c .before .before .before .before .before .before .before .before .before .before .before .before .before .before .before .before .before .before .before .before .before .before .before .args .l .generated)) (c .before .before .before .before .before .before .before .before .before .lower .last .1 .0) (c .before .before .before .before .before .a .given .0 .0) (c .before .before .before .before .before .a .given .0 .1 .0) (taken _ _ _ _ _ _ (c .before .before .before .before .before .a .given .0 .0) (c .before .before .before .before .before .a .given .0 .1 .0) (c .before .before .before .before .before .before .before .before .before .lower .ensures) (c .before .before .before .before .before .a .given .1)) 1 1 refl refl (c .before .before .branch .last .1 .0) (c .before .before .branch .result) (c .before .before .branch .ensures))
+node-returns-5 : (t : ℕ) → node-lts.Need-returns-5 (node-calls t) (node-at t) node.Post
+node-returns-5 t c =
+    let args = c .before .before .before .before .before .before .before .before .before .before .before .before .before .before .before .before .before .before .before .before .before .before .before .args in
+    let pre = c .before .before .before .before .before .before .before .before .before .before .before .before .before .before .before .before .before .before .before .before .before .before .before .pre in
+    let node = c .before .before .before .before .before .before .before .before .before .before .before .before .before .before .before .before .before .before .before .node in
+    let chooses = c .before .before .before .before .before .before .before .before .before .before .before .before .before .before .chooses in
+    let if4 = c .before .before .before .before .before .before .before .before .before .before .before .before .before .if4 in
+    let if5 = c .before .before .before .before .before .before .before .before .before .before .before .if5 in
+    let lower = c .before .before .before .before .before .before .before .before .before .lower in
+    let a = c .before .before .before .before .before .a in
+    let branch = c .before .before .branch in
+    let b = args .b .now in
+    let node2 = args .c .node in
+    let x2 = node2 + 16 in
+    let tree-in2 = tree-in (args .d) b node2 in
+    let term2 = term tree-in2 in
+    as-node _ _ term2 term2 _ _ _ _ x2 (args .c) _ _ _ refl refl (split-done b (args .d - 1) true 1 1 term2 (node2 + 16 * size tree-in2)
+    (wholes.branch-is b (args .d) node2 (node .result) (node .ensures .0) (pre .1 .1) (sym (chooses .ensures) ∙ if4 .taken) (if5 .taken)) (three-past
+    b (args .d - 1) x2 ∙ (ap (λ (x : ℕ). past b (args .d - 1) x x2) (sym (if5 .taken)) ∙ wholes.past-is b (args .d) node2 (node .result)
+    (node .ensures .0) (pre .1 .1))) (ready-moved (pre .1 .0) x2) (context-of (args .kinds .now) (args .l .generated)) (lower .last .1 .0)
+    (a .given .0 .0) (a .given .0 .1 .0) (taken _ _ _ _ _ _ (a .given .0 .0) (a .given .0 .1 .0) (lower .ensures) (a .given .1)) 1 1 refl refl
+    (branch .last .1 .0) (branch .result) (branch .ensures))
 
-node-returns-6 : (t : ℕ) → node-lts.Need-returns-6 (
-  node-reads.Asked,
-  node-reads.Learnt,
-  lower-leaf-reads.Asked,
-  lower-leaf-reads.Learnt,
-  link-below t,
-  link.Post,
-  chooses-reads.Asked,
-  chooses-reads.Learnt,
-  lower-below t,
-  lower.Post,
-  branch-below t,
-  branch.Post,
-  takes-reads.Asked,
-  takes-reads.Learnt,
-  listing-reads.Asked,
-  listing-reads.Learnt,
-  operands-below t,
-  operands.Post,
-  finish-reads.Asked,
-  finish-reads.Learnt,
-) (node-at t) node.Post
-node-returns-6 t c = miscounted-here (c .before .before .before .before .before .before .before .before .before .before .before .before .pre .1 .0) _ (term (tree-in (c .before .before .before .before .before .before .before .before .before .before .before .before .args .d) (c .before .before .before .before .before .before .before .before .before .before .before .before .args .b .now) (c .before .before .before .before .before .before .before .before .before .before .before .before .args .c .node))) _ (wholes.wrong-is (c .before .before .before .before .before .before .before .before .before .before .before .before .args .b .now) (c .before .before .before .before .before .before .before .before .before .before .before .before .args .d) (c .before .before .before .before .before .before .before .before .before .before .before .before .args .c .node) (c .before .before .before .before .before .before .before .before .node .result) (c .before .before .before .before .before .before .before .before .node .ensures .0) (c .before .before .before .before .before .before .before .before .before .before .before .before .pre .1 .1) (sym (c .before .before .before .chooses .ensures) ∙ c .before .before .if4 .taken) (c .if5 .left))
+node-returns-6 : (t : ℕ) → node-lts.Need-returns-6 (node-calls t) (node-at t) node.Post
+node-returns-6 t c =
+    let pre = c .before .before .before .before .before .before .before .before .before .before .before .before .pre in
+    let args = c .before .before .before .before .before .before .before .before .before .before .before .before .args in
+    let node = c .before .before .before .before .before .before .before .before .node in
+    miscounted-here (pre .1 .0) _ (term (tree-in (args .d) (args .b .now) (args .c .node))) _ (wholes.wrong-is (args .b .now) (args .d)
+    (args .c .node) (node .result) (node .ensures .0) (pre .1 .1) (sym (c .before .before .before .chooses .ensures) ∙ c .before .before .if4 .taken)
+    (c .if5 .left))
 
-node-takes-requires : (t : ℕ) → node-lts.Need-takes-requires (
-  node-reads.Asked,
-  node-reads.Learnt,
-  lower-leaf-reads.Asked,
-  lower-leaf-reads.Learnt,
-  link-below t,
-  link.Post,
-  chooses-reads.Asked,
-  chooses-reads.Learnt,
-  lower-below t,
-  lower.Post,
-  branch-below t,
-  branch.Post,
-  takes-reads.Asked,
-  takes-reads.Learnt,
-  listing-reads.Asked,
-  listing-reads.Learnt,
-  operands-below t,
-  operands.Post,
-  finish-reads.Asked,
-  finish-reads.Learnt,
-) (node-at t) node.Post
+node-takes-requires : (t : ℕ) → node-lts.Need-takes-requires (node-calls t) (node-at t) node.Post
 node-takes-requires t c κs = search needs
 
-node-listing-requires : (t : ℕ) → node-lts.Need-listing-requires (
-  node-reads.Asked,
-  node-reads.Learnt,
-  lower-leaf-reads.Asked,
-  lower-leaf-reads.Learnt,
-  link-below t,
-  link.Post,
-  chooses-reads.Asked,
-  chooses-reads.Learnt,
-  lower-below t,
-  lower.Post,
-  branch-below t,
-  branch.Post,
-  takes-reads.Asked,
-  takes-reads.Learnt,
-  listing-reads.Asked,
-  listing-reads.Learnt,
-  operands-below t,
-  operands.Post,
-  finish-reads.Asked,
-  finish-reads.Learnt,
-) (node-at t) node.Post
+node-listing-requires : (t : ℕ) → node-lts.Need-listing-requires (node-calls t) (node-at t) node.Post
 node-listing-requires t c κs = search needs
 
-node-sub-operands : (t : ℕ) → node-lts.Need-sub-operands (
-  node-reads.Asked,
-  node-reads.Learnt,
-  lower-leaf-reads.Asked,
-  lower-leaf-reads.Learnt,
-  link-below t,
-  link.Post,
-  chooses-reads.Asked,
-  chooses-reads.Learnt,
-  lower-below t,
-  lower.Post,
-  branch-below t,
-  branch.Post,
-  takes-reads.Asked,
-  takes-reads.Learnt,
-  listing-reads.Asked,
-  listing-reads.Learnt,
-  operands-below t,
-  operands.Post,
-  finish-reads.Asked,
-  finish-reads.Learnt,
-) (node-at t) node.Post
-node-sub-operands t c = omega (arith, wholes.node-deep (c .before .before .before .before .before .before .before .before .before .before .before .before .before .args .b .now) (c .before .before .before .before .before .before .before .before .before .before .before .before .before .args .d) (c .before .before .before .before .before .before .before .before .before .before .before .before .before .args .c .node) (c .before .before .before .before .before .before .before .before .before .node .result) (c .before .before .before .before .before .before .before .before .before .node .ensures .0) (c .before .before .before .before .before .before .before .before .before .before .before .before .before .pre .1 .1))
+node-sub-operands : (t : ℕ) → node-lts.Need-sub-operands (node-calls t) (node-at t) node.Post
+node-sub-operands t c =
+    let args = c .before .before .before .before .before .before .before .before .before .before .before .before .before .args in
+    let pre = c .before .before .before .before .before .before .before .before .before .before .before .before .before .pre in
+    let node = c .before .before .before .before .before .before .before .before .before .node in
+    omega (arith, wholes.node-deep (args .b .now) (args .d) (args .c .node) (node .result) (node .ensures .0) (pre .1 .1))
 
-node-operands-requires : (t : ℕ) → node-lts.Need-operands-requires (
-  node-reads.Asked,
-  node-reads.Learnt,
-  lower-leaf-reads.Asked,
-  lower-leaf-reads.Learnt,
-  link-below t,
-  link.Post,
-  chooses-reads.Asked,
-  chooses-reads.Learnt,
-  lower-below t,
-  lower.Post,
-  branch-below t,
-  branch.Post,
-  takes-reads.Asked,
-  takes-reads.Learnt,
-  listing-reads.Asked,
-  listing-reads.Learnt,
-  operands-below t,
-  operands.Post,
-  finish-reads.Asked,
-  finish-reads.Learnt,
-) (node-at t) node.Post
-node-operands-requires t c κs = (omega (arith, c .before .before .before .before .before .before .before .before .before .before .before .before .before .pre .0, c .before .before .before .before .before .before .before .before .before .node .ensures .1, wholes.node-deep (c .before .before .before .before .before .before .before .before .before .before .before .before .before .args .b .now) (c .before .before .before .before .before .before .before .before .before .before .before .before .before .args .d) (c .before .before .before .before .before .before .before .before .before .before .before .before .before .args .c .node) (c .before .before .before .before .before .before .before .before .before .node .result) (c .before .before .before .before .before .before .before .before .before .node .ensures .0) (c .before .before .before .before .before .before .before .before .before .before .before .before .before .pre .1 .1)), (operands-asked (terms (kids (c .before .before .before .before .before .before .before .before .before .before .before .before .before .args .b .now) (c .before .before .before .before .before .before .before .before .before .before .before .before .before .args .d - 1) ((c .before .before .before .before .before .before .before .before .before .node .result) .children) ((c .before .before .before .before .before .before .before .before .before .before .before .before .before .args .c .node) + 16))) ((c .before .before .before .before .before .before .before .before .before .node .result) .children) (c .before .listing .result) _ (c .before .listing .ensures) (wholes.ready-operands (context-of (c .before .before .before .before .before .before .before .before .before .before .before .before .before .args .kinds .now) (c .before .before .before .before .before .before .before .before .before .before .before .before .before .args .l .generated)) refl ((wholes.knows (c .before .before .before .before .before .before .before .before .before .before .before .before .before .args .b .now) (c .before .before .before .before .before .before .before .before .before .before .before .before .before .args .d) (c .before .before .before .before .before .before .before .before .before .before .before .before .before .args .c .node) (c .before .before .before .before .before .before .before .before .before .node .result) (c .before .before .before .before .before .before .before .before .before .node .ensures .0) (c .before .before .before .before .before .before .before .before .before .before .before .before .before .pre .1 .1) (omega (arith, c .before .before .before .before .before .before .before .if1 .left)) (c .before .before .before .before .before .if2 .left) (sym (c .before .before .before .before .chooses .ensures) ∙ c .before .before .before .if4 .left)) .op) (terms (kids (c .before .before .before .before .before .before .before .before .before .before .before .before .before .args .b .now) (c .before .before .before .before .before .before .before .before .before .before .before .before .before .args .d - 1) ((c .before .before .before .before .before .before .before .before .before .node .result) .children) ((c .before .before .before .before .before .before .before .before .before .before .before .before .before .args .c .node) + 16))) (c .before .before .before .before .before .before .before .before .before .node .result) _ (past (c .before .before .before .before .before .before .before .before .before .before .before .before .before .args .b .now) (c .before .before .before .before .before .before .before .before .before .before .before .before .before .args .d - 1) ((c .before .before .before .before .before .before .before .before .before .node .result) .children) ((c .before .before .before .before .before .before .before .before .before .before .before .before .before .args .c .node) + 16)) (wholes.knows (c .before .before .before .before .before .before .before .before .before .before .before .before .before .args .b .now) (c .before .before .before .before .before .before .before .before .before .before .before .before .before .args .d) (c .before .before .before .before .before .before .before .before .before .before .before .before .before .args .c .node) (c .before .before .before .before .before .before .before .before .before .node .result) (c .before .before .before .before .before .before .before .before .before .node .ensures .0) (c .before .before .before .before .before .before .before .before .before .before .before .before .before .pre .1 .1) (omega (arith, c .before .before .before .before .before .before .before .if1 .left)) (c .before .before .before .before .before .if2 .left) (sym (c .before .before .before .before .chooses .ensures) ∙ c .before .before .before .if4 .left)) refl (wholes.count-kids (c .before .before .before .before .before .before .before .before .before .before .before .before .before .args .b .now) (c .before .before .before .before .before .before .before .before .before .before .before .before .before .args .d - 1) ((c .before .before .before .before .before .before .before .before .before .node .result) .children) ((c .before .before .before .before .before .before .before .before .before .before .before .before .before .args .c .node) + 16)) (ready-term (term (tree-in (c .before .before .before .before .before .before .before .before .before .before .before .before .before .args .d) (c .before .before .before .before .before .before .before .before .before .before .before .before .before .args .b .now) (c .before .before .before .before .before .before .before .before .before .before .before .before .before .args .c .node))) (apply ((wholes.knows (c .before .before .before .before .before .before .before .before .before .before .before .before .before .args .b .now) (c .before .before .before .before .before .before .before .before .before .before .before .before .before .args .d) (c .before .before .before .before .before .before .before .before .before .before .before .before .before .args .c .node) (c .before .before .before .before .before .before .before .before .before .node .result) (c .before .before .before .before .before .before .before .before .before .node .ensures .0) (c .before .before .before .before .before .before .before .before .before .before .before .before .before .pre .1 .1) (omega (arith, c .before .before .before .before .before .before .before .if1 .left)) (c .before .before .before .before .before .if2 .left) (sym (c .before .before .before .before .chooses .ensures) ∙ c .before .before .before .if4 .left)) .op) (terms (kids (c .before .before .before .before .before .before .before .before .before .before .before .before .before .args .b .now) (c .before .before .before .before .before .before .before .before .before .before .before .before .before .args .d - 1) ((c .before .before .before .before .before .before .before .before .before .node .result) .children) ((c .before .before .before .before .before .before .before .before .before .before .before .before .before .args .c .node) + 16)))) (wholes.apply-is (c .before .before .before .before .before .before .before .before .before .before .before .before .before .args .b .now) (c .before .before .before .before .before .before .before .before .before .before .before .before .before .args .d) (c .before .before .before .before .before .before .before .before .before .before .before .before .before .args .c .node) (c .before .before .before .before .before .before .before .before .before .node .result) (c .before .before .before .before .before .before .before .before .before .node .ensures .0) (c .before .before .before .before .before .before .before .before .before .before .before .before .before .pre .1 .1) (omega (arith, c .before .before .before .before .before .before .before .if1 .left)) (c .before .before .before .before .before .if2 .left) (sym (c .before .before .before .before .chooses .ensures) ∙ c .before .before .before .if4 .left)) (c .before .before .before .before .before .before .before .before .before .before .before .before .before .pre .1 .0) ((c .before .before .before .before .before .before .before .before .before .before .before .before .before .args .c .node) + 16))), (wholes.kids-well (c .before .before .before .before .before .before .before .before .before .before .before .before .before .args .b .now) (c .before .before .before .before .before .before .before .before .before .before .before .before .before .args .d) (c .before .before .before .before .before .before .before .before .before .before .before .before .before .args .c .node) (c .before .before .before .before .before .before .before .before .before .node .result) (c .before .before .before .before .before .before .before .before .before .node .ensures .0) (c .before .before .before .before .before .before .before .before .before .before .before .before .before .pre .1 .1), omega (arith, c .before .before .before .before .before .before .before .before .before .node .ensures .1))))
+node-operands-requires : (t : ℕ) → node-lts.Need-operands-requires (node-calls t) (node-at t) node.Post
+node-operands-requires t c κs =
+    let pre = c .before .before .before .before .before .before .before .before .before .before .before .before .before .pre in
+    let args = c .before .before .before .before .before .before .before .before .before .before .before .before .before .args in
+    let node = c .before .before .before .before .before .before .before .before .before .node in
+    let if1 = c .before .before .before .before .before .before .before .if1 in
+    let if2 = c .before .before .before .before .before .if2 in
+    let chooses = c .before .before .before .before .chooses in
+    let if4 = c .before .before .before .if4 in
+    let node-gives = node .result in
+    let b = args .b .now in
+    let node2 = args .c .node in
+    let ensures = node .ensures .0 in
+    let x = node2 + 16 in
+    let children = node-gives .children in
+    let sym2 = sym (chooses .ensures) ∙ if4 .left in
+    let terms2 = terms (kids b (args .d - 1) children x) in
+    let knows = wholes.knows b (args .d) node2 node-gives ensures (pre .1 .1) (omega (arith, if1 .left)) (if2 .left) sym2 in
+    let op = knows .op in (
+      omega (arith, pre .0, node .ensures .1, wholes.node-deep b (args .d) node2 node-gives ensures (pre .1 .1)),
+      (
+        operands-asked terms2 children (c .before .listing .result) _ (c .before .listing .ensures) (wholes.ready-operands
+            (context-of (args .kinds .now) (args .l .generated)) refl op terms2 node-gives _ (past b (args .d - 1) children x) knows refl
+            (wholes.count-kids b (args .d - 1) children x) (ready-term (term (tree-in (args .d) b node2)) (apply op terms2)
+            (wholes.apply-is b (args .d) node2 node-gives ensures (pre .1 .1) (omega (arith, if1 .left)) (if2 .left) sym2) (pre .1 .0) x)),
+        (wholes.kids-well b (args .d) node2 node-gives ensures (pre .1 .1), omega (arith, node .ensures .1)),
+      ),
+    )
 
-node-enum-known-o : (t : ℕ) → node-lts.Need-enum-known-o (
-  node-reads.Asked,
-  node-reads.Learnt,
-  lower-leaf-reads.Asked,
-  lower-leaf-reads.Learnt,
-  link-below t,
-  link.Post,
-  chooses-reads.Asked,
-  chooses-reads.Learnt,
-  lower-below t,
-  lower.Post,
-  branch-below t,
-  branch.Post,
-  takes-reads.Asked,
-  takes-reads.Learnt,
-  listing-reads.Asked,
-  listing-reads.Learnt,
-  operands-below t,
-  operands.Post,
-  finish-reads.Asked,
-  finish-reads.Learnt,
-) (node-at t) node.Post
+node-enum-known-o : (t : ℕ) → node-lts.Need-enum-known-o (node-calls t) (node-at t) node.Post
 node-enum-known-o t c = search needs
 
-node-enum-told-2 : (t : ℕ) → node-lts.Need-enum-told-2 (
-  node-reads.Asked,
-  node-reads.Learnt,
-  lower-leaf-reads.Asked,
-  lower-leaf-reads.Learnt,
-  link-below t,
-  link.Post,
-  chooses-reads.Asked,
-  chooses-reads.Learnt,
-  lower-below t,
-  lower.Post,
-  branch-below t,
-  branch.Post,
-  takes-reads.Asked,
-  takes-reads.Learnt,
-  listing-reads.Asked,
-  listing-reads.Learnt,
-  operands-below t,
-  operands.Post,
-  finish-reads.Asked,
-  finish-reads.Learnt,
-) (node-at t) node.Post
+node-enum-told-2 : (t : ℕ) → node-lts.Need-enum-told-2 (node-calls t) (node-at t) node.Post
 node-enum-told-2 t c = search needs
 
-node-same-length-5 : (t : ℕ) → node-lts.Need-same-length-5 (
-  node-reads.Asked,
-  node-reads.Learnt,
-  lower-leaf-reads.Asked,
-  lower-leaf-reads.Learnt,
-  link-below t,
-  link.Post,
-  chooses-reads.Asked,
-  chooses-reads.Learnt,
-  lower-below t,
-  lower.Post,
-  branch-below t,
-  branch.Post,
-  takes-reads.Asked,
-  takes-reads.Learnt,
-  listing-reads.Asked,
-  listing-reads.Learnt,
-  operands-below t,
-  operands.Post,
-  finish-reads.Asked,
-  finish-reads.Learnt,
-) (node-at t) node.Post
+node-same-length-5 : (t : ℕ) → node-lts.Need-same-length-5 (node-calls t) (node-at t) node.Post
 node-same-length-5 t c = search needs
 
-node-returns-7 : (t : ℕ) → node-lts.Need-returns-7 (
-  node-reads.Asked,
-  node-reads.Learnt,
-  lower-leaf-reads.Asked,
-  lower-leaf-reads.Learnt,
-  link-below t,
-  link.Post,
-  chooses-reads.Asked,
-  chooses-reads.Learnt,
-  lower-below t,
-  lower.Post,
-  branch-below t,
-  branch.Post,
-  takes-reads.Asked,
-  takes-reads.Learnt,
-  listing-reads.Asked,
-  listing-reads.Learnt,
-  operands-below t,
-  operands.Post,
-  finish-reads.Asked,
-  finish-reads.Learnt,
-) (node-at t) node.Post
-node-returns-7 t c = as-node _ _ (term (tree-in (c .before .before .before .before .before .before .before .before .before .before .before .before .before .before .before .before .before .before .args .d) (c .before .before .before .before .before .before .before .before .before .before .before .before .before .before .before .before .before .before .args .b .now) (c .before .before .before .before .before .before .before .before .before .before .before .before .before .before .before .before .before .before .args .c .node))) (apply ((wholes.knows (c .before .before .before .before .before .before .before .before .before .before .before .before .before .before .before .before .before .before .args .b .now) (c .before .before .before .before .before .before .before .before .before .before .before .before .before .before .before .before .before .before .args .d) (c .before .before .before .before .before .before .before .before .before .before .before .before .before .before .before .before .before .before .args .c .node) (c .before .before .before .before .before .before .before .before .before .before .before .before .before .before .node .result) (c .before .before .before .before .before .before .before .before .before .before .before .before .before .before .node .ensures .0) (c .before .before .before .before .before .before .before .before .before .before .before .before .before .before .before .before .before .before .pre .1 .1) (omega (arith, c .before .before .before .before .before .before .before .before .before .before .before .before .if1 .left)) (c .before .before .before .before .before .before .before .before .before .before .if2 .left) (sym (c .before .before .before .before .before .before .before .before .before .chooses .ensures) ∙ c .before .before .before .before .before .before .before .before .if4 .left)) .op) (terms (kids (c .before .before .before .before .before .before .before .before .before .before .before .before .before .before .before .before .before .before .args .b .now) (c .before .before .before .before .before .before .before .before .before .before .before .before .before .before .before .before .before .before .args .d - 1) ((c .before .before .before .before .before .before .before .before .before .before .before .before .before .before .node .result) .children) ((c .before .before .before .before .before .before .before .before .before .before .before .before .before .before .before .before .before .before .args .c .node) + 16)))) _ _ _ _ ((c .before .before .before .before .before .before .before .before .before .before .before .before .before .before .before .before .before .before .args .c .node) + 16) (c .before .before .before .before .before .before .before .before .before .before .before .before .before .before .before .before .before .before .args .c) _ _ _ (wholes.apply-is (c .before .before .before .before .before .before .before .before .before .before .before .before .before .before .before .before .before .before .args .b .now) (c .before .before .before .before .before .before .before .before .before .before .before .before .before .before .before .before .before .before .args .d) (c .before .before .before .before .before .before .before .before .before .before .before .before .before .before .before .before .before .before .args .c .node) (c .before .before .before .before .before .before .before .before .before .before .before .before .before .before .node .result) (c .before .before .before .before .before .before .before .before .before .before .before .before .before .before .node .ensures .0) (c .before .before .before .before .before .before .before .before .before .before .before .before .before .before .before .before .before .before .pre .1 .1) (omega (arith, c .before .before .before .before .before .before .before .before .before .before .before .before .if1 .left)) (c .before .before .before .before .before .before .before .before .before .before .if2 .left) (sym (c .before .before .before .before .before .before .before .before .before .chooses .ensures) ∙ c .before .before .before .before .before .before .before .before .if4 .left)) (wholes.past-is (c .before .before .before .before .before .before .before .before .before .before .before .before .before .before .before .before .before .before .args .b .now) (c .before .before .before .before .before .before .before .before .before .before .before .before .before .before .before .before .before .before .args .d) (c .before .before .before .before .before .before .before .before .before .before .before .before .before .before .before .before .before .before .args .c .node) (c .before .before .before .before .before .before .before .before .before .before .before .before .before .before .node .result) (c .before .before .before .before .before .before .before .before .before .before .before .before .before .before .node .ensures .0) (c .before .before .before .before .before .before .before .before .before .before .before .before .before .before .before .before .before .before .pre .1 .1)) (wholes.operands-refused (context-of (c .before .before .before .before .before .before .before .before .before .before .before .before .before .before .before .before .before .before .args .kinds .now) (c .before .before .before .before .before .before .before .before .before .before .before .before .before .before .before .before .before .before .args .l .generated)) refl ((wholes.knows (c .before .before .before .before .before .before .before .before .before .before .before .before .before .before .before .before .before .before .args .b .now) (c .before .before .before .before .before .before .before .before .before .before .before .before .before .before .before .before .before .before .args .d) (c .before .before .before .before .before .before .before .before .before .before .before .before .before .before .before .before .before .before .args .c .node) (c .before .before .before .before .before .before .before .before .before .before .before .before .before .before .node .result) (c .before .before .before .before .before .before .before .before .before .before .before .before .before .before .node .ensures .0) (c .before .before .before .before .before .before .before .before .before .before .before .before .before .before .before .before .before .before .pre .1 .1) (omega (arith, c .before .before .before .before .before .before .before .before .before .before .before .before .if1 .left)) (c .before .before .before .before .before .before .before .before .before .before .if2 .left) (sym (c .before .before .before .before .before .before .before .before .before .chooses .ensures) ∙ c .before .before .before .before .before .before .before .before .if4 .left)) .op) (terms (kids (c .before .before .before .before .before .before .before .before .before .before .before .before .before .before .before .before .before .before .args .b .now) (c .before .before .before .before .before .before .before .before .before .before .before .before .before .before .before .before .before .before .args .d - 1) ((c .before .before .before .before .before .before .before .before .before .before .before .before .before .before .node .result) .children) ((c .before .before .before .before .before .before .before .before .before .before .before .before .before .before .before .before .before .before .args .c .node) + 16))) (c .before .before .before .before .before .before .before .before .before .before .before .before .before .before .node .result) _ (past (c .before .before .before .before .before .before .before .before .before .before .before .before .before .before .before .before .before .before .args .b .now) (c .before .before .before .before .before .before .before .before .before .before .before .before .before .before .before .before .before .before .args .d - 1) ((c .before .before .before .before .before .before .before .before .before .before .before .before .before .before .node .result) .children) ((c .before .before .before .before .before .before .before .before .before .before .before .before .before .before .before .before .before .before .args .c .node) + 16)) (wholes.knows (c .before .before .before .before .before .before .before .before .before .before .before .before .before .before .before .before .before .before .args .b .now) (c .before .before .before .before .before .before .before .before .before .before .before .before .before .before .before .before .before .before .args .d) (c .before .before .before .before .before .before .before .before .before .before .before .before .before .before .before .before .before .before .args .c .node) (c .before .before .before .before .before .before .before .before .before .before .before .before .before .before .node .result) (c .before .before .before .before .before .before .before .before .before .before .before .before .before .before .node .ensures .0) (c .before .before .before .before .before .before .before .before .before .before .before .before .before .before .before .before .before .before .pre .1 .1) (omega (arith, c .before .before .before .before .before .before .before .before .before .before .before .before .if1 .left)) (c .before .before .before .before .before .before .before .before .before .before .if2 .left) (sym (c .before .before .before .before .before .before .before .before .before .chooses .ensures) ∙ c .before .before .before .before .before .before .before .before .if4 .left)) refl (wholes.count-kids (c .before .before .before .before .before .before .before .before .before .before .before .before .before .before .before .before .before .before .args .b .now) (c .before .before .before .before .before .before .before .before .before .before .before .before .before .before .before .before .before .before .args .d - 1) ((c .before .before .before .before .before .before .before .before .before .before .before .before .before .before .node .result) .children) ((c .before .before .before .before .before .before .before .before .before .before .before .before .before .before .before .before .before .before .args .c .node) + 16)) (ready-term (term (tree-in (c .before .before .before .before .before .before .before .before .before .before .before .before .before .before .before .before .before .before .args .d) (c .before .before .before .before .before .before .before .before .before .before .before .before .before .before .before .before .before .before .args .b .now) (c .before .before .before .before .before .before .before .before .before .before .before .before .before .before .before .before .before .before .args .c .node))) (apply ((wholes.knows (c .before .before .before .before .before .before .before .before .before .before .before .before .before .before .before .before .before .before .args .b .now) (c .before .before .before .before .before .before .before .before .before .before .before .before .before .before .before .before .before .before .args .d) (c .before .before .before .before .before .before .before .before .before .before .before .before .before .before .before .before .before .before .args .c .node) (c .before .before .before .before .before .before .before .before .before .before .before .before .before .before .node .result) (c .before .before .before .before .before .before .before .before .before .before .before .before .before .before .node .ensures .0) (c .before .before .before .before .before .before .before .before .before .before .before .before .before .before .before .before .before .before .pre .1 .1) (omega (arith, c .before .before .before .before .before .before .before .before .before .before .before .before .if1 .left)) (c .before .before .before .before .before .before .before .before .before .before .if2 .left) (sym (c .before .before .before .before .before .before .before .before .before .chooses .ensures) ∙ c .before .before .before .before .before .before .before .before .if4 .left)) .op) (terms (kids (c .before .before .before .before .before .before .before .before .before .before .before .before .before .before .before .before .before .before .args .b .now) (c .before .before .before .before .before .before .before .before .before .before .before .before .before .before .before .before .before .before .args .d - 1) ((c .before .before .before .before .before .before .before .before .before .before .before .before .before .before .node .result) .children) ((c .before .before .before .before .before .before .before .before .before .before .before .before .before .before .before .before .before .before .args .c .node) + 16)))) (wholes.apply-is (c .before .before .before .before .before .before .before .before .before .before .before .before .before .before .before .before .before .before .args .b .now) (c .before .before .before .before .before .before .before .before .before .before .before .before .before .before .before .before .before .before .args .d) (c .before .before .before .before .before .before .before .before .before .before .before .before .before .before .before .before .before .before .args .c .node) (c .before .before .before .before .before .before .before .before .before .before .before .before .before .before .node .result) (c .before .before .before .before .before .before .before .before .before .before .before .before .before .before .node .ensures .0) (c .before .before .before .before .before .before .before .before .before .before .before .before .before .before .before .before .before .before .pre .1 .1) (omega (arith, c .before .before .before .before .before .before .before .before .before .before .before .before .if1 .left)) (c .before .before .before .before .before .before .before .before .before .before .if2 .left) (sym (c .before .before .before .before .before .before .before .before .before .chooses .ensures) ∙ c .before .before .before .before .before .before .before .before .if4 .left)) (c .before .before .before .before .before .before .before .before .before .before .before .before .before .before .before .before .before .before .pre .1 .0) ((c .before .before .before .before .before .before .before .before .before .before .before .before .before .before .before .before .before .before .args .c .node) + 16)) (c .before .before .before .before .operands .last .1 .0) (c .before .before .before .before .operands .result) (c .enum-told2 .given .0 .0) (c .enum-told2 .given .0 .1 .0) (collects.turned _ _ _ _ _ _ _ _ _ (c .enum-told2 .given .0 .0) (c .enum-told2 .given .0 .1 .0) (lists-as _ _ _ _ _ _ _ _ _ _ _ _ _ _ (c .before .before .before .before .before .before .before .takes .ensures) (c .before .before .before .before .before .before .listing .ensures) (c .before .before .before .before .operands .ensures)) (c .enum-told2 .given .1)) (c .enum-told2 .given .1))
+node-returns-7 : (t : ℕ) → node-lts.Need-returns-7 (node-calls t) (node-at t) node.Post
+node-returns-7 t c =
+    let args = c .before .before .before .before .before .before .before .before .before .before .before .before .before .before .before .before .before .before .args in
+    let pre = c .before .before .before .before .before .before .before .before .before .before .before .before .before .before .before .before .before .before .pre in
+    let node = c .before .before .before .before .before .before .before .before .before .before .before .before .before .before .node in
+    let if1 = c .before .before .before .before .before .before .before .before .before .before .before .before .if1 in
+    let if2 = c .before .before .before .before .before .before .before .before .before .before .if2 in
+    let chooses = c .before .before .before .before .before .before .before .before .before .chooses in
+    let if4 = c .before .before .before .before .before .before .before .before .if4 in
+    let takes = c .before .before .before .before .before .before .before .takes in
+    let listing = c .before .before .before .before .before .before .listing in
+    let operands = c .before .before .before .before .operands in
+    let node-gives = node .result in
+    let b = args .b .now in
+    let node2 = args .c .node in
+    let ensures = node .ensures .0 in
+    let x = node2 + 16 in
+    let given4 = c .enum-told2 .given .1 in
+    let children = node-gives .children in
+    let given3 = c .enum-told2 .given .0 .0 in
+    let given2 = c .enum-told2 .given .0 .1 .0 in
+    let sym2 = sym (chooses .ensures) ∙ if4 .left in
+    let term2 = term (tree-in (args .d) b node2) in
+    let terms2 = terms (kids b (args .d - 1) children x) in
+    let knows = wholes.knows b (args .d) node2 node-gives ensures (pre .1 .1) (omega (arith, if1 .left)) (if2 .left) sym2 in
+    let apply-is = wholes.apply-is b (args .d) node2 node-gives ensures (pre .1 .1) (omega (arith, if1 .left)) (if2 .left) sym2 in
+    let op = knows .op in
+    let apply2 = apply op terms2 in
+    as-node _ _ term2 apply2 _ _ _ _ x (args .c) _ _ _ apply-is (wholes.past-is b (args .d) node2 node-gives ensures (pre .1 .1))
+    (wholes.operands-refused (context-of (args .kinds .now) (args .l .generated)) refl op terms2 node-gives _ (past b (args .d - 1) children x) knows
+    refl (wholes.count-kids b (args .d - 1) children x) (ready-term term2 apply2 apply-is (pre .1 .0) x) (operands .last .1 .0) (operands .result)
+    given3 given2 (collects.turned _ _ _ _ _ _ _ _ _ given3 given2
+    (lists-as _ _ _ _ _ _ _ _ _ _ _ _ _ _ (takes .ensures) (listing .ensures) (operands .ensures)) given4) given4)
 
-node-finish-requires : (t : ℕ) → node-lts.Need-finish-requires (
-  node-reads.Asked,
-  node-reads.Learnt,
-  lower-leaf-reads.Asked,
-  lower-leaf-reads.Learnt,
-  link-below t,
-  link.Post,
-  chooses-reads.Asked,
-  chooses-reads.Learnt,
-  lower-below t,
-  lower.Post,
-  branch-below t,
-  branch.Post,
-  takes-reads.Asked,
-  takes-reads.Learnt,
-  listing-reads.Asked,
-  listing-reads.Learnt,
-  operands-below t,
-  operands.Post,
-  finish-reads.Asked,
-  finish-reads.Learnt,
-) (node-at t) node.Post
-node-finish-requires t c κs = (wholes.ready-finish (context-of (c .before .before .before .before .before .before .before .before .before .before .before .before .before .before .before .before .before .before .before .before .args .kinds .now) (c .before .before .before .before .before .before .before .before .before .before .before .before .before .before .before .before .before .before .before .before .args .l .generated)) refl ((wholes.knows (c .before .before .before .before .before .before .before .before .before .before .before .before .before .before .before .before .before .before .before .before .args .b .now) (c .before .before .before .before .before .before .before .before .before .before .before .before .before .before .before .before .before .before .before .before .args .d) (c .before .before .before .before .before .before .before .before .before .before .before .before .before .before .before .before .before .before .before .before .args .c .node) (c .before .before .before .before .before .before .before .before .before .before .before .before .before .before .before .before .node .result) (c .before .before .before .before .before .before .before .before .before .before .before .before .before .before .before .before .node .ensures .0) (c .before .before .before .before .before .before .before .before .before .before .before .before .before .before .before .before .before .before .before .before .pre .1 .1) (omega (arith, c .before .before .before .before .before .before .before .before .before .before .before .before .before .before .if1 .left)) (c .before .before .before .before .before .before .before .before .before .before .before .before .if2 .left) (sym (c .before .before .before .before .before .before .before .before .before .before .before .chooses .ensures) ∙ c .before .before .before .before .before .before .before .before .before .before .if4 .left)) .op) (terms (kids (c .before .before .before .before .before .before .before .before .before .before .before .before .before .before .before .before .before .before .before .before .args .b .now) (c .before .before .before .before .before .before .before .before .before .before .before .before .before .before .before .before .before .before .before .before .args .d - 1) ((c .before .before .before .before .before .before .before .before .before .before .before .before .before .before .before .before .node .result) .children) ((c .before .before .before .before .before .before .before .before .before .before .before .before .before .before .before .before .before .before .before .before .args .c .node) + 16))) (c .before .before .before .before .before .before .before .before .before .before .before .before .before .before .before .before .node .result) _ (past (c .before .before .before .before .before .before .before .before .before .before .before .before .before .before .before .before .before .before .before .before .args .b .now) (c .before .before .before .before .before .before .before .before .before .before .before .before .before .before .before .before .before .before .before .before .args .d - 1) ((c .before .before .before .before .before .before .before .before .before .before .before .before .before .before .before .before .node .result) .children) ((c .before .before .before .before .before .before .before .before .before .before .before .before .before .before .before .before .before .before .before .before .args .c .node) + 16)) (wholes.knows (c .before .before .before .before .before .before .before .before .before .before .before .before .before .before .before .before .before .before .before .before .args .b .now) (c .before .before .before .before .before .before .before .before .before .before .before .before .before .before .before .before .before .before .before .before .args .d) (c .before .before .before .before .before .before .before .before .before .before .before .before .before .before .before .before .before .before .before .before .args .c .node) (c .before .before .before .before .before .before .before .before .before .before .before .before .before .before .before .before .node .result) (c .before .before .before .before .before .before .before .before .before .before .before .before .before .before .before .before .node .ensures .0) (c .before .before .before .before .before .before .before .before .before .before .before .before .before .before .before .before .before .before .before .before .pre .1 .1) (omega (arith, c .before .before .before .before .before .before .before .before .before .before .before .before .before .before .if1 .left)) (c .before .before .before .before .before .before .before .before .before .before .before .before .if2 .left) (sym (c .before .before .before .before .before .before .before .before .before .before .before .chooses .ensures) ∙ c .before .before .before .before .before .before .before .before .before .before .if4 .left)) refl (wholes.count-kids (c .before .before .before .before .before .before .before .before .before .before .before .before .before .before .before .before .before .before .before .before .args .b .now) (c .before .before .before .before .before .before .before .before .before .before .before .before .before .before .before .before .before .before .before .before .args .d - 1) ((c .before .before .before .before .before .before .before .before .before .before .before .before .before .before .before .before .node .result) .children) ((c .before .before .before .before .before .before .before .before .before .before .before .before .before .before .before .before .before .before .before .before .args .c .node) + 16)) (ready-term (term (tree-in (c .before .before .before .before .before .before .before .before .before .before .before .before .before .before .before .before .before .before .before .before .args .d) (c .before .before .before .before .before .before .before .before .before .before .before .before .before .before .before .before .before .before .before .before .args .b .now) (c .before .before .before .before .before .before .before .before .before .before .before .before .before .before .before .before .before .before .before .before .args .c .node))) (apply ((wholes.knows (c .before .before .before .before .before .before .before .before .before .before .before .before .before .before .before .before .before .before .before .before .args .b .now) (c .before .before .before .before .before .before .before .before .before .before .before .before .before .before .before .before .before .before .before .before .args .d) (c .before .before .before .before .before .before .before .before .before .before .before .before .before .before .before .before .before .before .before .before .args .c .node) (c .before .before .before .before .before .before .before .before .before .before .before .before .before .before .before .before .node .result) (c .before .before .before .before .before .before .before .before .before .before .before .before .before .before .before .before .node .ensures .0) (c .before .before .before .before .before .before .before .before .before .before .before .before .before .before .before .before .before .before .before .before .pre .1 .1) (omega (arith, c .before .before .before .before .before .before .before .before .before .before .before .before .before .before .if1 .left)) (c .before .before .before .before .before .before .before .before .before .before .before .before .if2 .left) (sym (c .before .before .before .before .before .before .before .before .before .before .before .chooses .ensures) ∙ c .before .before .before .before .before .before .before .before .before .before .if4 .left)) .op) (terms (kids (c .before .before .before .before .before .before .before .before .before .before .before .before .before .before .before .before .before .before .before .before .args .b .now) (c .before .before .before .before .before .before .before .before .before .before .before .before .before .before .before .before .before .before .before .before .args .d - 1) ((c .before .before .before .before .before .before .before .before .before .before .before .before .before .before .before .before .node .result) .children) ((c .before .before .before .before .before .before .before .before .before .before .before .before .before .before .before .before .before .before .before .before .args .c .node) + 16)))) (wholes.apply-is (c .before .before .before .before .before .before .before .before .before .before .before .before .before .before .before .before .before .before .before .before .args .b .now) (c .before .before .before .before .before .before .before .before .before .before .before .before .before .before .before .before .before .before .before .before .args .d) (c .before .before .before .before .before .before .before .before .before .before .before .before .before .before .before .before .before .before .before .before .args .c .node) (c .before .before .before .before .before .before .before .before .before .before .before .before .before .before .before .before .node .result) (c .before .before .before .before .before .before .before .before .before .before .before .before .before .before .before .before .node .ensures .0) (c .before .before .before .before .before .before .before .before .before .before .before .before .before .before .before .before .before .before .before .before .pre .1 .1) (omega (arith, c .before .before .before .before .before .before .before .before .before .before .before .before .before .before .if1 .left)) (c .before .before .before .before .before .before .before .before .before .before .before .before .if2 .left) (sym (c .before .before .before .before .before .before .before .before .before .before .before .chooses .ensures) ∙ c .before .before .before .before .before .before .before .before .before .before .if4 .left)) (c .before .before .before .before .before .before .before .before .before .before .before .before .before .before .before .before .before .before .before .before .pre .1 .0) ((c .before .before .before .before .before .before .before .before .before .before .before .before .before .before .before .before .before .before .before .before .args .c .node) + 16)) (c .before .before .before .before .before .before .operands .last .1 .0) (c .before .before .o .given .0 .0) (c .before .before .o .given .0 .1 .0) (c .before .before .before .before .before .before .operands .kept .1 .0) (collects.collected _ _ _ _ _ _ _ _ _ (c .before .before .o .given .0 .0) (c .before .before .o .given .0 .1 .0) (lists-as _ _ _ _ _ _ _ _ _ _ _ _ _ _ (c .before .before .before .before .before .before .before .before .before .takes .ensures) (c .before .before .before .before .before .before .before .before .listing .ensures) (c .before .before .before .before .before .before .operands .ensures)) (c .before .before .o .given .1)), (wholes.knows (c .before .before .before .before .before .before .before .before .before .before .before .before .before .before .before .before .before .before .before .before .args .b .now) (c .before .before .before .before .before .before .before .before .before .before .before .before .before .before .before .before .before .before .before .before .args .d) (c .before .before .before .before .before .before .before .before .before .before .before .before .before .before .before .before .before .before .before .before .args .c .node) (c .before .before .before .before .before .before .before .before .before .before .before .before .before .before .before .before .node .result) (c .before .before .before .before .before .before .before .before .before .before .before .before .before .before .before .before .node .ensures .0) (c .before .before .before .before .before .before .before .before .before .before .before .before .before .before .before .before .before .before .before .before .pre .1 .1) (omega (arith, c .before .before .before .before .before .before .before .before .before .before .before .before .before .before .if1 .left)) (c .before .before .before .before .before .before .before .before .before .before .before .before .if2 .left) (sym (c .before .before .before .before .before .before .before .before .before .before .before .chooses .ensures) ∙ c .before .before .before .before .before .before .before .before .before .before .if4 .left)) .small, omega (arith, c .before .before .before .before .before .before .before .before .before .before .before .before .before .before .before .before .node .ensures .1, wholes.ready-operands (context-of (c .before .before .before .before .before .before .before .before .before .before .before .before .before .before .before .before .before .before .before .before .args .kinds .now) (c .before .before .before .before .before .before .before .before .before .before .before .before .before .before .before .before .before .before .before .before .args .l .generated)) refl ((wholes.knows (c .before .before .before .before .before .before .before .before .before .before .before .before .before .before .before .before .before .before .before .before .args .b .now) (c .before .before .before .before .before .before .before .before .before .before .before .before .before .before .before .before .before .before .before .before .args .d) (c .before .before .before .before .before .before .before .before .before .before .before .before .before .before .before .before .before .before .before .before .args .c .node) (c .before .before .before .before .before .before .before .before .before .before .before .before .before .before .before .before .node .result) (c .before .before .before .before .before .before .before .before .before .before .before .before .before .before .before .before .node .ensures .0) (c .before .before .before .before .before .before .before .before .before .before .before .before .before .before .before .before .before .before .before .before .pre .1 .1) (omega (arith, c .before .before .before .before .before .before .before .before .before .before .before .before .before .before .if1 .left)) (c .before .before .before .before .before .before .before .before .before .before .before .before .if2 .left) (sym (c .before .before .before .before .before .before .before .before .before .before .before .chooses .ensures) ∙ c .before .before .before .before .before .before .before .before .before .before .if4 .left)) .op) (terms (kids (c .before .before .before .before .before .before .before .before .before .before .before .before .before .before .before .before .before .before .before .before .args .b .now) (c .before .before .before .before .before .before .before .before .before .before .before .before .before .before .before .before .before .before .before .before .args .d - 1) ((c .before .before .before .before .before .before .before .before .before .before .before .before .before .before .before .before .node .result) .children) ((c .before .before .before .before .before .before .before .before .before .before .before .before .before .before .before .before .before .before .before .before .args .c .node) + 16))) (c .before .before .before .before .before .before .before .before .before .before .before .before .before .before .before .before .node .result) _ (past (c .before .before .before .before .before .before .before .before .before .before .before .before .before .before .before .before .before .before .before .before .args .b .now) (c .before .before .before .before .before .before .before .before .before .before .before .before .before .before .before .before .before .before .before .before .args .d - 1) ((c .before .before .before .before .before .before .before .before .before .before .before .before .before .before .before .before .node .result) .children) ((c .before .before .before .before .before .before .before .before .before .before .before .before .before .before .before .before .before .before .before .before .args .c .node) + 16)) (wholes.knows (c .before .before .before .before .before .before .before .before .before .before .before .before .before .before .before .before .before .before .before .before .args .b .now) (c .before .before .before .before .before .before .before .before .before .before .before .before .before .before .before .before .before .before .before .before .args .d) (c .before .before .before .before .before .before .before .before .before .before .before .before .before .before .before .before .before .before .before .before .args .c .node) (c .before .before .before .before .before .before .before .before .before .before .before .before .before .before .before .before .node .result) (c .before .before .before .before .before .before .before .before .before .before .before .before .before .before .before .before .node .ensures .0) (c .before .before .before .before .before .before .before .before .before .before .before .before .before .before .before .before .before .before .before .before .pre .1 .1) (omega (arith, c .before .before .before .before .before .before .before .before .before .before .before .before .before .before .if1 .left)) (c .before .before .before .before .before .before .before .before .before .before .before .before .if2 .left) (sym (c .before .before .before .before .before .before .before .before .before .before .before .chooses .ensures) ∙ c .before .before .before .before .before .before .before .before .before .before .if4 .left)) refl (wholes.count-kids (c .before .before .before .before .before .before .before .before .before .before .before .before .before .before .before .before .before .before .before .before .args .b .now) (c .before .before .before .before .before .before .before .before .before .before .before .before .before .before .before .before .before .before .before .before .args .d - 1) ((c .before .before .before .before .before .before .before .before .before .before .before .before .before .before .before .before .node .result) .children) ((c .before .before .before .before .before .before .before .before .before .before .before .before .before .before .before .before .before .before .before .before .args .c .node) + 16)) (ready-term (term (tree-in (c .before .before .before .before .before .before .before .before .before .before .before .before .before .before .before .before .before .before .before .before .args .d) (c .before .before .before .before .before .before .before .before .before .before .before .before .before .before .before .before .before .before .before .before .args .b .now) (c .before .before .before .before .before .before .before .before .before .before .before .before .before .before .before .before .before .before .before .before .args .c .node))) (apply ((wholes.knows (c .before .before .before .before .before .before .before .before .before .before .before .before .before .before .before .before .before .before .before .before .args .b .now) (c .before .before .before .before .before .before .before .before .before .before .before .before .before .before .before .before .before .before .before .before .args .d) (c .before .before .before .before .before .before .before .before .before .before .before .before .before .before .before .before .before .before .before .before .args .c .node) (c .before .before .before .before .before .before .before .before .before .before .before .before .before .before .before .before .node .result) (c .before .before .before .before .before .before .before .before .before .before .before .before .before .before .before .before .node .ensures .0) (c .before .before .before .before .before .before .before .before .before .before .before .before .before .before .before .before .before .before .before .before .pre .1 .1) (omega (arith, c .before .before .before .before .before .before .before .before .before .before .before .before .before .before .if1 .left)) (c .before .before .before .before .before .before .before .before .before .before .before .before .if2 .left) (sym (c .before .before .before .before .before .before .before .before .before .before .before .chooses .ensures) ∙ c .before .before .before .before .before .before .before .before .before .before .if4 .left)) .op) (terms (kids (c .before .before .before .before .before .before .before .before .before .before .before .before .before .before .before .before .before .before .before .before .args .b .now) (c .before .before .before .before .before .before .before .before .before .before .before .before .before .before .before .before .before .before .before .before .args .d - 1) ((c .before .before .before .before .before .before .before .before .before .before .before .before .before .before .before .before .node .result) .children) ((c .before .before .before .before .before .before .before .before .before .before .before .before .before .before .before .before .before .before .before .before .args .c .node) + 16)))) (wholes.apply-is (c .before .before .before .before .before .before .before .before .before .before .before .before .before .before .before .before .before .before .before .before .args .b .now) (c .before .before .before .before .before .before .before .before .before .before .before .before .before .before .before .before .before .before .before .before .args .d) (c .before .before .before .before .before .before .before .before .before .before .before .before .before .before .before .before .before .before .before .before .args .c .node) (c .before .before .before .before .before .before .before .before .before .before .before .before .before .before .before .before .node .result) (c .before .before .before .before .before .before .before .before .before .before .before .before .before .before .before .before .node .ensures .0) (c .before .before .before .before .before .before .before .before .before .before .before .before .before .before .before .before .before .before .before .before .pre .1 .1) (omega (arith, c .before .before .before .before .before .before .before .before .before .before .before .before .before .before .if1 .left)) (c .before .before .before .before .before .before .before .before .before .before .before .before .if2 .left) (sym (c .before .before .before .before .before .before .before .before .before .before .before .chooses .ensures) ∙ c .before .before .before .before .before .before .before .before .before .before .if4 .left)) (c .before .before .before .before .before .before .before .before .before .before .before .before .before .before .before .before .before .before .before .before .pre .1 .0) ((c .before .before .before .before .before .before .before .before .before .before .before .before .before .before .before .before .before .before .before .before .args .c .node) + 16)) .lists, wholes.e-entry (context-of (c .before .before .before .before .before .before .before .before .before .before .before .before .before .before .before .before .before .before .before .before .args .kinds .now) (c .before .before .before .before .before .before .before .before .before .before .before .before .before .before .before .before .before .before .before .before .args .l .generated)) refl ((wholes.knows (c .before .before .before .before .before .before .before .before .before .before .before .before .before .before .before .before .before .before .before .before .args .b .now) (c .before .before .before .before .before .before .before .before .before .before .before .before .before .before .before .before .before .before .before .before .args .d) (c .before .before .before .before .before .before .before .before .before .before .before .before .before .before .before .before .before .before .before .before .args .c .node) (c .before .before .before .before .before .before .before .before .before .before .before .before .before .before .before .before .node .result) (c .before .before .before .before .before .before .before .before .before .before .before .before .before .before .before .before .node .ensures .0) (c .before .before .before .before .before .before .before .before .before .before .before .before .before .before .before .before .before .before .before .before .pre .1 .1) (omega (arith, c .before .before .before .before .before .before .before .before .before .before .before .before .before .before .if1 .left)) (c .before .before .before .before .before .before .before .before .before .before .before .before .if2 .left) (sym (c .before .before .before .before .before .before .before .before .before .before .before .chooses .ensures) ∙ c .before .before .before .before .before .before .before .before .before .before .if4 .left)) .op) (terms (kids (c .before .before .before .before .before .before .before .before .before .before .before .before .before .before .before .before .before .before .before .before .args .b .now) (c .before .before .before .before .before .before .before .before .before .before .before .before .before .before .before .before .before .before .before .before .args .d - 1) ((c .before .before .before .before .before .before .before .before .before .before .before .before .before .before .before .before .node .result) .children) ((c .before .before .before .before .before .before .before .before .before .before .before .before .before .before .before .before .before .before .before .before .args .c .node) + 16))) (c .before .before .before .before .before .before .before .before .before .before .before .before .before .before .before .before .node .result) _ (past (c .before .before .before .before .before .before .before .before .before .before .before .before .before .before .before .before .before .before .before .before .args .b .now) (c .before .before .before .before .before .before .before .before .before .before .before .before .before .before .before .before .before .before .before .before .args .d - 1) ((c .before .before .before .before .before .before .before .before .before .before .before .before .before .before .before .before .node .result) .children) ((c .before .before .before .before .before .before .before .before .before .before .before .before .before .before .before .before .before .before .before .before .args .c .node) + 16)) (wholes.knows (c .before .before .before .before .before .before .before .before .before .before .before .before .before .before .before .before .before .before .before .before .args .b .now) (c .before .before .before .before .before .before .before .before .before .before .before .before .before .before .before .before .before .before .before .before .args .d) (c .before .before .before .before .before .before .before .before .before .before .before .before .before .before .before .before .before .before .before .before .args .c .node) (c .before .before .before .before .before .before .before .before .before .before .before .before .before .before .before .before .node .result) (c .before .before .before .before .before .before .before .before .before .before .before .before .before .before .before .before .node .ensures .0) (c .before .before .before .before .before .before .before .before .before .before .before .before .before .before .before .before .before .before .before .before .pre .1 .1) (omega (arith, c .before .before .before .before .before .before .before .before .before .before .before .before .before .before .if1 .left)) (c .before .before .before .before .before .before .before .before .before .before .before .before .if2 .left) (sym (c .before .before .before .before .before .before .before .before .before .before .before .chooses .ensures) ∙ c .before .before .before .before .before .before .before .before .before .before .if4 .left)) refl (wholes.count-kids (c .before .before .before .before .before .before .before .before .before .before .before .before .before .before .before .before .before .before .before .before .args .b .now) (c .before .before .before .before .before .before .before .before .before .before .before .before .before .before .before .before .before .before .before .before .args .d - 1) ((c .before .before .before .before .before .before .before .before .before .before .before .before .before .before .before .before .node .result) .children) ((c .before .before .before .before .before .before .before .before .before .before .before .before .before .before .before .before .before .before .before .before .args .c .node) + 16)) (ready-term (term (tree-in (c .before .before .before .before .before .before .before .before .before .before .before .before .before .before .before .before .before .before .before .before .args .d) (c .before .before .before .before .before .before .before .before .before .before .before .before .before .before .before .before .before .before .before .before .args .b .now) (c .before .before .before .before .before .before .before .before .before .before .before .before .before .before .before .before .before .before .before .before .args .c .node))) (apply ((wholes.knows (c .before .before .before .before .before .before .before .before .before .before .before .before .before .before .before .before .before .before .before .before .args .b .now) (c .before .before .before .before .before .before .before .before .before .before .before .before .before .before .before .before .before .before .before .before .args .d) (c .before .before .before .before .before .before .before .before .before .before .before .before .before .before .before .before .before .before .before .before .args .c .node) (c .before .before .before .before .before .before .before .before .before .before .before .before .before .before .before .before .node .result) (c .before .before .before .before .before .before .before .before .before .before .before .before .before .before .before .before .node .ensures .0) (c .before .before .before .before .before .before .before .before .before .before .before .before .before .before .before .before .before .before .before .before .pre .1 .1) (omega (arith, c .before .before .before .before .before .before .before .before .before .before .before .before .before .before .if1 .left)) (c .before .before .before .before .before .before .before .before .before .before .before .before .if2 .left) (sym (c .before .before .before .before .before .before .before .before .before .before .before .chooses .ensures) ∙ c .before .before .before .before .before .before .before .before .before .before .if4 .left)) .op) (terms (kids (c .before .before .before .before .before .before .before .before .before .before .before .before .before .before .before .before .before .before .before .before .args .b .now) (c .before .before .before .before .before .before .before .before .before .before .before .before .before .before .before .before .before .before .before .before .args .d - 1) ((c .before .before .before .before .before .before .before .before .before .before .before .before .before .before .before .before .node .result) .children) ((c .before .before .before .before .before .before .before .before .before .before .before .before .before .before .before .before .before .before .before .before .args .c .node) + 16)))) (wholes.apply-is (c .before .before .before .before .before .before .before .before .before .before .before .before .before .before .before .before .before .before .before .before .args .b .now) (c .before .before .before .before .before .before .before .before .before .before .before .before .before .before .before .before .before .before .before .before .args .d) (c .before .before .before .before .before .before .before .before .before .before .before .before .before .before .before .before .before .before .before .before .args .c .node) (c .before .before .before .before .before .before .before .before .before .before .before .before .before .before .before .before .node .result) (c .before .before .before .before .before .before .before .before .before .before .before .before .before .before .before .before .node .ensures .0) (c .before .before .before .before .before .before .before .before .before .before .before .before .before .before .before .before .before .before .before .before .pre .1 .1) (omega (arith, c .before .before .before .before .before .before .before .before .before .before .before .before .before .before .if1 .left)) (c .before .before .before .before .before .before .before .before .before .before .before .before .if2 .left) (sym (c .before .before .before .before .before .before .before .before .before .before .before .chooses .ensures) ∙ c .before .before .before .before .before .before .before .before .before .before .if4 .left)) (c .before .before .before .before .before .before .before .before .before .before .before .before .before .before .before .before .before .before .before .before .pre .1 .0) ((c .before .before .before .before .before .before .before .before .before .before .before .before .before .before .before .before .before .before .before .before .args .c .node) + 16)) (c .before .before .before .before .before .before .operands .last .1 .0) (c .before .before .o .given .0 .0) (c .before .before .o .given .0 .1 .0) (c .before .before .before .before .before .before .operands .kept .1 .0) (collects.collected _ _ _ _ _ _ _ _ _ (c .before .before .o .given .0 .0) (c .before .before .o .given .0 .1 .0) (lists-as _ _ _ _ _ _ _ _ _ _ _ _ _ _ (c .before .before .before .before .before .before .before .before .before .takes .ensures) (c .before .before .before .before .before .before .before .before .listing .ensures) (c .before .before .before .before .before .before .operands .ensures)) (c .before .before .o .given .1)), c .before .before .before .before .before .before .before .before .before .before .before .before .before .before .before .before .before .before .before .before .good .1 .0 .0))
+node-finish-requires : (t : ℕ) → node-lts.Need-finish-requires (node-calls t) (node-at t) node.Post
+node-finish-requires t c κs =
+    let args = c .before .before .before .before .before .before .before .before .before .before .before .before .before .before .before .before .before .before .before .before .args in
+    let pre = c .before .before .before .before .before .before .before .before .before .before .before .before .before .before .before .before .before .before .before .before .pre in
+    let good = c .before .before .before .before .before .before .before .before .before .before .before .before .before .before .before .before .before .before .before .before .good in
+    let node = c .before .before .before .before .before .before .before .before .before .before .before .before .before .before .before .before .node in
+    let if1 = c .before .before .before .before .before .before .before .before .before .before .before .before .before .before .if1 in
+    let if2 = c .before .before .before .before .before .before .before .before .before .before .before .before .if2 in
+    let chooses = c .before .before .before .before .before .before .before .before .before .before .before .chooses in
+    let if4 = c .before .before .before .before .before .before .before .before .before .before .if4 in
+    let takes = c .before .before .before .before .before .before .before .before .before .takes in
+    let listing = c .before .before .before .before .before .before .before .before .listing in
+    let operands = c .before .before .before .before .before .before .operands in
+    let o = c .before .before .o in
+    let b = args .b .now in
+    let node-gives = node .result in
+    let node2 = args .c .node in
+    let o-next = o .given .0 .1 .0 in
+    let x = node2 + 16 in
+    let children = node-gives .children in
+    let sym2 = sym (chooses .ensures) ∙ if4 .left in
+    let context = context-of (args .kinds .now) (args .l .generated) in
+    let after = past b (args .d - 1) children x in
+    let terms2 = terms (kids b (args .d - 1) children x) in
+    let count-kids = wholes.count-kids b (args .d - 1) children x in
+    let knows = wholes.knows b (args .d) node2 node-gives (node .ensures .0) (pre .1 .1) (omega (arith, if1 .left)) (if2 .left) sym2 in
+    let op = knows .op in
+    let collected = collects.collected _ _ _ _ _ _ _ _ _ (o .given .0 .0) o-next
+    (lists-as _ _ _ _ _ _ _ _ _ _ _ _ _ _ (takes .ensures) (listing .ensures) (operands .ensures)) (o .given .1) in
+    let ready-term2 = ready-term (term (tree-in (args .d) b node2)) (apply op terms2)
+    (wholes.apply-is b (args .d) node2 node-gives (node .ensures .0) (pre .1 .1) (omega (arith, if1 .left)) (if2 .left) sym2) (pre .1 .0) x in (
+      wholes.ready-finish context refl op terms2 node-gives _ after knows refl count-kids ready-term2 (operands .last .1 .0) (o .given .0 .0) o-next
+          (operands .kept .1 .0) collected,
+      knows .small,
+      omega (
+        arith,
+        node .ensures .1,
+        wholes.ready-operands context refl op terms2 node-gives _ after knows refl count-kids ready-term2 .lists,
+        wholes.e-entry context refl op terms2 node-gives _ after knows refl count-kids ready-term2 (operands .last .1 .0) (o .given .0 .0) o-next
+            (operands .kept .1 .0) collected,
+        good .1 .0 .0,
+      ),
+    )
 
-node-same-length-6 : (t : ℕ) → node-lts.Need-same-length-6 (
-  node-reads.Asked,
-  node-reads.Learnt,
-  lower-leaf-reads.Asked,
-  lower-leaf-reads.Learnt,
-  link-below t,
-  link.Post,
-  chooses-reads.Asked,
-  chooses-reads.Learnt,
-  lower-below t,
-  lower.Post,
-  branch-below t,
-  branch.Post,
-  takes-reads.Asked,
-  takes-reads.Learnt,
-  listing-reads.Asked,
-  listing-reads.Learnt,
-  operands-below t,
-  operands.Post,
-  finish-reads.Asked,
-  finish-reads.Learnt,
-) (node-at t) node.Post
+node-same-length-6 : (t : ℕ) → node-lts.Need-same-length-6 (node-calls t) (node-at t) node.Post
 node-same-length-6 t c = search needs
 
-node-returns-8 : (t : ℕ) → node-lts.Need-returns-8 (
-  node-reads.Asked,
-  node-reads.Learnt,
-  lower-leaf-reads.Asked,
-  lower-leaf-reads.Learnt,
-  link-below t,
-  link.Post,
-  chooses-reads.Asked,
-  chooses-reads.Learnt,
-  lower-below t,
-  lower.Post,
-  branch-below t,
-  branch.Post,
-  takes-reads.Asked,
-  takes-reads.Learnt,
-  listing-reads.Asked,
-  listing-reads.Learnt,
-  operands-below t,
-  operands.Post,
-  finish-reads.Asked,
-  finish-reads.Learnt,
-) (node-at t) node.Post
-node-returns-8 t c = as-node _ _ (term (tree-in (c .before .before .before .before .before .before .before .before .before .before .before .before .before .before .before .before .before .before .before .before .before .before .before .args .d) (c .before .before .before .before .before .before .before .before .before .before .before .before .before .before .before .before .before .before .before .before .before .before .before .args .b .now) (c .before .before .before .before .before .before .before .before .before .before .before .before .before .before .before .before .before .before .before .before .before .before .before .args .c .node))) (apply ((wholes.knows (c .before .before .before .before .before .before .before .before .before .before .before .before .before .before .before .before .before .before .before .before .before .before .before .args .b .now) (c .before .before .before .before .before .before .before .before .before .before .before .before .before .before .before .before .before .before .before .before .before .before .before .args .d) (c .before .before .before .before .before .before .before .before .before .before .before .before .before .before .before .before .before .before .before .before .before .before .before .args .c .node) (c .before .before .before .before .before .before .before .before .before .before .before .before .before .before .before .before .before .before .before .node .result) (c .before .before .before .before .before .before .before .before .before .before .before .before .before .before .before .before .before .before .before .node .ensures .0) (c .before .before .before .before .before .before .before .before .before .before .before .before .before .before .before .before .before .before .before .before .before .before .before .pre .1 .1) (omega (arith, c .before .before .before .before .before .before .before .before .before .before .before .before .before .before .before .before .before .if1 .left)) (c .before .before .before .before .before .before .before .before .before .before .before .before .before .before .before .if2 .left) (sym (c .before .before .before .before .before .before .before .before .before .before .before .before .before .before .chooses .ensures) ∙ c .before .before .before .before .before .before .before .before .before .before .before .before .before .if4 .left)) .op) (terms (kids (c .before .before .before .before .before .before .before .before .before .before .before .before .before .before .before .before .before .before .before .before .before .before .before .args .b .now) (c .before .before .before .before .before .before .before .before .before .before .before .before .before .before .before .before .before .before .before .before .before .before .before .args .d - 1) ((c .before .before .before .before .before .before .before .before .before .before .before .before .before .before .before .before .before .before .before .node .result) .children) ((c .before .before .before .before .before .before .before .before .before .before .before .before .before .before .before .before .before .before .before .before .before .before .before .args .c .node) + 16)))) _ _ _ _ ((c .before .before .before .before .before .before .before .before .before .before .before .before .before .before .before .before .before .before .before .before .before .before .before .args .c .node) + 16) (c .before .before .before .before .before .before .before .before .before .before .before .before .before .before .before .before .before .before .before .before .before .before .before .args .c) _ _ _ (wholes.apply-is (c .before .before .before .before .before .before .before .before .before .before .before .before .before .before .before .before .before .before .before .before .before .before .before .args .b .now) (c .before .before .before .before .before .before .before .before .before .before .before .before .before .before .before .before .before .before .before .before .before .before .before .args .d) (c .before .before .before .before .before .before .before .before .before .before .before .before .before .before .before .before .before .before .before .before .before .before .before .args .c .node) (c .before .before .before .before .before .before .before .before .before .before .before .before .before .before .before .before .before .before .before .node .result) (c .before .before .before .before .before .before .before .before .before .before .before .before .before .before .before .before .before .before .before .node .ensures .0) (c .before .before .before .before .before .before .before .before .before .before .before .before .before .before .before .before .before .before .before .before .before .before .before .pre .1 .1) (omega (arith, c .before .before .before .before .before .before .before .before .before .before .before .before .before .before .before .before .before .if1 .left)) (c .before .before .before .before .before .before .before .before .before .before .before .before .before .before .before .if2 .left) (sym (c .before .before .before .before .before .before .before .before .before .before .before .before .before .before .chooses .ensures) ∙ c .before .before .before .before .before .before .before .before .before .before .before .before .before .if4 .left)) (wholes.past-is (c .before .before .before .before .before .before .before .before .before .before .before .before .before .before .before .before .before .before .before .before .before .before .before .args .b .now) (c .before .before .before .before .before .before .before .before .before .before .before .before .before .before .before .before .before .before .before .before .before .before .before .args .d) (c .before .before .before .before .before .before .before .before .before .before .before .before .before .before .before .before .before .before .before .before .before .before .before .args .c .node) (c .before .before .before .before .before .before .before .before .before .before .before .before .before .before .before .before .before .before .before .node .result) (c .before .before .before .before .before .before .before .before .before .before .before .before .before .before .before .before .before .before .before .node .ensures .0) (c .before .before .before .before .before .before .before .before .before .before .before .before .before .before .before .before .before .before .before .before .before .before .before .pre .1 .1)) (wholes.finished (context-of (c .before .before .before .before .before .before .before .before .before .before .before .before .before .before .before .before .before .before .before .before .before .before .before .args .kinds .now) (c .before .before .before .before .before .before .before .before .before .before .before .before .before .before .before .before .before .before .before .before .before .before .before .args .l .generated)) refl ((wholes.knows (c .before .before .before .before .before .before .before .before .before .before .before .before .before .before .before .before .before .before .before .before .before .before .before .args .b .now) (c .before .before .before .before .before .before .before .before .before .before .before .before .before .before .before .before .before .before .before .before .before .before .before .args .d) (c .before .before .before .before .before .before .before .before .before .before .before .before .before .before .before .before .before .before .before .before .before .before .before .args .c .node) (c .before .before .before .before .before .before .before .before .before .before .before .before .before .before .before .before .before .before .before .node .result) (c .before .before .before .before .before .before .before .before .before .before .before .before .before .before .before .before .before .before .before .node .ensures .0) (c .before .before .before .before .before .before .before .before .before .before .before .before .before .before .before .before .before .before .before .before .before .before .before .pre .1 .1) (omega (arith, c .before .before .before .before .before .before .before .before .before .before .before .before .before .before .before .before .before .if1 .left)) (c .before .before .before .before .before .before .before .before .before .before .before .before .before .before .before .if2 .left) (sym (c .before .before .before .before .before .before .before .before .before .before .before .before .before .before .chooses .ensures) ∙ c .before .before .before .before .before .before .before .before .before .before .before .before .before .if4 .left)) .op) (terms (kids (c .before .before .before .before .before .before .before .before .before .before .before .before .before .before .before .before .before .before .before .before .before .before .before .args .b .now) (c .before .before .before .before .before .before .before .before .before .before .before .before .before .before .before .before .before .before .before .before .before .before .before .args .d - 1) ((c .before .before .before .before .before .before .before .before .before .before .before .before .before .before .before .before .before .before .before .node .result) .children) ((c .before .before .before .before .before .before .before .before .before .before .before .before .before .before .before .before .before .before .before .before .before .before .before .args .c .node) + 16))) (c .before .before .before .before .before .before .before .before .before .before .before .before .before .before .before .before .before .before .before .node .result) _ (past (c .before .before .before .before .before .before .before .before .before .before .before .before .before .before .before .before .before .before .before .before .before .before .before .args .b .now) (c .before .before .before .before .before .before .before .before .before .before .before .before .before .before .before .before .before .before .before .before .before .before .before .args .d - 1) ((c .before .before .before .before .before .before .before .before .before .before .before .before .before .before .before .before .before .before .before .node .result) .children) ((c .before .before .before .before .before .before .before .before .before .before .before .before .before .before .before .before .before .before .before .before .before .before .before .args .c .node) + 16)) (wholes.knows (c .before .before .before .before .before .before .before .before .before .before .before .before .before .before .before .before .before .before .before .before .before .before .before .args .b .now) (c .before .before .before .before .before .before .before .before .before .before .before .before .before .before .before .before .before .before .before .before .before .before .before .args .d) (c .before .before .before .before .before .before .before .before .before .before .before .before .before .before .before .before .before .before .before .before .before .before .before .args .c .node) (c .before .before .before .before .before .before .before .before .before .before .before .before .before .before .before .before .before .before .before .node .result) (c .before .before .before .before .before .before .before .before .before .before .before .before .before .before .before .before .before .before .before .node .ensures .0) (c .before .before .before .before .before .before .before .before .before .before .before .before .before .before .before .before .before .before .before .before .before .before .before .pre .1 .1) (omega (arith, c .before .before .before .before .before .before .before .before .before .before .before .before .before .before .before .before .before .if1 .left)) (c .before .before .before .before .before .before .before .before .before .before .before .before .before .before .before .if2 .left) (sym (c .before .before .before .before .before .before .before .before .before .before .before .before .before .before .chooses .ensures) ∙ c .before .before .before .before .before .before .before .before .before .before .before .before .before .if4 .left)) refl (wholes.count-kids (c .before .before .before .before .before .before .before .before .before .before .before .before .before .before .before .before .before .before .before .before .before .before .before .args .b .now) (c .before .before .before .before .before .before .before .before .before .before .before .before .before .before .before .before .before .before .before .before .before .before .before .args .d - 1) ((c .before .before .before .before .before .before .before .before .before .before .before .before .before .before .before .before .before .before .before .node .result) .children) ((c .before .before .before .before .before .before .before .before .before .before .before .before .before .before .before .before .before .before .before .before .before .before .before .args .c .node) + 16)) (ready-term (term (tree-in (c .before .before .before .before .before .before .before .before .before .before .before .before .before .before .before .before .before .before .before .before .before .before .before .args .d) (c .before .before .before .before .before .before .before .before .before .before .before .before .before .before .before .before .before .before .before .before .before .before .before .args .b .now) (c .before .before .before .before .before .before .before .before .before .before .before .before .before .before .before .before .before .before .before .before .before .before .before .args .c .node))) (apply ((wholes.knows (c .before .before .before .before .before .before .before .before .before .before .before .before .before .before .before .before .before .before .before .before .before .before .before .args .b .now) (c .before .before .before .before .before .before .before .before .before .before .before .before .before .before .before .before .before .before .before .before .before .before .before .args .d) (c .before .before .before .before .before .before .before .before .before .before .before .before .before .before .before .before .before .before .before .before .before .before .before .args .c .node) (c .before .before .before .before .before .before .before .before .before .before .before .before .before .before .before .before .before .before .before .node .result) (c .before .before .before .before .before .before .before .before .before .before .before .before .before .before .before .before .before .before .before .node .ensures .0) (c .before .before .before .before .before .before .before .before .before .before .before .before .before .before .before .before .before .before .before .before .before .before .before .pre .1 .1) (omega (arith, c .before .before .before .before .before .before .before .before .before .before .before .before .before .before .before .before .before .if1 .left)) (c .before .before .before .before .before .before .before .before .before .before .before .before .before .before .before .if2 .left) (sym (c .before .before .before .before .before .before .before .before .before .before .before .before .before .before .chooses .ensures) ∙ c .before .before .before .before .before .before .before .before .before .before .before .before .before .if4 .left)) .op) (terms (kids (c .before .before .before .before .before .before .before .before .before .before .before .before .before .before .before .before .before .before .before .before .before .before .before .args .b .now) (c .before .before .before .before .before .before .before .before .before .before .before .before .before .before .before .before .before .before .before .before .before .before .before .args .d - 1) ((c .before .before .before .before .before .before .before .before .before .before .before .before .before .before .before .before .before .before .before .node .result) .children) ((c .before .before .before .before .before .before .before .before .before .before .before .before .before .before .before .before .before .before .before .before .before .before .before .args .c .node) + 16)))) (wholes.apply-is (c .before .before .before .before .before .before .before .before .before .before .before .before .before .before .before .before .before .before .before .before .before .before .before .args .b .now) (c .before .before .before .before .before .before .before .before .before .before .before .before .before .before .before .before .before .before .before .before .before .before .before .args .d) (c .before .before .before .before .before .before .before .before .before .before .before .before .before .before .before .before .before .before .before .before .before .before .before .args .c .node) (c .before .before .before .before .before .before .before .before .before .before .before .before .before .before .before .before .before .before .before .node .result) (c .before .before .before .before .before .before .before .before .before .before .before .before .before .before .before .before .before .before .before .node .ensures .0) (c .before .before .before .before .before .before .before .before .before .before .before .before .before .before .before .before .before .before .before .before .before .before .before .pre .1 .1) (omega (arith, c .before .before .before .before .before .before .before .before .before .before .before .before .before .before .before .before .before .if1 .left)) (c .before .before .before .before .before .before .before .before .before .before .before .before .before .before .before .if2 .left) (sym (c .before .before .before .before .before .before .before .before .before .before .before .before .before .before .chooses .ensures) ∙ c .before .before .before .before .before .before .before .before .before .before .before .before .before .if4 .left)) (c .before .before .before .before .before .before .before .before .before .before .before .before .before .before .before .before .before .before .before .before .before .before .before .pre .1 .0) ((c .before .before .before .before .before .before .before .before .before .before .before .before .before .before .before .before .before .before .before .before .before .before .before .args .c .node) + 16)) (c .before .before .before .before .before .before .before .before .before .operands .last .1 .0) (c .before .before .before .before .before .o .given .0 .0) (c .before .before .before .before .before .o .given .0 .1 .0) (c .before .before .before .before .before .before .before .before .before .operands .kept .1 .0) (collects.collected _ _ _ _ _ _ _ _ _ (c .before .before .before .before .before .o .given .0 .0) (c .before .before .before .before .before .o .given .0 .1 .0) (lists-as _ _ _ _ _ _ _ _ _ _ _ _ _ _ (c .before .before .before .before .before .before .before .before .before .before .before .before .takes .ensures) (c .before .before .before .before .before .before .before .before .before .before .before .listing .ensures) (c .before .before .before .before .before .before .before .before .before .operands .ensures)) (c .before .before .before .before .before .o .given .1)) (c .before .before .finish .last .0) (c .before .before .finish .result) (c .before .before .finish .ensures))
+node-returns-8 : (t : ℕ) → node-lts.Need-returns-8 (node-calls t) (node-at t) node.Post
+node-returns-8 t c =
+    let args = c .before .before .before .before .before .before .before .before .before .before .before .before .before .before .before .before .before .before .before .before .before .before .before .args in
+    let pre = c .before .before .before .before .before .before .before .before .before .before .before .before .before .before .before .before .before .before .before .before .before .before .before .pre in
+    let node = c .before .before .before .before .before .before .before .before .before .before .before .before .before .before .before .before .before .before .before .node in
+    let if1 = c .before .before .before .before .before .before .before .before .before .before .before .before .before .before .before .before .before .if1 in
+    let if2 = c .before .before .before .before .before .before .before .before .before .before .before .before .before .before .before .if2 in
+    let chooses = c .before .before .before .before .before .before .before .before .before .before .before .before .before .before .chooses in
+    let if4 = c .before .before .before .before .before .before .before .before .before .before .before .before .before .if4 in
+    let takes = c .before .before .before .before .before .before .before .before .before .before .before .before .takes in
+    let listing = c .before .before .before .before .before .before .before .before .before .before .before .listing in
+    let operands = c .before .before .before .before .before .before .before .before .before .operands in
+    let o = c .before .before .before .before .before .o in
+    let finish = c .before .before .finish in
+    let node-gives = node .result in
+    let b = args .b .now in
+    let node2 = args .c .node in
+    let ensures = node .ensures .0 in
+    let x = node2 + 16 in
+    let children = node-gives .children in
+    let sym2 = sym (chooses .ensures) ∙ if4 .left in
+    let term2 = term (tree-in (args .d) b node2) in
+    let terms2 = terms (kids b (args .d - 1) children x) in
+    let knows = wholes.knows b (args .d) node2 node-gives ensures (pre .1 .1) (omega (arith, if1 .left)) (if2 .left) sym2 in
+    let apply-is = wholes.apply-is b (args .d) node2 node-gives ensures (pre .1 .1) (omega (arith, if1 .left)) (if2 .left) sym2 in
+    let op = knows .op in
+    let apply2 = apply op terms2 in
+    as-node _ _ term2 apply2 _ _ _ _ x (args .c) _ _ _ apply-is (wholes.past-is b (args .d) node2 node-gives ensures (pre .1 .1)) (wholes.finished
+    (context-of (args .kinds .now) (args .l .generated)) refl op terms2 node-gives _ (past b (args .d - 1) children x) knows refl
+    (wholes.count-kids b (args .d - 1) children x) (ready-term term2 apply2 apply-is (pre .1 .0) x) (operands .last .1 .0) (o .given .0 .0)
+    (o .given .0 .1 .0) (operands .kept .1 .0) (collects.collected _ _ _ _ _ _ _ _ _ (o .given .0 .0) (o .given .0 .1 .0)
+    (lists-as _ _ _ _ _ _ _ _ _ _ _ _ _ _ (takes .ensures) (listing .ensures) (operands .ensures)) (o .given .1)) (finish .last .0) (finish .result)
+    (finish .ensures))
 
-operands-no-operands-requires : (t : ℕ) → operands-lts.Need-no-operands-requires (
-  no-operands-reads.Asked,
-  no-operands-reads.Learnt,
-  lower-below t,
-  lower.Post,
-  operands-below t,
-  operands.Post,
-  same-reads.Asked,
-  same-reads.Learnt,
-  list-entry-reads.Asked,
-  list-entry-reads.Learnt,
-  all-reads.Asked,
-  all-reads.Learnt,
-  any-reads.Asked,
-  any-reads.Learnt,
-) (operands-at t) operands.Post
+operands-no-operands-requires : (t : ℕ) → operands-lts.Need-no-operands-requires (operands-calls t) (operands-at t) operands.Post
 operands-no-operands-requires t c κs = search needs
 
-operands-returns : (t : ℕ) → operands-lts.Need-returns (
-  no-operands-reads.Asked,
-  no-operands-reads.Learnt,
-  lower-below t,
-  lower.Post,
-  operands-below t,
-  operands.Post,
-  same-reads.Asked,
-  same-reads.Learnt,
-  list-entry-reads.Asked,
-  list-entry-reads.Learnt,
-  all-reads.Asked,
-  all-reads.Learnt,
-  any-reads.Asked,
-  any-reads.Learnt,
-) (operands-at t) operands.Post
-operands-returns t c = collects.none-left _ (c .before .before .before .before .before .args .i) _ (c .before .before .before .before .before .args .want) _ _ _ (c .before .before .before .before .before .args .c) (c .before .before .before .before .before .args .p .now) (past-none (c .before .before .before .before .before .args .b .now) (c .before .before .before .before .before .args .d) (c .before .before .before .before .before .args .left) (c .before .before .before .before .before .args .c .node) (c .before .if1 .taken)) ((c .before .before .before .before .before .pre .1 .0) .sound) (c .before .before .before .before .before .args .lists) _ (c .no-operands .result) (c .no-operands .ensures) (ap terms (kids-none (c .before .before .before .before .before .args .b .now) (c .before .before .before .before .before .args .d) (c .before .before .before .before .before .args .c .node) (c .before .before .before .before .before .args .left) (c .before .if1 .taken)))
+operands-returns : (t : ℕ) → operands-lts.Need-returns (operands-calls t) (operands-at t) operands.Post
+operands-returns t c =
+    let args = c .before .before .before .before .before .args in
+    collects.none-left _ (args .i) _ (args .want) _ _ _ (args .c) (args .p .now)
+    (past-none (args .b .now) (args .d) (args .left) (args .c .node) (c .before .if1 .taken))
+    ((c .before .before .before .before .before .pre .1 .0) .sound) (args .lists) _ (c .no-operands .result) (c .no-operands .ensures)
+    (ap terms (kids-none (args .b .now) (args .d) (args .c .node) (args .left) (c .before .if1 .taken)))
 
-operands-add-lower : (t : ℕ) → operands-lts.Need-add-lower (
-  no-operands-reads.Asked,
-  no-operands-reads.Learnt,
-  lower-below t,
-  lower.Post,
-  operands-below t,
-  operands.Post,
-  same-reads.Asked,
-  same-reads.Learnt,
-  list-entry-reads.Asked,
-  list-entry-reads.Learnt,
-  all-reads.Asked,
-  all-reads.Learnt,
-  any-reads.Asked,
-  any-reads.Learnt,
-) (operands-at t) operands.Post
+operands-add-lower : (t : ℕ) → operands-lts.Need-add-lower (operands-calls t) (operands-at t) operands.Post
 operands-add-lower t c = search needs
 
-operands-lower-requires : (t : ℕ) → operands-lts.Need-lower-requires (
-  no-operands-reads.Asked,
-  no-operands-reads.Learnt,
-  lower-below t,
-  lower.Post,
-  operands-below t,
-  operands.Post,
-  same-reads.Asked,
-  same-reads.Learnt,
-  list-entry-reads.Asked,
-  list-entry-reads.Learnt,
-  all-reads.Asked,
-  all-reads.Learnt,
-  any-reads.Asked,
-  any-reads.Learnt,
-) (operands-at t) operands.Post
-operands-lower-requires t c κs = (omega (arith, c .before .before .before .before .before .pre .0, c .before .if1 .left), (collects.ready-child (c .before .before .before .before .before .args .lists) (context-of (c .before .before .before .before .before .args .kinds .now) (c .before .before .before .before .before .args .l .generated)) (c .before .before .before .before .before .args .want) (arm (c .before .before .before .before .before .args .b .now) (c .before .before .before .before .before .args .d) true 1 (c .before .before .before .before .before .args .c .node)) (terms (kids (c .before .before .before .before .before .args .b .now) (c .before .before .before .before .before .args .d) (c .before .before .before .before .before .args .left - 1) (past (c .before .before .before .before .before .args .b .now) (c .before .before .before .before .before .args .d) 1 (c .before .before .before .before .before .args .c .node)))) (c .before .before .before .before .before .args .i) (past (c .before .before .before .before .before .args .b .now) (c .before .before .before .before .before .args .d) 1 (c .before .before .before .before .before .args .c .node)) (past (c .before .before .before .before .before .args .b .now) (c .before .before .before .before .before .args .d) (c .before .before .before .before .before .args .left) (c .before .before .before .before .before .args .c .node)) (operands-ready (c .before .before .before .before .before .args .b .now) (c .before .before .before .before .before .args .d) (c .before .before .before .before .before .args .left) (c .before .before .before .before .before .args .c .node) (c .before .before .before .before .before .args .lists) (c .before .before .before .before .before .args .i) (λ z. c .before .if1 .left z) (c .before .before .before .before .before .pre .1 .0)), (one-well (c .before .before .before .before .before .args .b .now) (c .before .before .before .before .before .args .d) 1 (c .before .before .before .before .before .args .c .node) refl (first-well (c .before .before .before .before .before .args .b .now) (c .before .before .before .before .before .args .d) (c .before .before .before .before .before .args .left) (c .before .before .before .before .before .args .c .node) (λ z. c .before .if1 .left z) (c .before .before .before .before .before .pre .1 .1 .0)), omega (arith, c .before .before .before .before .before .pre .1 .1 .1), omega arith)))
+operands-lower-requires : (t : ℕ) → operands-lts.Need-lower-requires (operands-calls t) (operands-at t) operands.Post
+operands-lower-requires t c κs =
+    let pre = c .before .before .before .before .before .pre in
+    let args = c .before .before .before .before .before .args in
+    let b = args .b .now in
+    let node = args .c .node in
+    let after = past b (args .d) 1 node in (
+      omega (arith, pre .0, c .before .if1 .left),
+      (
+        collects.ready-child (args .lists) (context-of (args .kinds .now) (args .l .generated)) (args .want) (arm b (args .d) true 1 node)
+            (terms (kids b (args .d) (args .left - 1) after)) (args .i) after (past b (args .d) (args .left) node)
+            (operands-ready b (args .d) (args .left) node (args .lists) (args .i) (λ z. c .before .if1 .left z) (pre .1 .0)),
+        (
+          one-well b (args .d) 1 node refl (first-well b (args .d) (args .left) node (λ z. c .before .if1 .left z) (pre .1 .1 .0)),
+          omega (arith, pre .1 .1 .1),
+          omega arith,
+        ),
+      ),
+    )
 
-operands-enum-known-a : (t : ℕ) → operands-lts.Need-enum-known-a (
-  no-operands-reads.Asked,
-  no-operands-reads.Learnt,
-  lower-below t,
-  lower.Post,
-  operands-below t,
-  operands.Post,
-  same-reads.Asked,
-  same-reads.Learnt,
-  list-entry-reads.Asked,
-  list-entry-reads.Learnt,
-  all-reads.Asked,
-  all-reads.Learnt,
-  any-reads.Asked,
-  any-reads.Learnt,
-) (operands-at t) operands.Post
+operands-enum-known-a : (t : ℕ) → operands-lts.Need-enum-known-a (operands-calls t) (operands-at t) operands.Post
 operands-enum-known-a t c = search needs
 
-operands-enum-told : (t : ℕ) → operands-lts.Need-enum-told (
-  no-operands-reads.Asked,
-  no-operands-reads.Learnt,
-  lower-below t,
-  lower.Post,
-  operands-below t,
-  operands.Post,
-  same-reads.Asked,
-  same-reads.Learnt,
-  list-entry-reads.Asked,
-  list-entry-reads.Learnt,
-  all-reads.Asked,
-  all-reads.Learnt,
-  any-reads.Asked,
-  any-reads.Learnt,
-) (operands-at t) operands.Post
+operands-enum-told : (t : ℕ) → operands-lts.Need-enum-told (operands-calls t) (operands-at t) operands.Post
 operands-enum-told t c = search needs
 
-operands-same-length : (t : ℕ) → operands-lts.Need-same-length (
-  no-operands-reads.Asked,
-  no-operands-reads.Learnt,
-  lower-below t,
-  lower.Post,
-  operands-below t,
-  operands.Post,
-  same-reads.Asked,
-  same-reads.Learnt,
-  list-entry-reads.Asked,
-  list-entry-reads.Learnt,
-  all-reads.Asked,
-  all-reads.Learnt,
-  any-reads.Asked,
-  any-reads.Learnt,
-) (operands-at t) operands.Post
+operands-same-length : (t : ℕ) → operands-lts.Need-same-length (operands-calls t) (operands-at t) operands.Post
 operands-same-length t c = search needs
 
-operands-returns-2 : (t : ℕ) → operands-lts.Need-returns-2 (
-  no-operands-reads.Asked,
-  no-operands-reads.Learnt,
-  lower-below t,
-  lower.Post,
-  operands-below t,
-  operands.Post,
-  same-reads.Asked,
-  same-reads.Learnt,
-  list-entry-reads.Asked,
-  list-entry-reads.Learnt,
-  all-reads.Asked,
-  all-reads.Learnt,
-  any-reads.Asked,
-  any-reads.Learnt,
-) (operands-at t) operands.Post
-operands-returns-2 t c = operands-as _ _ _ _ _ _ _ _ _ _ _ _ (c .before .before .before .before .before .before .before .before .before .before .args .b .now) (c .before .before .before .before .before .before .before .before .before .before .args .d) (c .before .before .before .before .before .before .before .before .before .before .args .left) (c .before .before .before .before .before .before .before .before .before .before .args .c .node) (λ z. c .before .before .before .before .before .before .if1 .left z) (collects.child-refused (c .before .before .before .before .before .before .before .before .before .before .args .lists) (context-of (c .before .before .before .before .before .before .before .before .before .before .args .kinds .now) (c .before .before .before .before .before .before .before .before .before .before .args .l .generated)) (c .before .before .before .before .before .before .before .before .before .before .args .want) (arm (c .before .before .before .before .before .before .before .before .before .before .args .b .now) (c .before .before .before .before .before .before .before .before .before .before .args .d) true 1 (c .before .before .before .before .before .before .before .before .before .before .args .c .node)) (terms (kids (c .before .before .before .before .before .before .before .before .before .before .args .b .now) (c .before .before .before .before .before .before .before .before .before .before .args .d) (c .before .before .before .before .before .before .before .before .before .before .args .left - 1) (past (c .before .before .before .before .before .before .before .before .before .before .args .b .now) (c .before .before .before .before .before .before .before .before .before .before .args .d) 1 (c .before .before .before .before .before .before .before .before .before .before .args .c .node)))) (c .before .before .before .before .before .before .before .before .before .before .args .i) (past (c .before .before .before .before .before .before .before .before .before .before .args .b .now) (c .before .before .before .before .before .before .before .before .before .before .args .d) 1 (c .before .before .before .before .before .before .before .before .before .before .args .c .node)) (past (c .before .before .before .before .before .before .before .before .before .before .args .b .now) (c .before .before .before .before .before .before .before .before .before .before .args .d) (c .before .before .before .before .before .before .before .before .before .before .args .left) (c .before .before .before .before .before .before .before .before .before .before .args .c .node)) (operands-ready (c .before .before .before .before .before .before .before .before .before .before .args .b .now) (c .before .before .before .before .before .before .before .before .before .before .args .d) (c .before .before .before .before .before .before .before .before .before .before .args .left) (c .before .before .before .before .before .before .before .before .before .before .args .c .node) (c .before .before .before .before .before .before .before .before .before .before .args .lists) (c .before .before .before .before .before .before .before .before .before .before .args .i) (λ z. c .before .before .before .before .before .before .if1 .left z) (c .before .before .before .before .before .before .before .before .before .before .pre .1 .0)) (c .before .before .before .before .lower .last .1 .0) (c .before .before .before .before .lower .result) (c .enum-told .given .0 .0) (c .enum-told .given .0 .1 .0) (refused _ _ _ _ _ _ (c .enum-told .given .0 .0) (c .enum-told .given .0 .1 .0) (at-argument _ _ _ _ (c .before .before .before .before .before .before .before .before .before .before .args .i) _ _ _ _ _ _ (c .before .before .before .before .lower .ensures)) (c .enum-told .given .1)) (c .enum-told .given .1))
+operands-returns-2 : (t : ℕ) → operands-lts.Need-returns-2 (operands-calls t) (operands-at t) operands.Post
+operands-returns-2 t c =
+    let args = c .before .before .before .before .before .before .before .before .before .before .args in
+    let pre = c .before .before .before .before .before .before .before .before .before .before .pre in
+    let if1 = c .before .before .before .before .before .before .if1 in
+    let lower = c .before .before .before .before .lower in
+    let b = args .b .now in
+    let node = args .c .node in
+    let given3 = c .enum-told .given .0 .0 in
+    let given2 = c .enum-told .given .0 .1 .0 in
+    let after = past b (args .d) 1 node in
+    operands-as _ _ _ _ _ _ _ _ _ _ _ _ b (args .d) (args .left) node (λ z. if1 .left z) (collects.child-refused (args .lists)
+    (context-of (args .kinds .now) (args .l .generated)) (args .want) (arm b (args .d) true 1 node) (terms (kids b (args .d) (args .left - 1) after))
+    (args .i) after (past b (args .d) (args .left) node)
+    (operands-ready b (args .d) (args .left) node (args .lists) (args .i) (λ z. if1 .left z) (pre .1 .0)) (lower .last .1 .0) (lower .result) given3
+    given2 (refused _ _ _ _ _ _ given3 given2 (at-argument _ _ _ _ (args .i) _ _ _ _ _ _ (lower .ensures)) (c .enum-told .given .1))
+    (c .enum-told .given .1))
 
-operands-add-operands : (t : ℕ) → operands-lts.Need-add-operands (
-  no-operands-reads.Asked,
-  no-operands-reads.Learnt,
-  lower-below t,
-  lower.Post,
-  operands-below t,
-  operands.Post,
-  same-reads.Asked,
-  same-reads.Learnt,
-  list-entry-reads.Asked,
-  list-entry-reads.Learnt,
-  all-reads.Asked,
-  all-reads.Learnt,
-  any-reads.Asked,
-  any-reads.Learnt,
-) (operands-at t) operands.Post
+operands-add-operands : (t : ℕ) → operands-lts.Need-add-operands (operands-calls t) (operands-at t) operands.Post
 operands-add-operands t c = search needs
 
-operands-sub-operands : (t : ℕ) → operands-lts.Need-sub-operands (
-  no-operands-reads.Asked,
-  no-operands-reads.Learnt,
-  lower-below t,
-  lower.Post,
-  operands-below t,
-  operands.Post,
-  same-reads.Asked,
-  same-reads.Learnt,
-  list-entry-reads.Asked,
-  list-entry-reads.Learnt,
-  all-reads.Asked,
-  all-reads.Learnt,
-  any-reads.Asked,
-  any-reads.Learnt,
-) (operands-at t) operands.Post
+operands-sub-operands : (t : ℕ) → operands-lts.Need-sub-operands (operands-calls t) (operands-at t) operands.Post
 operands-sub-operands t c = search needs
 
-operands-operands-requires : (t : ℕ) → operands-lts.Need-operands-requires (
-  no-operands-reads.Asked,
-  no-operands-reads.Learnt,
-  lower-below t,
-  lower.Post,
-  operands-below t,
-  operands.Post,
-  same-reads.Asked,
-  same-reads.Learnt,
-  list-entry-reads.Asked,
-  list-entry-reads.Learnt,
-  all-reads.Asked,
-  all-reads.Learnt,
-  any-reads.Asked,
-  any-reads.Learnt,
-) (operands-at t) operands.Post
-operands-operands-requires t c κs = (omega (arith, c .before .before .before .before .before .before .before .before .before .before .before .before .pre .0, c .before .before .before .before .before .before .before .before .if1 .left), (rest-ready (c .before .before .before .before .before .before .before .before .before .before .before .before .args .b .now) (c .before .before .before .before .before .before .before .before .before .before .before .before .args .d) (c .before .before .before .before .before .before .before .before .before .before .before .before .args .left - 1) _ _ (sym (collects.is-node (c .before .before .before .before .before .before .before .before .before .before .before .before .args .lists) (context-of (c .before .before .before .before .before .before .before .before .before .before .before .before .args .kinds .now) (c .before .before .before .before .before .before .before .before .before .before .before .before .args .l .generated)) (c .before .before .before .before .before .before .before .before .before .before .before .before .args .want) (arm (c .before .before .before .before .before .before .before .before .before .before .before .before .args .b .now) (c .before .before .before .before .before .before .before .before .before .before .before .before .args .d) true 1 (c .before .before .before .before .before .before .before .before .before .before .before .before .args .c .node)) (terms (kids (c .before .before .before .before .before .before .before .before .before .before .before .before .args .b .now) (c .before .before .before .before .before .before .before .before .before .before .before .before .args .d) (c .before .before .before .before .before .before .before .before .before .before .before .before .args .left - 1) (past (c .before .before .before .before .before .before .before .before .before .before .before .before .args .b .now) (c .before .before .before .before .before .before .before .before .before .before .before .before .args .d) 1 (c .before .before .before .before .before .before .before .before .before .before .before .before .args .c .node)))) (c .before .before .before .before .before .before .before .before .before .before .before .before .args .i) (past (c .before .before .before .before .before .before .before .before .before .before .before .before .args .b .now) (c .before .before .before .before .before .before .before .before .before .before .before .before .args .d) 1 (c .before .before .before .before .before .before .before .before .before .before .before .before .args .c .node)) (past (c .before .before .before .before .before .before .before .before .before .before .before .before .args .b .now) (c .before .before .before .before .before .before .before .before .before .before .before .before .args .d) (c .before .before .before .before .before .before .before .before .before .before .before .before .args .left) (c .before .before .before .before .before .before .before .before .before .before .before .before .args .c .node)) (operands-ready (c .before .before .before .before .before .before .before .before .before .before .before .before .args .b .now) (c .before .before .before .before .before .before .before .before .before .before .before .before .args .d) (c .before .before .before .before .before .before .before .before .before .before .before .before .args .left) (c .before .before .before .before .before .before .before .before .before .before .before .before .args .c .node) (c .before .before .before .before .before .before .before .before .before .before .before .before .args .lists) (c .before .before .before .before .before .before .before .before .before .before .before .before .args .i) (λ z. c .before .before .before .before .before .before .before .before .if1 .left z) (c .before .before .before .before .before .before .before .before .before .before .before .before .pre .1 .0)) (c .before .before .before .before .before .before .lower .last .1 .0) (c .before .before .a .given .0 .0) (c .before .before .a .given .0 .1 .0) (taken _ _ _ _ _ _ (c .before .before .a .given .0 .0) (c .before .before .a .given .0 .1 .0) (at-argument _ _ _ _ (c .before .before .before .before .before .before .before .before .before .before .before .before .args .i) _ _ _ _ _ _ (c .before .before .before .before .before .before .lower .ensures)) (c .before .before .a .given .1)))) (c .before .before .before .before .before .before .before .before .before .before .before .before .args .lists) (c .before .before .before .before .before .before .before .before .before .before .before .before .args .i) (collects.ready-rest (c .before .before .before .before .before .before .before .before .before .before .before .before .args .lists) (context-of (c .before .before .before .before .before .before .before .before .before .before .before .before .args .kinds .now) (c .before .before .before .before .before .before .before .before .before .before .before .before .args .l .generated)) (c .before .before .before .before .before .before .before .before .before .before .before .before .args .want) (arm (c .before .before .before .before .before .before .before .before .before .before .before .before .args .b .now) (c .before .before .before .before .before .before .before .before .before .before .before .before .args .d) true 1 (c .before .before .before .before .before .before .before .before .before .before .before .before .args .c .node)) (terms (kids (c .before .before .before .before .before .before .before .before .before .before .before .before .args .b .now) (c .before .before .before .before .before .before .before .before .before .before .before .before .args .d) (c .before .before .before .before .before .before .before .before .before .before .before .before .args .left - 1) (past (c .before .before .before .before .before .before .before .before .before .before .before .before .args .b .now) (c .before .before .before .before .before .before .before .before .before .before .before .before .args .d) 1 (c .before .before .before .before .before .before .before .before .before .before .before .before .args .c .node)))) (c .before .before .before .before .before .before .before .before .before .before .before .before .args .i) (past (c .before .before .before .before .before .before .before .before .before .before .before .before .args .b .now) (c .before .before .before .before .before .before .before .before .before .before .before .before .args .d) 1 (c .before .before .before .before .before .before .before .before .before .before .before .before .args .c .node)) (past (c .before .before .before .before .before .before .before .before .before .before .before .before .args .b .now) (c .before .before .before .before .before .before .before .before .before .before .before .before .args .d) (c .before .before .before .before .before .before .before .before .before .before .before .before .args .left) (c .before .before .before .before .before .before .before .before .before .before .before .before .args .c .node)) (operands-ready (c .before .before .before .before .before .before .before .before .before .before .before .before .args .b .now) (c .before .before .before .before .before .before .before .before .before .before .before .before .args .d) (c .before .before .before .before .before .before .before .before .before .before .before .before .args .left) (c .before .before .before .before .before .before .before .before .before .before .before .before .args .c .node) (c .before .before .before .before .before .before .before .before .before .before .before .before .args .lists) (c .before .before .before .before .before .before .before .before .before .before .before .before .args .i) (λ z. c .before .before .before .before .before .before .before .before .if1 .left z) (c .before .before .before .before .before .before .before .before .before .before .before .before .pre .1 .0)) (c .before .before .before .before .before .before .lower .last .1 .0) (c .before .before .a .given .0 .0) (c .before .before .a .given .0 .1 .0) (taken _ _ _ _ _ _ (c .before .before .a .given .0 .0) (c .before .before .a .given .0 .1 .0) (at-argument _ _ _ _ (c .before .before .before .before .before .before .before .before .before .before .before .before .args .i) _ _ _ _ _ _ (c .before .before .before .before .before .before .lower .ensures)) (c .before .before .a .given .1))), (rest-well-at (c .before .before .before .before .before .before .before .before .before .before .before .before .args .b .now) (c .before .before .before .before .before .before .before .before .before .before .before .before .args .d) (c .before .before .before .before .before .before .before .before .before .before .before .before .args .left) (c .before .before .before .before .before .before .before .before .before .before .before .before .args .c .node) ((c .before .before .a .given .0 .1 .0) .node) (λ z. c .before .before .before .before .before .before .before .before .if1 .left z) (c .before .before .before .before .before .before .before .before .before .before .before .before .pre .1 .1 .0) (collects.is-node (c .before .before .before .before .before .before .before .before .before .before .before .before .args .lists) (context-of (c .before .before .before .before .before .before .before .before .before .before .before .before .args .kinds .now) (c .before .before .before .before .before .before .before .before .before .before .before .before .args .l .generated)) (c .before .before .before .before .before .before .before .before .before .before .before .before .args .want) (arm (c .before .before .before .before .before .before .before .before .before .before .before .before .args .b .now) (c .before .before .before .before .before .before .before .before .before .before .before .before .args .d) true 1 (c .before .before .before .before .before .before .before .before .before .before .before .before .args .c .node)) (terms (kids (c .before .before .before .before .before .before .before .before .before .before .before .before .args .b .now) (c .before .before .before .before .before .before .before .before .before .before .before .before .args .d) (c .before .before .before .before .before .before .before .before .before .before .before .before .args .left - 1) (past (c .before .before .before .before .before .before .before .before .before .before .before .before .args .b .now) (c .before .before .before .before .before .before .before .before .before .before .before .before .args .d) 1 (c .before .before .before .before .before .before .before .before .before .before .before .before .args .c .node)))) (c .before .before .before .before .before .before .before .before .before .before .before .before .args .i) (past (c .before .before .before .before .before .before .before .before .before .before .before .before .args .b .now) (c .before .before .before .before .before .before .before .before .before .before .before .before .args .d) 1 (c .before .before .before .before .before .before .before .before .before .before .before .before .args .c .node)) (past (c .before .before .before .before .before .before .before .before .before .before .before .before .args .b .now) (c .before .before .before .before .before .before .before .before .before .before .before .before .args .d) (c .before .before .before .before .before .before .before .before .before .before .before .before .args .left) (c .before .before .before .before .before .before .before .before .before .before .before .before .args .c .node)) (operands-ready (c .before .before .before .before .before .before .before .before .before .before .before .before .args .b .now) (c .before .before .before .before .before .before .before .before .before .before .before .before .args .d) (c .before .before .before .before .before .before .before .before .before .before .before .before .args .left) (c .before .before .before .before .before .before .before .before .before .before .before .before .args .c .node) (c .before .before .before .before .before .before .before .before .before .before .before .before .args .lists) (c .before .before .before .before .before .before .before .before .before .before .before .before .args .i) (λ z. c .before .before .before .before .before .before .before .before .if1 .left z) (c .before .before .before .before .before .before .before .before .before .before .before .before .pre .1 .0)) (c .before .before .before .before .before .before .lower .last .1 .0) (c .before .before .a .given .0 .0) (c .before .before .a .given .0 .1 .0) (taken _ _ _ _ _ _ (c .before .before .a .given .0 .0) (c .before .before .a .given .0 .1 .0) (at-argument _ _ _ _ (c .before .before .before .before .before .before .before .before .before .before .before .before .args .i) _ _ _ _ _ _ (c .before .before .before .before .before .before .lower .ensures)) (c .before .before .a .given .1))), omega (arith, c .before .before .before .before .before .before .before .before .before .before .before .before .pre .1 .1 .1, c .before .before .before .before .before .before .before .before .if1 .left))))
+operands-operands-requires : (t : ℕ) → operands-lts.Need-operands-requires (operands-calls t) (operands-at t) operands.Post
+operands-operands-requires t c κs =
+    let pre = c .before .before .before .before .before .before .before .before .before .before .before .before .pre in
+    let args = c .before .before .before .before .before .before .before .before .before .before .before .before .args in
+    let if1 = c .before .before .before .before .before .before .before .before .if1 in
+    let lower = c .before .before .before .before .before .before .lower in
+    let a = c .before .before .a in
+    let lists = args .lists in
+    let b = args .b .now in
+    let node = args .c .node in
+    let a-value = a .given .0 .0 in
+    let a-next = a .given .0 .1 .0 in
+    let lower-bytes = lower .last .1 .0 in
+    let after2 = past b (args .d) 1 node in
+    let context = context-of (args .kinds .now) (args .l .generated) in
+    let whole = arm b (args .d) true 1 node in
+    let after = past b (args .d) (args .left) node in
+    let terms2 = terms (kids b (args .d) (args .left - 1) after2) in
+    let is-taken = taken _ _ _ _ _ _ a-value a-next (at-argument _ _ _ _ (args .i) _ _ _ _ _ _ (lower .ensures)) (a .given .1) in (
+      omega (arith, pre .0, if1 .left),
+      (
+        rest-ready b (args .d) (args .left - 1) _ _ (sym (collects.is-node lists context (args .want) whole terms2 (args .i) after2 after
+            (operands-ready b (args .d) (args .left) node lists (args .i) (λ z. if1 .left z) (pre .1 .0)) lower-bytes a-value a-next is-taken)) lists
+            (args .i) (collects.ready-rest lists context (args .want) whole terms2 (args .i) after2 after
+            (operands-ready b (args .d) (args .left) node lists (args .i) (λ z. if1 .left z) (pre .1 .0)) lower-bytes a-value a-next is-taken),
+        (
+          rest-well-at b (args .d) (args .left) node (a-next .node) (λ z. if1 .left z) (pre .1 .1 .0) (collects.is-node lists context (args .want)
+              whole terms2 (args .i) after2 after (operands-ready b (args .d) (args .left) node lists (args .i) (λ z. if1 .left z) (pre .1 .0))
+              lower-bytes a-value a-next is-taken),
+          omega (arith, pre .1 .1 .1, if1 .left),
+        ),
+      ),
+    )
 
-operands-enum-known-rest : (t : ℕ) → operands-lts.Need-enum-known-rest (
-  no-operands-reads.Asked,
-  no-operands-reads.Learnt,
-  lower-below t,
-  lower.Post,
-  operands-below t,
-  operands.Post,
-  same-reads.Asked,
-  same-reads.Learnt,
-  list-entry-reads.Asked,
-  list-entry-reads.Learnt,
-  all-reads.Asked,
-  all-reads.Learnt,
-  any-reads.Asked,
-  any-reads.Learnt,
-) (operands-at t) operands.Post
+operands-enum-known-rest : (t : ℕ) → operands-lts.Need-enum-known-rest (operands-calls t) (operands-at t) operands.Post
 operands-enum-known-rest t c = search needs
 
-operands-enum-told-2 : (t : ℕ) → operands-lts.Need-enum-told-2 (
-  no-operands-reads.Asked,
-  no-operands-reads.Learnt,
-  lower-below t,
-  lower.Post,
-  operands-below t,
-  operands.Post,
-  same-reads.Asked,
-  same-reads.Learnt,
-  list-entry-reads.Asked,
-  list-entry-reads.Learnt,
-  all-reads.Asked,
-  all-reads.Learnt,
-  any-reads.Asked,
-  any-reads.Learnt,
-) (operands-at t) operands.Post
+operands-enum-told-2 : (t : ℕ) → operands-lts.Need-enum-told-2 (operands-calls t) (operands-at t) operands.Post
 operands-enum-told-2 t c = search needs
 
-operands-same-length-2 : (t : ℕ) → operands-lts.Need-same-length-2 (
-  no-operands-reads.Asked,
-  no-operands-reads.Learnt,
-  lower-below t,
-  lower.Post,
-  operands-below t,
-  operands.Post,
-  same-reads.Asked,
-  same-reads.Learnt,
-  list-entry-reads.Asked,
-  list-entry-reads.Learnt,
-  all-reads.Asked,
-  all-reads.Learnt,
-  any-reads.Asked,
-  any-reads.Learnt,
-) (operands-at t) operands.Post
+operands-same-length-2 : (t : ℕ) → operands-lts.Need-same-length-2 (operands-calls t) (operands-at t) operands.Post
 operands-same-length-2 t c = search needs
 
-operands-returns-3 : (t : ℕ) → operands-lts.Need-returns-3 (
-  no-operands-reads.Asked,
-  no-operands-reads.Learnt,
-  lower-below t,
-  lower.Post,
-  operands-below t,
-  operands.Post,
-  same-reads.Asked,
-  same-reads.Learnt,
-  list-entry-reads.Asked,
-  list-entry-reads.Learnt,
-  all-reads.Asked,
-  all-reads.Learnt,
-  any-reads.Asked,
-  any-reads.Learnt,
-) (operands-at t) operands.Post
-operands-returns-3 t c = operands-as _ _ _ _ _ _ _ _ _ _ _ _ (c .before .before .before .before .before .before .before .before .before .before .before .before .before .before .before .before .before .args .b .now) (c .before .before .before .before .before .before .before .before .before .before .before .before .before .before .before .before .before .args .d) (c .before .before .before .before .before .before .before .before .before .before .before .before .before .before .before .before .before .args .left) (c .before .before .before .before .before .before .before .before .before .before .before .before .before .before .before .before .before .args .c .node) (λ z. c .before .before .before .before .before .before .before .before .before .before .before .before .before .if1 .left z) (collects.rest-refused (c .before .before .before .before .before .before .before .before .before .before .before .before .before .before .before .before .before .args .lists) (context-of (c .before .before .before .before .before .before .before .before .before .before .before .before .before .before .before .before .before .args .kinds .now) (c .before .before .before .before .before .before .before .before .before .before .before .before .before .before .before .before .before .args .l .generated)) (c .before .before .before .before .before .before .before .before .before .before .before .before .before .before .before .before .before .args .want) (arm (c .before .before .before .before .before .before .before .before .before .before .before .before .before .before .before .before .before .args .b .now) (c .before .before .before .before .before .before .before .before .before .before .before .before .before .before .before .before .before .args .d) true 1 (c .before .before .before .before .before .before .before .before .before .before .before .before .before .before .before .before .before .args .c .node)) (terms (kids (c .before .before .before .before .before .before .before .before .before .before .before .before .before .before .before .before .before .args .b .now) (c .before .before .before .before .before .before .before .before .before .before .before .before .before .before .before .before .before .args .d) (c .before .before .before .before .before .before .before .before .before .before .before .before .before .before .before .before .before .args .left - 1) (past (c .before .before .before .before .before .before .before .before .before .before .before .before .before .before .before .before .before .args .b .now) (c .before .before .before .before .before .before .before .before .before .before .before .before .before .before .before .before .before .args .d) 1 (c .before .before .before .before .before .before .before .before .before .before .before .before .before .before .before .before .before .args .c .node)))) (c .before .before .before .before .before .before .before .before .before .before .before .before .before .before .before .before .before .args .i) (past (c .before .before .before .before .before .before .before .before .before .before .before .before .before .before .before .before .before .args .b .now) (c .before .before .before .before .before .before .before .before .before .before .before .before .before .before .before .before .before .args .d) 1 (c .before .before .before .before .before .before .before .before .before .before .before .before .before .before .before .before .before .args .c .node)) (past (c .before .before .before .before .before .before .before .before .before .before .before .before .before .before .before .before .before .args .b .now) (c .before .before .before .before .before .before .before .before .before .before .before .before .before .before .before .before .before .args .d) (c .before .before .before .before .before .before .before .before .before .before .before .before .before .before .before .before .before .args .left) (c .before .before .before .before .before .before .before .before .before .before .before .before .before .before .before .before .before .args .c .node)) (operands-ready (c .before .before .before .before .before .before .before .before .before .before .before .before .before .before .before .before .before .args .b .now) (c .before .before .before .before .before .before .before .before .before .before .before .before .before .before .before .before .before .args .d) (c .before .before .before .before .before .before .before .before .before .before .before .before .before .before .before .before .before .args .left) (c .before .before .before .before .before .before .before .before .before .before .before .before .before .before .before .before .before .args .c .node) (c .before .before .before .before .before .before .before .before .before .before .before .before .before .before .before .before .before .args .lists) (c .before .before .before .before .before .before .before .before .before .before .before .before .before .before .before .before .before .args .i) (λ z. c .before .before .before .before .before .before .before .before .before .before .before .before .before .if1 .left z) (c .before .before .before .before .before .before .before .before .before .before .before .before .before .before .before .before .before .pre .1 .0)) (c .before .before .before .before .before .before .before .before .before .before .before .lower .last .1 .0) (c .before .before .before .before .before .before .before .a .given .0 .0) (c .before .before .before .before .before .before .before .a .given .0 .1 .0) (taken _ _ _ _ _ _ (c .before .before .before .before .before .before .before .a .given .0 .0) (c .before .before .before .before .before .before .before .a .given .0 .1 .0) (at-argument _ _ _ _ (c .before .before .before .before .before .before .before .before .before .before .before .before .before .before .before .before .before .args .i) _ _ _ _ _ _ (c .before .before .before .before .before .before .before .before .before .before .before .lower .ensures)) (c .before .before .before .before .before .before .before .a .given .1)) (c .before .before .before .before .operands .last .1 .0) (c .before .before .before .before .operands .result) (c .enum-told2 .given .0 .0) (c .enum-told2 .given .0 .1 .0) (collects.turned _ _ _ _ _ _ _ _ _ (c .enum-told2 .given .0 .0) (c .enum-told2 .given .0 .1 .0) (rest-as _ _ _ _ _ _ _ _ _ _ _ (c .before .before .before .before .before .before .before .before .before .before .before .before .before .before .before .before .before .args .b .now) (c .before .before .before .before .before .before .before .before .before .before .before .before .before .before .before .before .before .args .d) (c .before .before .before .before .before .before .before .before .before .before .before .before .before .before .before .before .before .args .left) (c .before .before .before .before .before .before .before .before .before .before .before .before .before .before .before .before .before .args .c .node) ((c .before .before .before .before .before .before .before .a .given .0 .1 .0) .node) (collects.is-node (c .before .before .before .before .before .before .before .before .before .before .before .before .before .before .before .before .before .args .lists) (context-of (c .before .before .before .before .before .before .before .before .before .before .before .before .before .before .before .before .before .args .kinds .now) (c .before .before .before .before .before .before .before .before .before .before .before .before .before .before .before .before .before .args .l .generated)) (c .before .before .before .before .before .before .before .before .before .before .before .before .before .before .before .before .before .args .want) (arm (c .before .before .before .before .before .before .before .before .before .before .before .before .before .before .before .before .before .args .b .now) (c .before .before .before .before .before .before .before .before .before .before .before .before .before .before .before .before .before .args .d) true 1 (c .before .before .before .before .before .before .before .before .before .before .before .before .before .before .before .before .before .args .c .node)) (terms (kids (c .before .before .before .before .before .before .before .before .before .before .before .before .before .before .before .before .before .args .b .now) (c .before .before .before .before .before .before .before .before .before .before .before .before .before .before .before .before .before .args .d) (c .before .before .before .before .before .before .before .before .before .before .before .before .before .before .before .before .before .args .left - 1) (past (c .before .before .before .before .before .before .before .before .before .before .before .before .before .before .before .before .before .args .b .now) (c .before .before .before .before .before .before .before .before .before .before .before .before .before .before .before .before .before .args .d) 1 (c .before .before .before .before .before .before .before .before .before .before .before .before .before .before .before .before .before .args .c .node)))) (c .before .before .before .before .before .before .before .before .before .before .before .before .before .before .before .before .before .args .i) (past (c .before .before .before .before .before .before .before .before .before .before .before .before .before .before .before .before .before .args .b .now) (c .before .before .before .before .before .before .before .before .before .before .before .before .before .before .before .before .before .args .d) 1 (c .before .before .before .before .before .before .before .before .before .before .before .before .before .before .before .before .before .args .c .node)) (past (c .before .before .before .before .before .before .before .before .before .before .before .before .before .before .before .before .before .args .b .now) (c .before .before .before .before .before .before .before .before .before .before .before .before .before .before .before .before .before .args .d) (c .before .before .before .before .before .before .before .before .before .before .before .before .before .before .before .before .before .args .left) (c .before .before .before .before .before .before .before .before .before .before .before .before .before .before .before .before .before .args .c .node)) (operands-ready (c .before .before .before .before .before .before .before .before .before .before .before .before .before .before .before .before .before .args .b .now) (c .before .before .before .before .before .before .before .before .before .before .before .before .before .before .before .before .before .args .d) (c .before .before .before .before .before .before .before .before .before .before .before .before .before .before .before .before .before .args .left) (c .before .before .before .before .before .before .before .before .before .before .before .before .before .before .before .before .before .args .c .node) (c .before .before .before .before .before .before .before .before .before .before .before .before .before .before .before .before .before .args .lists) (c .before .before .before .before .before .before .before .before .before .before .before .before .before .before .before .before .before .args .i) (λ z. c .before .before .before .before .before .before .before .before .before .before .before .before .before .if1 .left z) (c .before .before .before .before .before .before .before .before .before .before .before .before .before .before .before .before .before .pre .1 .0)) (c .before .before .before .before .before .before .before .before .before .before .before .lower .last .1 .0) (c .before .before .before .before .before .before .before .a .given .0 .0) (c .before .before .before .before .before .before .before .a .given .0 .1 .0) (taken _ _ _ _ _ _ (c .before .before .before .before .before .before .before .a .given .0 .0) (c .before .before .before .before .before .before .before .a .given .0 .1 .0) (at-argument _ _ _ _ (c .before .before .before .before .before .before .before .before .before .before .before .before .before .before .before .before .before .args .i) _ _ _ _ _ _ (c .before .before .before .before .before .before .before .before .before .before .before .lower .ensures)) (c .before .before .before .before .before .before .before .a .given .1))) (λ z. c .before .before .before .before .before .before .before .before .before .before .before .before .before .if1 .left z) (c .before .before .before .before .operands .ensures)) (c .enum-told2 .given .1)) (c .enum-told2 .given .1))
+operands-returns-3 : (t : ℕ) → operands-lts.Need-returns-3 (operands-calls t) (operands-at t) operands.Post
+operands-returns-3 t c =
+    let args = c .before .before .before .before .before .before .before .before .before .before .before .before .before .before .before .before .before .args in
+    let pre = c .before .before .before .before .before .before .before .before .before .before .before .before .before .before .before .before .before .pre in
+    let if1 = c .before .before .before .before .before .before .before .before .before .before .before .before .before .if1 in
+    let lower = c .before .before .before .before .before .before .before .before .before .before .before .lower in
+    let a = c .before .before .before .before .before .before .before .a in
+    let operands = c .before .before .before .before .operands in
+    let b = args .b .now in
+    let node = args .c .node in
+    let a-next = a .given .0 .1 .0 in
+    let given4 = c .enum-told2 .given .1 in
+    let given3 = c .enum-told2 .given .0 .0 in
+    let given2 = c .enum-told2 .given .0 .1 .0 in
+    let after2 = past b (args .d) 1 node in
+    let context = context-of (args .kinds .now) (args .l .generated) in
+    let whole = arm b (args .d) true 1 node in
+    let after = past b (args .d) (args .left) node in
+    let terms2 = terms (kids b (args .d) (args .left - 1) after2) in
+    let is-taken = taken _ _ _ _ _ _ (a .given .0 .0) a-next (at-argument _ _ _ _ (args .i) _ _ _ _ _ _ (lower .ensures)) (a .given .1) in
+    operands-as _ _ _ _ _ _ _ _ _ _ _ _ b (args .d) (args .left) node (λ z. if1 .left z) (collects.rest-refused (args .lists) context (args .want)
+    whole terms2 (args .i) after2 after (operands-ready b (args .d) (args .left) node (args .lists) (args .i) (λ z. if1 .left z) (pre .1 .0))
+    (lower .last .1 .0) (a .given .0 .0) a-next is-taken (operands .last .1 .0) (operands .result) given3 given2 (collects.turned _ _ _ _ _ _ _ _ _
+    given3 given2 (rest-as _ _ _ _ _ _ _ _ _ _ _ b (args .d) (args .left) node (a-next .node) (collects.is-node (args .lists) context (args .want)
+    whole terms2 (args .i) after2 after (operands-ready b (args .d) (args .left) node (args .lists) (args .i) (λ z. if1 .left z) (pre .1 .0))
+    (lower .last .1 .0) (a .given .0 .0) a-next is-taken) (λ z. if1 .left z) (operands .ensures)) given4) given4)
 
-operands-same-requires : (t : ℕ) → operands-lts.Need-same-requires (
-  no-operands-reads.Asked,
-  no-operands-reads.Learnt,
-  lower-below t,
-  lower.Post,
-  operands-below t,
-  operands.Post,
-  same-reads.Asked,
-  same-reads.Learnt,
-  list-entry-reads.Asked,
-  list-entry-reads.Learnt,
-  all-reads.Asked,
-  all-reads.Learnt,
-  any-reads.Asked,
-  any-reads.Learnt,
-) (operands-at t) operands.Post
+operands-same-requires : (t : ℕ) → operands-lts.Need-same-requires (operands-calls t) (operands-at t) operands.Post
 operands-same-requires t c κs = search needs
 
-operands-add-list-entry : (t : ℕ) → operands-lts.Need-add-list-entry (
-  no-operands-reads.Asked,
-  no-operands-reads.Learnt,
-  lower-below t,
-  lower.Post,
-  operands-below t,
-  operands.Post,
-  same-reads.Asked,
-  same-reads.Learnt,
-  list-entry-reads.Asked,
-  list-entry-reads.Learnt,
-  all-reads.Asked,
-  all-reads.Learnt,
-  any-reads.Asked,
-  any-reads.Learnt,
-) (operands-at t) operands.Post
-operands-add-list-entry t c = omega (arith, collects.entry-small (c .before .before .before .before .before .before .before .before .before .before .before .before .before .before .before .before .before .before .before .before .before .args .lists) (context-of (c .before .before .before .before .before .before .before .before .before .before .before .before .before .before .before .before .before .before .before .before .before .args .kinds .now) (c .before .before .before .before .before .before .before .before .before .before .before .before .before .before .before .before .before .before .before .before .before .args .l .generated)) (c .before .before .before .before .before .before .before .before .before .before .before .before .before .before .before .before .before .before .before .before .before .args .want) (arm (c .before .before .before .before .before .before .before .before .before .before .before .before .before .before .before .before .before .before .before .before .before .args .b .now) (c .before .before .before .before .before .before .before .before .before .before .before .before .before .before .before .before .before .before .before .before .before .args .d) true 1 (c .before .before .before .before .before .before .before .before .before .before .before .before .before .before .before .before .before .before .before .before .before .args .c .node)) (terms (kids (c .before .before .before .before .before .before .before .before .before .before .before .before .before .before .before .before .before .before .before .before .before .args .b .now) (c .before .before .before .before .before .before .before .before .before .before .before .before .before .before .before .before .before .before .before .before .before .args .d) (c .before .before .before .before .before .before .before .before .before .before .before .before .before .before .before .before .before .before .before .before .before .args .left - 1) (past (c .before .before .before .before .before .before .before .before .before .before .before .before .before .before .before .before .before .before .before .before .before .args .b .now) (c .before .before .before .before .before .before .before .before .before .before .before .before .before .before .before .before .before .before .before .before .before .args .d) 1 (c .before .before .before .before .before .before .before .before .before .before .before .before .before .before .before .before .before .before .before .before .before .args .c .node)))) (c .before .before .before .before .before .before .before .before .before .before .before .before .before .before .before .before .before .before .before .before .before .args .i) (past (c .before .before .before .before .before .before .before .before .before .before .before .before .before .before .before .before .before .before .before .before .before .args .b .now) (c .before .before .before .before .before .before .before .before .before .before .before .before .before .before .before .before .before .before .before .before .before .args .d) 1 (c .before .before .before .before .before .before .before .before .before .before .before .before .before .before .before .before .before .before .before .before .before .args .c .node)) (past (c .before .before .before .before .before .before .before .before .before .before .before .before .before .before .before .before .before .before .before .before .before .args .b .now) (c .before .before .before .before .before .before .before .before .before .before .before .before .before .before .before .before .before .before .before .before .before .args .d) (c .before .before .before .before .before .before .before .before .before .before .before .before .before .before .before .before .before .before .before .before .before .args .left) (c .before .before .before .before .before .before .before .before .before .before .before .before .before .before .before .before .before .before .before .before .before .args .c .node)) (operands-ready (c .before .before .before .before .before .before .before .before .before .before .before .before .before .before .before .before .before .before .before .before .before .args .b .now) (c .before .before .before .before .before .before .before .before .before .before .before .before .before .before .before .before .before .before .before .before .before .args .d) (c .before .before .before .before .before .before .before .before .before .before .before .before .before .before .before .before .before .before .before .before .before .args .left) (c .before .before .before .before .before .before .before .before .before .before .before .before .before .before .before .before .before .before .before .before .before .args .c .node) (c .before .before .before .before .before .before .before .before .before .before .before .before .before .before .before .before .before .before .before .before .before .args .lists) (c .before .before .before .before .before .before .before .before .before .before .before .before .before .before .before .before .before .before .before .before .before .args .i) (λ z. c .before .before .before .before .before .before .before .before .before .before .before .before .before .before .before .before .before .if1 .left z) (c .before .before .before .before .before .before .before .before .before .before .before .before .before .before .before .before .before .before .before .before .before .pre .1 .0)) (c .before .before .before .before .before .before .before .before .before .before .before .before .before .before .before .lower .last .1 .0) (c .before .before .before .before .before .before .before .before .before .before .before .a .given .0 .0) (c .before .before .before .before .before .before .before .before .before .before .before .a .given .0 .1 .0) (taken _ _ _ _ _ _ (c .before .before .before .before .before .before .before .before .before .before .before .a .given .0 .0) (c .before .before .before .before .before .before .before .before .before .before .before .a .given .0 .1 .0) (at-argument _ _ _ _ (c .before .before .before .before .before .before .before .before .before .before .before .before .before .before .before .before .before .before .before .before .before .args .i) _ _ _ _ _ _ (c .before .before .before .before .before .before .before .before .before .before .before .before .before .before .before .lower .ensures)) (c .before .before .before .before .before .before .before .before .before .before .before .a .given .1)) (c .before .before .before .before .before .before .before .before .operands .last .1 .0) (c .before .before .before .before .rest .given .0 .0) (c .before .before .before .before .rest .given .0 .1 .0) (c .before .before .before .before .before .before .before .before .operands .kept .1 .0) (collects.collected _ _ _ _ _ _ _ _ _ (c .before .before .before .before .rest .given .0 .0) (c .before .before .before .before .rest .given .0 .1 .0) (rest-as _ _ _ _ _ _ _ _ _ _ _ (c .before .before .before .before .before .before .before .before .before .before .before .before .before .before .before .before .before .before .before .before .before .args .b .now) (c .before .before .before .before .before .before .before .before .before .before .before .before .before .before .before .before .before .before .before .before .before .args .d) (c .before .before .before .before .before .before .before .before .before .before .before .before .before .before .before .before .before .before .before .before .before .args .left) (c .before .before .before .before .before .before .before .before .before .before .before .before .before .before .before .before .before .before .before .before .before .args .c .node) ((c .before .before .before .before .before .before .before .before .before .before .before .a .given .0 .1 .0) .node) (collects.is-node (c .before .before .before .before .before .before .before .before .before .before .before .before .before .before .before .before .before .before .before .before .before .args .lists) (context-of (c .before .before .before .before .before .before .before .before .before .before .before .before .before .before .before .before .before .before .before .before .before .args .kinds .now) (c .before .before .before .before .before .before .before .before .before .before .before .before .before .before .before .before .before .before .before .before .before .args .l .generated)) (c .before .before .before .before .before .before .before .before .before .before .before .before .before .before .before .before .before .before .before .before .before .args .want) (arm (c .before .before .before .before .before .before .before .before .before .before .before .before .before .before .before .before .before .before .before .before .before .args .b .now) (c .before .before .before .before .before .before .before .before .before .before .before .before .before .before .before .before .before .before .before .before .before .args .d) true 1 (c .before .before .before .before .before .before .before .before .before .before .before .before .before .before .before .before .before .before .before .before .before .args .c .node)) (terms (kids (c .before .before .before .before .before .before .before .before .before .before .before .before .before .before .before .before .before .before .before .before .before .args .b .now) (c .before .before .before .before .before .before .before .before .before .before .before .before .before .before .before .before .before .before .before .before .before .args .d) (c .before .before .before .before .before .before .before .before .before .before .before .before .before .before .before .before .before .before .before .before .before .args .left - 1) (past (c .before .before .before .before .before .before .before .before .before .before .before .before .before .before .before .before .before .before .before .before .before .args .b .now) (c .before .before .before .before .before .before .before .before .before .before .before .before .before .before .before .before .before .before .before .before .before .args .d) 1 (c .before .before .before .before .before .before .before .before .before .before .before .before .before .before .before .before .before .before .before .before .before .args .c .node)))) (c .before .before .before .before .before .before .before .before .before .before .before .before .before .before .before .before .before .before .before .before .before .args .i) (past (c .before .before .before .before .before .before .before .before .before .before .before .before .before .before .before .before .before .before .before .before .before .args .b .now) (c .before .before .before .before .before .before .before .before .before .before .before .before .before .before .before .before .before .before .before .before .before .args .d) 1 (c .before .before .before .before .before .before .before .before .before .before .before .before .before .before .before .before .before .before .before .before .before .args .c .node)) (past (c .before .before .before .before .before .before .before .before .before .before .before .before .before .before .before .before .before .before .before .before .before .args .b .now) (c .before .before .before .before .before .before .before .before .before .before .before .before .before .before .before .before .before .before .before .before .before .args .d) (c .before .before .before .before .before .before .before .before .before .before .before .before .before .before .before .before .before .before .before .before .before .args .left) (c .before .before .before .before .before .before .before .before .before .before .before .before .before .before .before .before .before .before .before .before .before .args .c .node)) (operands-ready (c .before .before .before .before .before .before .before .before .before .before .before .before .before .before .before .before .before .before .before .before .before .args .b .now) (c .before .before .before .before .before .before .before .before .before .before .before .before .before .before .before .before .before .before .before .before .before .args .d) (c .before .before .before .before .before .before .before .before .before .before .before .before .before .before .before .before .before .before .before .before .before .args .left) (c .before .before .before .before .before .before .before .before .before .before .before .before .before .before .before .before .before .before .before .before .before .args .c .node) (c .before .before .before .before .before .before .before .before .before .before .before .before .before .before .before .before .before .before .before .before .before .args .lists) (c .before .before .before .before .before .before .before .before .before .before .before .before .before .before .before .before .before .before .before .before .before .args .i) (λ z. c .before .before .before .before .before .before .before .before .before .before .before .before .before .before .before .before .before .if1 .left z) (c .before .before .before .before .before .before .before .before .before .before .before .before .before .before .before .before .before .before .before .before .before .pre .1 .0)) (c .before .before .before .before .before .before .before .before .before .before .before .before .before .before .before .lower .last .1 .0) (c .before .before .before .before .before .before .before .before .before .before .before .a .given .0 .0) (c .before .before .before .before .before .before .before .before .before .before .before .a .given .0 .1 .0) (taken _ _ _ _ _ _ (c .before .before .before .before .before .before .before .before .before .before .before .a .given .0 .0) (c .before .before .before .before .before .before .before .before .before .before .before .a .given .0 .1 .0) (at-argument _ _ _ _ (c .before .before .before .before .before .before .before .before .before .before .before .before .before .before .before .before .before .before .before .before .before .args .i) _ _ _ _ _ _ (c .before .before .before .before .before .before .before .before .before .before .before .before .before .before .before .lower .ensures)) (c .before .before .before .before .before .before .before .before .before .before .before .a .given .1))) (λ z. c .before .before .before .before .before .before .before .before .before .before .before .before .before .before .before .before .before .if1 .left z) (c .before .before .before .before .before .before .before .before .operands .ensures)) (c .before .before .before .before .rest .given .1)), c .before .before .before .before .before .before .before .before .before .before .before .before .before .before .before .before .before .before .before .before .before .pre .1 .1 .1, c .before .before .before .before .before .before .before .before .before .before .before .before .before .before .before .before .before .before .before .before .before .good .1 .0 .0)
+operands-add-list-entry : (t : ℕ) → operands-lts.Need-add-list-entry (operands-calls t) (operands-at t) operands.Post
+operands-add-list-entry t c =
+    let args = c .before .before .before .before .before .before .before .before .before .before .before .before .before .before .before .before .before .before .before .before .before .args in
+    let pre = c .before .before .before .before .before .before .before .before .before .before .before .before .before .before .before .before .before .before .before .before .before .pre in
+    let good = c .before .before .before .before .before .before .before .before .before .before .before .before .before .before .before .before .before .before .before .before .before .good in
+    let if1 = c .before .before .before .before .before .before .before .before .before .before .before .before .before .before .before .before .before .if1 in
+    let lower = c .before .before .before .before .before .before .before .before .before .before .before .before .before .before .before .lower in
+    let a = c .before .before .before .before .before .before .before .before .before .before .before .a in
+    let operands = c .before .before .before .before .before .before .before .before .operands in
+    let rest = c .before .before .before .before .rest in
+    let b = args .b .now in
+    let node = args .c .node in
+    let a-next = a .given .0 .1 .0 in
+    let after2 = past b (args .d) 1 node in
+    let context = context-of (args .kinds .now) (args .l .generated) in
+    let whole = arm b (args .d) true 1 node in
+    let after = past b (args .d) (args .left) node in
+    let terms2 = terms (kids b (args .d) (args .left - 1) after2) in
+    let is-taken = taken _ _ _ _ _ _ (a .given .0 .0) a-next (at-argument _ _ _ _ (args .i) _ _ _ _ _ _ (lower .ensures)) (a .given .1) in
+    omega (
+      arith,
+      collects.entry-small (args .lists) context (args .want) whole terms2 (args .i) after2 after
+          (operands-ready b (args .d) (args .left) node (args .lists) (args .i) (λ z. if1 .left z) (pre .1 .0)) (lower .last .1 .0) (a .given .0 .0) a-next
+          is-taken (operands .last .1 .0) (rest .given .0 .0) (rest .given .0 .1 .0) (operands .kept .1 .0) (collects.collected _ _ _ _ _ _ _ _ _
+          (rest .given .0 .0) (rest .given .0 .1 .0) (rest-as _ _ _ _ _ _ _ _ _ _ _ b (args .d) (args .left) node (a-next .node) (collects.is-node
+          (args .lists) context (args .want) whole terms2 (args .i) after2 after
+          (operands-ready b (args .d) (args .left) node (args .lists) (args .i) (λ z. if1 .left z) (pre .1 .0)) (lower .last .1 .0) (a .given .0 .0) a-next
+          is-taken) (λ z. if1 .left z) (operands .ensures)) (rest .given .1)),
+      pre .1 .1 .1,
+      good .1 .0 .0,
+    )
 
-operands-list-entry-requires : (t : ℕ) → operands-lts.Need-list-entry-requires (
-  no-operands-reads.Asked,
-  no-operands-reads.Learnt,
-  lower-below t,
-  lower.Post,
-  operands-below t,
-  operands.Post,
-  same-reads.Asked,
-  same-reads.Learnt,
-  list-entry-reads.Asked,
-  list-entry-reads.Learnt,
-  all-reads.Asked,
-  all-reads.Learnt,
-  any-reads.Asked,
-  any-reads.Learnt,
-) (operands-at t) operands.Post
-operands-list-entry-requires t c κs = collects.entry-room (c .before .before .before .before .before .before .before .before .before .before .before .before .before .before .before .before .before .before .before .before .before .args .lists) (context-of (c .before .before .before .before .before .before .before .before .before .before .before .before .before .before .before .before .before .before .before .before .before .args .kinds .now) (c .before .before .before .before .before .before .before .before .before .before .before .before .before .before .before .before .before .before .before .before .before .args .l .generated)) (c .before .before .before .before .before .before .before .before .before .before .before .before .before .before .before .before .before .before .before .before .before .args .want) (arm (c .before .before .before .before .before .before .before .before .before .before .before .before .before .before .before .before .before .before .before .before .before .args .b .now) (c .before .before .before .before .before .before .before .before .before .before .before .before .before .before .before .before .before .before .before .before .before .args .d) true 1 (c .before .before .before .before .before .before .before .before .before .before .before .before .before .before .before .before .before .before .before .before .before .args .c .node)) (terms (kids (c .before .before .before .before .before .before .before .before .before .before .before .before .before .before .before .before .before .before .before .before .before .args .b .now) (c .before .before .before .before .before .before .before .before .before .before .before .before .before .before .before .before .before .before .before .before .before .args .d) (c .before .before .before .before .before .before .before .before .before .before .before .before .before .before .before .before .before .before .before .before .before .args .left - 1) (past (c .before .before .before .before .before .before .before .before .before .before .before .before .before .before .before .before .before .before .before .before .before .args .b .now) (c .before .before .before .before .before .before .before .before .before .before .before .before .before .before .before .before .before .before .before .before .before .args .d) 1 (c .before .before .before .before .before .before .before .before .before .before .before .before .before .before .before .before .before .before .before .before .before .args .c .node)))) (c .before .before .before .before .before .before .before .before .before .before .before .before .before .before .before .before .before .before .before .before .before .args .i) (past (c .before .before .before .before .before .before .before .before .before .before .before .before .before .before .before .before .before .before .before .before .before .args .b .now) (c .before .before .before .before .before .before .before .before .before .before .before .before .before .before .before .before .before .before .before .before .before .args .d) 1 (c .before .before .before .before .before .before .before .before .before .before .before .before .before .before .before .before .before .before .before .before .before .args .c .node)) (past (c .before .before .before .before .before .before .before .before .before .before .before .before .before .before .before .before .before .before .before .before .before .args .b .now) (c .before .before .before .before .before .before .before .before .before .before .before .before .before .before .before .before .before .before .before .before .before .args .d) (c .before .before .before .before .before .before .before .before .before .before .before .before .before .before .before .before .before .before .before .before .before .args .left) (c .before .before .before .before .before .before .before .before .before .before .before .before .before .before .before .before .before .before .before .before .before .args .c .node)) (operands-ready (c .before .before .before .before .before .before .before .before .before .before .before .before .before .before .before .before .before .before .before .before .before .args .b .now) (c .before .before .before .before .before .before .before .before .before .before .before .before .before .before .before .before .before .before .before .before .before .args .d) (c .before .before .before .before .before .before .before .before .before .before .before .before .before .before .before .before .before .before .before .before .before .args .left) (c .before .before .before .before .before .before .before .before .before .before .before .before .before .before .before .before .before .before .before .before .before .args .c .node) (c .before .before .before .before .before .before .before .before .before .before .before .before .before .before .before .before .before .before .before .before .before .args .lists) (c .before .before .before .before .before .before .before .before .before .before .before .before .before .before .before .before .before .before .before .before .before .args .i) (λ z. c .before .before .before .before .before .before .before .before .before .before .before .before .before .before .before .before .before .if1 .left z) (c .before .before .before .before .before .before .before .before .before .before .before .before .before .before .before .before .before .before .before .before .before .pre .1 .0)) (c .before .before .before .before .before .before .before .before .before .before .before .before .before .before .before .lower .last .1 .0) (c .before .before .before .before .before .before .before .before .before .before .before .a .given .0 .0) (c .before .before .before .before .before .before .before .before .before .before .before .a .given .0 .1 .0) (taken _ _ _ _ _ _ (c .before .before .before .before .before .before .before .before .before .before .before .a .given .0 .0) (c .before .before .before .before .before .before .before .before .before .before .before .a .given .0 .1 .0) (at-argument _ _ _ _ (c .before .before .before .before .before .before .before .before .before .before .before .before .before .before .before .before .before .before .before .before .before .args .i) _ _ _ _ _ _ (c .before .before .before .before .before .before .before .before .before .before .before .before .before .before .before .lower .ensures)) (c .before .before .before .before .before .before .before .before .before .before .before .a .given .1)) (c .before .before .before .before .before .before .before .before .operands .last .1 .0) (c .before .before .before .before .rest .given .0 .0) (c .before .before .before .before .rest .given .0 .1 .0) (c .before .before .before .before .before .before .before .before .operands .kept .1 .0) (collects.collected _ _ _ _ _ _ _ _ _ (c .before .before .before .before .rest .given .0 .0) (c .before .before .before .before .rest .given .0 .1 .0) (rest-as _ _ _ _ _ _ _ _ _ _ _ (c .before .before .before .before .before .before .before .before .before .before .before .before .before .before .before .before .before .before .before .before .before .args .b .now) (c .before .before .before .before .before .before .before .before .before .before .before .before .before .before .before .before .before .before .before .before .before .args .d) (c .before .before .before .before .before .before .before .before .before .before .before .before .before .before .before .before .before .before .before .before .before .args .left) (c .before .before .before .before .before .before .before .before .before .before .before .before .before .before .before .before .before .before .before .before .before .args .c .node) ((c .before .before .before .before .before .before .before .before .before .before .before .a .given .0 .1 .0) .node) (collects.is-node (c .before .before .before .before .before .before .before .before .before .before .before .before .before .before .before .before .before .before .before .before .before .args .lists) (context-of (c .before .before .before .before .before .before .before .before .before .before .before .before .before .before .before .before .before .before .before .before .before .args .kinds .now) (c .before .before .before .before .before .before .before .before .before .before .before .before .before .before .before .before .before .before .before .before .before .args .l .generated)) (c .before .before .before .before .before .before .before .before .before .before .before .before .before .before .before .before .before .before .before .before .before .args .want) (arm (c .before .before .before .before .before .before .before .before .before .before .before .before .before .before .before .before .before .before .before .before .before .args .b .now) (c .before .before .before .before .before .before .before .before .before .before .before .before .before .before .before .before .before .before .before .before .before .args .d) true 1 (c .before .before .before .before .before .before .before .before .before .before .before .before .before .before .before .before .before .before .before .before .before .args .c .node)) (terms (kids (c .before .before .before .before .before .before .before .before .before .before .before .before .before .before .before .before .before .before .before .before .before .args .b .now) (c .before .before .before .before .before .before .before .before .before .before .before .before .before .before .before .before .before .before .before .before .before .args .d) (c .before .before .before .before .before .before .before .before .before .before .before .before .before .before .before .before .before .before .before .before .before .args .left - 1) (past (c .before .before .before .before .before .before .before .before .before .before .before .before .before .before .before .before .before .before .before .before .before .args .b .now) (c .before .before .before .before .before .before .before .before .before .before .before .before .before .before .before .before .before .before .before .before .before .args .d) 1 (c .before .before .before .before .before .before .before .before .before .before .before .before .before .before .before .before .before .before .before .before .before .args .c .node)))) (c .before .before .before .before .before .before .before .before .before .before .before .before .before .before .before .before .before .before .before .before .before .args .i) (past (c .before .before .before .before .before .before .before .before .before .before .before .before .before .before .before .before .before .before .before .before .before .args .b .now) (c .before .before .before .before .before .before .before .before .before .before .before .before .before .before .before .before .before .before .before .before .before .args .d) 1 (c .before .before .before .before .before .before .before .before .before .before .before .before .before .before .before .before .before .before .before .before .before .args .c .node)) (past (c .before .before .before .before .before .before .before .before .before .before .before .before .before .before .before .before .before .before .before .before .before .args .b .now) (c .before .before .before .before .before .before .before .before .before .before .before .before .before .before .before .before .before .before .before .before .before .args .d) (c .before .before .before .before .before .before .before .before .before .before .before .before .before .before .before .before .before .before .before .before .before .args .left) (c .before .before .before .before .before .before .before .before .before .before .before .before .before .before .before .before .before .before .before .before .before .args .c .node)) (operands-ready (c .before .before .before .before .before .before .before .before .before .before .before .before .before .before .before .before .before .before .before .before .before .args .b .now) (c .before .before .before .before .before .before .before .before .before .before .before .before .before .before .before .before .before .before .before .before .before .args .d) (c .before .before .before .before .before .before .before .before .before .before .before .before .before .before .before .before .before .before .before .before .before .args .left) (c .before .before .before .before .before .before .before .before .before .before .before .before .before .before .before .before .before .before .before .before .before .args .c .node) (c .before .before .before .before .before .before .before .before .before .before .before .before .before .before .before .before .before .before .before .before .before .args .lists) (c .before .before .before .before .before .before .before .before .before .before .before .before .before .before .before .before .before .before .before .before .before .args .i) (λ z. c .before .before .before .before .before .before .before .before .before .before .before .before .before .before .before .before .before .if1 .left z) (c .before .before .before .before .before .before .before .before .before .before .before .before .before .before .before .before .before .before .before .before .before .pre .1 .0)) (c .before .before .before .before .before .before .before .before .before .before .before .before .before .before .before .lower .last .1 .0) (c .before .before .before .before .before .before .before .before .before .before .before .a .given .0 .0) (c .before .before .before .before .before .before .before .before .before .before .before .a .given .0 .1 .0) (taken _ _ _ _ _ _ (c .before .before .before .before .before .before .before .before .before .before .before .a .given .0 .0) (c .before .before .before .before .before .before .before .before .before .before .before .a .given .0 .1 .0) (at-argument _ _ _ _ (c .before .before .before .before .before .before .before .before .before .before .before .before .before .before .before .before .before .before .before .before .before .args .i) _ _ _ _ _ _ (c .before .before .before .before .before .before .before .before .before .before .before .before .before .before .before .lower .ensures)) (c .before .before .before .before .before .before .before .before .before .before .before .a .given .1))) (λ z. c .before .before .before .before .before .before .before .before .before .before .before .before .before .before .before .before .before .if1 .left z) (c .before .before .before .before .before .before .before .before .operands .ensures)) (c .before .before .before .before .rest .given .1))
+operands-list-entry-requires : (t : ℕ) → operands-lts.Need-list-entry-requires (operands-calls t) (operands-at t) operands.Post
+operands-list-entry-requires t c κs =
+    let args = c .before .before .before .before .before .before .before .before .before .before .before .before .before .before .before .before .before .before .before .before .before .args in
+    let pre = c .before .before .before .before .before .before .before .before .before .before .before .before .before .before .before .before .before .before .before .before .before .pre in
+    let if1 = c .before .before .before .before .before .before .before .before .before .before .before .before .before .before .before .before .before .if1 in
+    let lower = c .before .before .before .before .before .before .before .before .before .before .before .before .before .before .before .lower in
+    let a = c .before .before .before .before .before .before .before .before .before .before .before .a in
+    let operands = c .before .before .before .before .before .before .before .before .operands in
+    let rest = c .before .before .before .before .rest in
+    let b = args .b .now in
+    let node = args .c .node in
+    let a-next = a .given .0 .1 .0 in
+    let after2 = past b (args .d) 1 node in
+    let context = context-of (args .kinds .now) (args .l .generated) in
+    let whole = arm b (args .d) true 1 node in
+    let after = past b (args .d) (args .left) node in
+    let terms2 = terms (kids b (args .d) (args .left - 1) after2) in
+    let is-taken = taken _ _ _ _ _ _ (a .given .0 .0) a-next (at-argument _ _ _ _ (args .i) _ _ _ _ _ _ (lower .ensures)) (a .given .1) in
+    collects.entry-room (args .lists) context (args .want) whole terms2 (args .i) after2 after
+    (operands-ready b (args .d) (args .left) node (args .lists) (args .i) (λ z. if1 .left z) (pre .1 .0)) (lower .last .1 .0) (a .given .0 .0) a-next
+    is-taken (operands .last .1 .0) (rest .given .0 .0) (rest .given .0 .1 .0) (operands .kept .1 .0) (collects.collected _ _ _ _ _ _ _ _ _
+    (rest .given .0 .0) (rest .given .0 .1 .0) (rest-as _ _ _ _ _ _ _ _ _ _ _ b (args .d) (args .left) node (a-next .node) (collects.is-node
+    (args .lists) context (args .want) whole terms2 (args .i) after2 after
+    (operands-ready b (args .d) (args .left) node (args .lists) (args .i) (λ z. if1 .left z) (pre .1 .0)) (lower .last .1 .0) (a .given .0 .0) a-next
+    is-taken) (λ z. if1 .left z) (operands .ensures)) (rest .given .1))
 
-operands-all-requires : (t : ℕ) → operands-lts.Need-all-requires (
-  no-operands-reads.Asked,
-  no-operands-reads.Learnt,
-  lower-below t,
-  lower.Post,
-  operands-below t,
-  operands.Post,
-  same-reads.Asked,
-  same-reads.Learnt,
-  list-entry-reads.Asked,
-  list-entry-reads.Learnt,
-  all-reads.Asked,
-  all-reads.Learnt,
-  any-reads.Asked,
-  any-reads.Learnt,
-) (operands-at t) operands.Post
+operands-all-requires : (t : ℕ) → operands-lts.Need-all-requires (operands-calls t) (operands-at t) operands.Post
 operands-all-requires t c κs = search needs
 
-operands-any-requires : (t : ℕ) → operands-lts.Need-any-requires (
-  no-operands-reads.Asked,
-  no-operands-reads.Learnt,
-  lower-below t,
-  lower.Post,
-  operands-below t,
-  operands.Post,
-  same-reads.Asked,
-  same-reads.Learnt,
-  list-entry-reads.Asked,
-  list-entry-reads.Learnt,
-  all-reads.Asked,
-  all-reads.Learnt,
-  any-reads.Asked,
-  any-reads.Learnt,
-) (operands-at t) operands.Post
+operands-any-requires : (t : ℕ) → operands-lts.Need-any-requires (operands-calls t) (operands-at t) operands.Post
 operands-any-requires t c κs = search needs
 
-operands-same-length-3 : (t : ℕ) → operands-lts.Need-same-length-3 (
-  no-operands-reads.Asked,
-  no-operands-reads.Learnt,
-  lower-below t,
-  lower.Post,
-  operands-below t,
-  operands.Post,
-  same-reads.Asked,
-  same-reads.Learnt,
-  list-entry-reads.Asked,
-  list-entry-reads.Learnt,
-  all-reads.Asked,
-  all-reads.Learnt,
-  any-reads.Asked,
-  any-reads.Learnt,
-) (operands-at t) operands.Post
-operands-same-length-3 t c = omega (arith, c .before .before .before .before .list-entry .kept .0, c .before .before .before .before .before .before .before .before .before .before .before .before .before .operands .kept .1 .0, c .before .before .before .before .before .before .before .before .before .before .before .before .before .before .before .before .before .before .before .before .lower .kept .1 .0)
+operands-same-length-3 : (t : ℕ) → operands-lts.Need-same-length-3 (operands-calls t) (operands-at t) operands.Post
+operands-same-length-3 t c =
+    let lower = c .before .before .before .before .before .before .before .before .before .before .before .before .before .before .before .before .before .before .before .before .lower in
+    let operands = c .before .before .before .before .before .before .before .before .before .before .before .before .before .operands in
+    omega (arith, c .before .before .before .before .list-entry .kept .0, operands .kept .1 .0, lower .kept .1 .0)
 
-operands-returns-4 : (t : ℕ) → operands-lts.Need-returns-4 (
-  no-operands-reads.Asked,
-  no-operands-reads.Learnt,
-  lower-below t,
-  lower.Post,
-  operands-below t,
-  operands.Post,
-  same-reads.Asked,
-  same-reads.Learnt,
-  list-entry-reads.Asked,
-  list-entry-reads.Learnt,
-  all-reads.Asked,
-  all-reads.Learnt,
-  any-reads.Asked,
-  any-reads.Learnt,
-) (operands-at t) operands.Post
-operands-returns-4 t c = operands-as _ _ _ _ _ _ _ _ _ _ _ _ (c .before .before .before .before .before .before .before .before .before .before .before .before .before .before .before .before .before .before .before .before .before .before .before .before .before .before .args .b .now) (c .before .before .before .before .before .before .before .before .before .before .before .before .before .before .before .before .before .before .before .before .before .before .before .before .before .before .args .d) (c .before .before .before .before .before .before .before .before .before .before .before .before .before .before .before .before .before .before .before .before .before .before .before .before .before .before .args .left) (c .before .before .before .before .before .before .before .before .before .before .before .before .before .before .before .before .before .before .before .before .before .before .before .before .before .before .args .c .node) (λ z. c .before .before .before .before .before .before .before .before .before .before .before .before .before .before .before .before .before .before .before .before .before .before .if1 .left z) (collects.all-collected (c .before .before .before .before .before .before .before .before .before .before .before .before .before .before .before .before .before .before .before .before .before .before .before .before .before .before .args .lists) (context-of (c .before .before .before .before .before .before .before .before .before .before .before .before .before .before .before .before .before .before .before .before .before .before .before .before .before .before .args .kinds .now) (c .before .before .before .before .before .before .before .before .before .before .before .before .before .before .before .before .before .before .before .before .before .before .before .before .before .before .args .l .generated)) (c .before .before .before .before .before .before .before .before .before .before .before .before .before .before .before .before .before .before .before .before .before .before .before .before .before .before .args .want) (arm (c .before .before .before .before .before .before .before .before .before .before .before .before .before .before .before .before .before .before .before .before .before .before .before .before .before .before .args .b .now) (c .before .before .before .before .before .before .before .before .before .before .before .before .before .before .before .before .before .before .before .before .before .before .before .before .before .before .args .d) true 1 (c .before .before .before .before .before .before .before .before .before .before .before .before .before .before .before .before .before .before .before .before .before .before .before .before .before .before .args .c .node)) (terms (kids (c .before .before .before .before .before .before .before .before .before .before .before .before .before .before .before .before .before .before .before .before .before .before .before .before .before .before .args .b .now) (c .before .before .before .before .before .before .before .before .before .before .before .before .before .before .before .before .before .before .before .before .before .before .before .before .before .before .args .d) (c .before .before .before .before .before .before .before .before .before .before .before .before .before .before .before .before .before .before .before .before .before .before .before .before .before .before .args .left - 1) (past (c .before .before .before .before .before .before .before .before .before .before .before .before .before .before .before .before .before .before .before .before .before .before .before .before .before .before .args .b .now) (c .before .before .before .before .before .before .before .before .before .before .before .before .before .before .before .before .before .before .before .before .before .before .before .before .before .before .args .d) 1 (c .before .before .before .before .before .before .before .before .before .before .before .before .before .before .before .before .before .before .before .before .before .before .before .before .before .before .args .c .node)))) (c .before .before .before .before .before .before .before .before .before .before .before .before .before .before .before .before .before .before .before .before .before .before .before .before .before .before .args .i) (past (c .before .before .before .before .before .before .before .before .before .before .before .before .before .before .before .before .before .before .before .before .before .before .before .before .before .before .args .b .now) (c .before .before .before .before .before .before .before .before .before .before .before .before .before .before .before .before .before .before .before .before .before .before .before .before .before .before .args .d) 1 (c .before .before .before .before .before .before .before .before .before .before .before .before .before .before .before .before .before .before .before .before .before .before .before .before .before .before .args .c .node)) (past (c .before .before .before .before .before .before .before .before .before .before .before .before .before .before .before .before .before .before .before .before .before .before .before .before .before .before .args .b .now) (c .before .before .before .before .before .before .before .before .before .before .before .before .before .before .before .before .before .before .before .before .before .before .before .before .before .before .args .d) (c .before .before .before .before .before .before .before .before .before .before .before .before .before .before .before .before .before .before .before .before .before .before .before .before .before .before .args .left) (c .before .before .before .before .before .before .before .before .before .before .before .before .before .before .before .before .before .before .before .before .before .before .before .before .before .before .args .c .node)) (operands-ready (c .before .before .before .before .before .before .before .before .before .before .before .before .before .before .before .before .before .before .before .before .before .before .before .before .before .before .args .b .now) (c .before .before .before .before .before .before .before .before .before .before .before .before .before .before .before .before .before .before .before .before .before .before .before .before .before .before .args .d) (c .before .before .before .before .before .before .before .before .before .before .before .before .before .before .before .before .before .before .before .before .before .before .before .before .before .before .args .left) (c .before .before .before .before .before .before .before .before .before .before .before .before .before .before .before .before .before .before .before .before .before .before .before .before .before .before .args .c .node) (c .before .before .before .before .before .before .before .before .before .before .before .before .before .before .before .before .before .before .before .before .before .before .before .before .before .before .args .lists) (c .before .before .before .before .before .before .before .before .before .before .before .before .before .before .before .before .before .before .before .before .before .before .before .before .before .before .args .i) (λ z. c .before .before .before .before .before .before .before .before .before .before .before .before .before .before .before .before .before .before .before .before .before .before .if1 .left z) (c .before .before .before .before .before .before .before .before .before .before .before .before .before .before .before .before .before .before .before .before .before .before .before .before .before .before .pre .1 .0)) (c .before .before .before .before .before .before .before .before .before .before .before .before .before .before .before .before .before .before .before .before .lower .last .1 .0) (c .before .before .before .before .before .before .before .before .before .before .before .before .before .before .before .before .a .given .0 .0) (c .before .before .before .before .before .before .before .before .before .before .before .before .before .before .before .before .a .given .0 .1 .0) (taken _ _ _ _ _ _ (c .before .before .before .before .before .before .before .before .before .before .before .before .before .before .before .before .a .given .0 .0) (c .before .before .before .before .before .before .before .before .before .before .before .before .before .before .before .before .a .given .0 .1 .0) (at-argument _ _ _ _ (c .before .before .before .before .before .before .before .before .before .before .before .before .before .before .before .before .before .before .before .before .before .before .before .before .before .before .args .i) _ _ _ _ _ _ (c .before .before .before .before .before .before .before .before .before .before .before .before .before .before .before .before .before .before .before .before .lower .ensures)) (c .before .before .before .before .before .before .before .before .before .before .before .before .before .before .before .before .a .given .1)) (c .before .before .before .before .before .before .before .before .before .before .before .before .before .operands .last .1 .0) (c .before .before .before .before .before .before .before .before .before .rest .given .0 .0) (c .before .before .before .before .before .before .before .before .before .rest .given .0 .1 .0) (c .before .before .before .before .before .before .before .before .before .before .before .before .before .operands .kept .1 .0) (collects.collected _ _ _ _ _ _ _ _ _ (c .before .before .before .before .before .before .before .before .before .rest .given .0 .0) (c .before .before .before .before .before .before .before .before .before .rest .given .0 .1 .0) (rest-as _ _ _ _ _ _ _ _ _ _ _ (c .before .before .before .before .before .before .before .before .before .before .before .before .before .before .before .before .before .before .before .before .before .before .before .before .before .before .args .b .now) (c .before .before .before .before .before .before .before .before .before .before .before .before .before .before .before .before .before .before .before .before .before .before .before .before .before .before .args .d) (c .before .before .before .before .before .before .before .before .before .before .before .before .before .before .before .before .before .before .before .before .before .before .before .before .before .before .args .left) (c .before .before .before .before .before .before .before .before .before .before .before .before .before .before .before .before .before .before .before .before .before .before .before .before .before .before .args .c .node) ((c .before .before .before .before .before .before .before .before .before .before .before .before .before .before .before .before .a .given .0 .1 .0) .node) (collects.is-node (c .before .before .before .before .before .before .before .before .before .before .before .before .before .before .before .before .before .before .before .before .before .before .before .before .before .before .args .lists) (context-of (c .before .before .before .before .before .before .before .before .before .before .before .before .before .before .before .before .before .before .before .before .before .before .before .before .before .before .args .kinds .now) (c .before .before .before .before .before .before .before .before .before .before .before .before .before .before .before .before .before .before .before .before .before .before .before .before .before .before .args .l .generated)) (c .before .before .before .before .before .before .before .before .before .before .before .before .before .before .before .before .before .before .before .before .before .before .before .before .before .before .args .want) (arm (c .before .before .before .before .before .before .before .before .before .before .before .before .before .before .before .before .before .before .before .before .before .before .before .before .before .before .args .b .now) (c .before .before .before .before .before .before .before .before .before .before .before .before .before .before .before .before .before .before .before .before .before .before .before .before .before .before .args .d) true 1 (c .before .before .before .before .before .before .before .before .before .before .before .before .before .before .before .before .before .before .before .before .before .before .before .before .before .before .args .c .node)) (terms (kids (c .before .before .before .before .before .before .before .before .before .before .before .before .before .before .before .before .before .before .before .before .before .before .before .before .before .before .args .b .now) (c .before .before .before .before .before .before .before .before .before .before .before .before .before .before .before .before .before .before .before .before .before .before .before .before .before .before .args .d) (c .before .before .before .before .before .before .before .before .before .before .before .before .before .before .before .before .before .before .before .before .before .before .before .before .before .before .args .left - 1) (past (c .before .before .before .before .before .before .before .before .before .before .before .before .before .before .before .before .before .before .before .before .before .before .before .before .before .before .args .b .now) (c .before .before .before .before .before .before .before .before .before .before .before .before .before .before .before .before .before .before .before .before .before .before .before .before .before .before .args .d) 1 (c .before .before .before .before .before .before .before .before .before .before .before .before .before .before .before .before .before .before .before .before .before .before .before .before .before .before .args .c .node)))) (c .before .before .before .before .before .before .before .before .before .before .before .before .before .before .before .before .before .before .before .before .before .before .before .before .before .before .args .i) (past (c .before .before .before .before .before .before .before .before .before .before .before .before .before .before .before .before .before .before .before .before .before .before .before .before .before .before .args .b .now) (c .before .before .before .before .before .before .before .before .before .before .before .before .before .before .before .before .before .before .before .before .before .before .before .before .before .before .args .d) 1 (c .before .before .before .before .before .before .before .before .before .before .before .before .before .before .before .before .before .before .before .before .before .before .before .before .before .before .args .c .node)) (past (c .before .before .before .before .before .before .before .before .before .before .before .before .before .before .before .before .before .before .before .before .before .before .before .before .before .before .args .b .now) (c .before .before .before .before .before .before .before .before .before .before .before .before .before .before .before .before .before .before .before .before .before .before .before .before .before .before .args .d) (c .before .before .before .before .before .before .before .before .before .before .before .before .before .before .before .before .before .before .before .before .before .before .before .before .before .before .args .left) (c .before .before .before .before .before .before .before .before .before .before .before .before .before .before .before .before .before .before .before .before .before .before .before .before .before .before .args .c .node)) (operands-ready (c .before .before .before .before .before .before .before .before .before .before .before .before .before .before .before .before .before .before .before .before .before .before .before .before .before .before .args .b .now) (c .before .before .before .before .before .before .before .before .before .before .before .before .before .before .before .before .before .before .before .before .before .before .before .before .before .before .args .d) (c .before .before .before .before .before .before .before .before .before .before .before .before .before .before .before .before .before .before .before .before .before .before .before .before .before .before .args .left) (c .before .before .before .before .before .before .before .before .before .before .before .before .before .before .before .before .before .before .before .before .before .before .before .before .before .before .args .c .node) (c .before .before .before .before .before .before .before .before .before .before .before .before .before .before .before .before .before .before .before .before .before .before .before .before .before .before .args .lists) (c .before .before .before .before .before .before .before .before .before .before .before .before .before .before .before .before .before .before .before .before .before .before .before .before .before .before .args .i) (λ z. c .before .before .before .before .before .before .before .before .before .before .before .before .before .before .before .before .before .before .before .before .before .before .if1 .left z) (c .before .before .before .before .before .before .before .before .before .before .before .before .before .before .before .before .before .before .before .before .before .before .before .before .before .before .pre .1 .0)) (c .before .before .before .before .before .before .before .before .before .before .before .before .before .before .before .before .before .before .before .before .lower .last .1 .0) (c .before .before .before .before .before .before .before .before .before .before .before .before .before .before .before .before .a .given .0 .0) (c .before .before .before .before .before .before .before .before .before .before .before .before .before .before .before .before .a .given .0 .1 .0) (taken _ _ _ _ _ _ (c .before .before .before .before .before .before .before .before .before .before .before .before .before .before .before .before .a .given .0 .0) (c .before .before .before .before .before .before .before .before .before .before .before .before .before .before .before .before .a .given .0 .1 .0) (at-argument _ _ _ _ (c .before .before .before .before .before .before .before .before .before .before .before .before .before .before .before .before .before .before .before .before .before .before .before .before .before .before .args .i) _ _ _ _ _ _ (c .before .before .before .before .before .before .before .before .before .before .before .before .before .before .before .before .before .before .before .before .lower .ensures)) (c .before .before .before .before .before .before .before .before .before .before .before .before .before .before .before .before .a .given .1))) (λ z. c .before .before .before .before .before .before .before .before .before .before .before .before .before .before .before .before .before .before .before .before .before .before .if1 .left z) (c .before .before .before .before .before .before .before .before .before .before .before .before .before .operands .ensures)) (c .before .before .before .before .before .before .before .before .before .rest .given .1)) (c .before .before .before .before .list-entry .last .0) (c .before .all .result) (c .any .result) (c .before .before .before .before .list-entry .ensures) (c .before .all .ensures ∙ ap (λ (x : Bool). x && (c .before .before .before .before .before .before .before .before .before .rest .given .0 .0) .boolean) (c .before .before .before .before .before .before .before .same .ensures)) (c .any .ensures))
+operands-returns-4 : (t : ℕ) → operands-lts.Need-returns-4 (operands-calls t) (operands-at t) operands.Post
+operands-returns-4 t c =
+    let args = c .before .before .before .before .before .before .before .before .before .before .before .before .before .before .before .before .before .before .before .before .before .before .before .before .before .before .args in
+    let pre = c .before .before .before .before .before .before .before .before .before .before .before .before .before .before .before .before .before .before .before .before .before .before .before .before .before .before .pre in
+    let if1 = c .before .before .before .before .before .before .before .before .before .before .before .before .before .before .before .before .before .before .before .before .before .before .if1 in
+    let lower = c .before .before .before .before .before .before .before .before .before .before .before .before .before .before .before .before .before .before .before .before .lower in
+    let a = c .before .before .before .before .before .before .before .before .before .before .before .before .before .before .before .before .a in
+    let operands = c .before .before .before .before .before .before .before .before .before .before .before .before .before .operands in
+    let rest = c .before .before .before .before .before .before .before .before .before .rest in
+    let same = c .before .before .before .before .before .before .before .same in
+    let list-entry = c .before .before .before .before .list-entry in
+    let b = args .b .now in
+    let node = args .c .node in
+    let rest-value = rest .given .0 .0 in
+    let a-next = a .given .0 .1 .0 in
+    let after2 = past b (args .d) 1 node in
+    let context = context-of (args .kinds .now) (args .l .generated) in
+    let whole = arm b (args .d) true 1 node in
+    let after = past b (args .d) (args .left) node in
+    let terms2 = terms (kids b (args .d) (args .left - 1) after2) in
+    let is-taken = taken _ _ _ _ _ _ (a .given .0 .0) a-next (at-argument _ _ _ _ (args .i) _ _ _ _ _ _ (lower .ensures)) (a .given .1) in
+    operands-as _ _ _ _ _ _ _ _ _ _ _ _ b (args .d) (args .left) node (λ z. if1 .left z) (collects.all-collected (args .lists) context (args .want)
+    whole terms2 (args .i) after2 after (operands-ready b (args .d) (args .left) node (args .lists) (args .i) (λ z. if1 .left z) (pre .1 .0))
+    (lower .last .1 .0) (a .given .0 .0) a-next is-taken (operands .last .1 .0) rest-value (rest .given .0 .1 .0) (operands .kept .1 .0)
+    (collects.collected _ _ _ _ _ _ _ _ _ rest-value (rest .given .0 .1 .0) (rest-as _ _ _ _ _ _ _ _ _ _ _ b (args .d) (args .left) node
+    (a-next .node) (collects.is-node (args .lists) context (args .want) whole terms2 (args .i) after2 after
+    (operands-ready b (args .d) (args .left) node (args .lists) (args .i) (λ z. if1 .left z) (pre .1 .0)) (lower .last .1 .0) (a .given .0 .0) a-next
+    is-taken) (λ z. if1 .left z) (operands .ensures)) (rest .given .1)) (list-entry .last .0) (c .before .all .result) (c .any .result)
+    (list-entry .ensures) (c .before .all .ensures ∙ ap (λ (x : Bool). x && rest-value .boolean) (same .ensures)) (c .any .ensures))
 
 pub +branch+link+lower+node+operands-spec : {M : Type 1} → statement M
 +branch+link+lower+node+operands-spec =

@@ -13,15 +13,38 @@ returns-2 c = rw (eq-eqb _ _ (c .before .before .if1 .taken), ne-eqb _ _ (c .bef
 
 returns-3 : tie.Need-returns-3
 unfolding arity-at
-returns-3 c = rw (eq-eqb _ _ (c .before .before .before .if1 .taken), ne-eqb _ _ (c .before .before .if2 .left), ne-eqb _ _ (c .before .if3 .left), eq-eqb _ _ (c .if4 .taken))
+returns-3 c =
+    rw (
+      eq-eqb _ _ (c .before .before .before .if1 .taken),
+      ne-eqb _ _ (c .before .before .if2 .left),
+      ne-eqb _ _ (c .before .if3 .left),
+      eq-eqb _ _
+          (c .if4 .taken),
+    )
 
 returns-4 : tie.Need-returns-4
 unfolding arity-at
-returns-4 c = rw (eq-eqb _ _ (c .before .before .before .before .if1 .taken), ne-eqb _ _ (c .before .before .before .if2 .left), ne-eqb _ _ (c .before .before .if3 .left), ne-eqb _ _ (c .before .if4 .left), eq-eqb _ _ (c .if5 .taken))
+returns-4 c =
+    rw (
+      eq-eqb _ _ (c .before .before .before .before .if1 .taken),
+      ne-eqb _ _ (c .before .before .before .if2 .left),
+      ne-eqb _ _
+          (c .before .before .if3 .left),
+      ne-eqb _ _ (c .before .if4 .left),
+      eq-eqb _ _ (c .if5 .taken),
+    )
 
 returns-5 : tie.Need-returns-5
 unfolding arity-at
-returns-5 c = rw (eq-eqb _ _ (c .before .before .before .before .if1 .taken), ne-eqb _ _ (c .before .before .before .if2 .left), ne-eqb _ _ (c .before .before .if3 .left), ne-eqb _ _ (c .before .if4 .left), ne-eqb _ _ (c .if5 .left))
+returns-5 c =
+    rw (
+      eq-eqb _ _ (c .before .before .before .before .if1 .taken),
+      ne-eqb _ _ (c .before .before .before .if2 .left),
+      ne-eqb _ _
+          (c .before .before .if3 .left),
+      ne-eqb _ _ (c .before .if4 .left),
+      ne-eqb _ _ (c .if5 .left),
+    )
 
 returns-6 : tie.Need-returns-6
 unfolding arity-at

@@ -23,7 +23,11 @@ same-length : tie.Need-same-length
 same-length c = search needs
 
 returns : tie.Need-returns
-returns c = entered (c .before .before .before .before .before .before .before .before .args .p .now) (c .before .before .put-record .last .0) (c .before .before .before .before .before .before .before .before .args .l .paths + 12 * c .before .before .before .before .before .before .before .before .args .own) (c .before .before .before .before .before .before .before .before .args .s .path) (c .before .before .before .before .before .before .before .before .args .own) (c .before .before .before .before .before .before .before .before .args .step) (c .before .before .before .before .before .before .before .before .args .s .length) (c .before .before .before .before .before .before .step-length .result) _ (c .before .before .before .before .before .before .step-length .ensures .0) (c .before .before .put-record .ensures)
+returns c =
+    let args = c .before .before .before .before .before .before .before .before .args in
+    let step-length = c .before .before .before .before .before .before .step-length in
+    entered (args .p .now) (c .before .before .put-record .last .0) (args .l .paths + 12 * args .own) (args .s .path) (args .own) (args .step)
+    (args .s .length) (step-length .result) _ (step-length .ensures .0) (c .before .before .put-record .ensures)
 
 pub enter-spec : {M : Type 1} → statement M
 enter-spec =

@@ -14,7 +14,13 @@ unsupported-requires : tie.Need-unsupported-requires
 unsupported-requires c κs = search needs
 
 returns : tie.Need-returns
-returns c = wrong-step (c .before .before .before .before .before .before .before .args .l) (c .before .before .before .before .before .before .before .args .p .now) (c .before .before .before .before .before .before .before .args .s) (c .before .before .before .before .before .before .before .args .c) 1 (c .before .before .before .before .before .before .before .pre .0) (c .before .before .before .before .before .before .before .args .f) (c .before .before .before .before .before .before .before .args .v) (c .before .before .before .before .before .arity .result) (c .before .before .before .before .before .arity .ensures) (c .before .before .before .before .if1 .taken) (c .before .before .before .if2 .taken) (c .before .before .stepped .result) (c .before .unsupported .result) (c .before .before .stepped .ensures) (c .before .unsupported .ensures) (c .if3 .taken)
+returns c =
+    let args = c .before .before .before .before .before .before .before .args in
+    let pre = c .before .before .before .before .before .before .before .pre in
+    let arity = c .before .before .before .before .before .arity in
+    wrong-step (args .l) (args .p .now) (args .s) (args .c) 1 (pre .0) (args .f) (args .v) (arity .result) (arity .ensures)
+    (c .before .before .before .before .if1 .taken) (c .before .before .before .if2 .taken) (c .before .before .stepped .result)
+    (c .before .unsupported .result) (c .before .before .stepped .ensures) (c .before .unsupported .ensures) (c .if3 .taken)
 
 listing-requires : tie.Need-listing-requires
 listing-requires c κs = search needs
@@ -38,7 +44,23 @@ same-length : tie.Need-same-length
 same-length c = search needs
 
 returns-2 : tie.Need-returns-2
-returns-2 c = listed-row (c .before .before .before .before .before .before .before .before .before .before .before .before .before .before .before .before .args .l) (c .before .before .before .before .before .before .before .before .before .before .before .before .before .before .before .before .args .p .now) (c .before .before .before .before .before .before .before .before .before .before .before .before .before .before .before .before .args .s) (c .before .before .before .before .before .before .before .before .before .before .before .before .before .before .before .before .args .c) 1 (c .before .before .before .before .before .before .before .before .before .before .before .before .before .before .before .before .pre .0) (c .before .before .before .before .before .before .before .before .before .before .before .before .before .before .before .before .args .f) (c .before .before .before .before .before .before .before .before .before .before .before .before .before .before .before .before .args .v) (c .before .before .before .before .before .before .before .before .before .before .before .before .before .before .arity .result) (c .before .before .before .before .before .before .before .before .before .before .before .before .before .before .arity .ensures) (c .before .before .before .before .before .before .before .before .before .before .before .before .before .if1 .taken) (c .before .before .before .before .before .before .before .before .before .before .before .before .if2 .taken) (c .before .before .before .before .before .before .before .before .before .before .before .stepped .result) (c .before .before .before .before .before .before .before .before .before .before .unsupported .result) (c .before .before .before .before .before .before .before .before .before .before .before .stepped .ensures) (c .before .before .before .before .before .before .before .before .before .before .unsupported .ensures) (c .before .before .before .before .before .before .before .before .before .if3 .left) (omega arith) (c .before .before .before .before .before .before .before .before .listing .result) (c .before .before .before .before .before .before .gives .result) (c .before .before .before .before .before .before .before .opcode .result) (c .before .before .before .before .before .before .before .before .listing .ensures) (c .before .before .before .before .before .before .before .opcode .ensures .0) (c .before .before .before .before .before .before .gives .ensures) (c .before .before .before .put-row .last .0) (c .done .result) (c .before .before .before .before .before .if4 .taken) (c .before .before .before .put-row .ensures) (c .done .ensures)
+returns-2 c =
+    let args = c .before .before .before .before .before .before .before .before .before .before .before .before .before .before .before .before .args in
+    let pre = c .before .before .before .before .before .before .before .before .before .before .before .before .before .before .before .before .pre in
+    let arity = c .before .before .before .before .before .before .before .before .before .before .before .before .before .before .arity in
+    let if1 = c .before .before .before .before .before .before .before .before .before .before .before .before .before .if1 in
+    let if2 = c .before .before .before .before .before .before .before .before .before .before .before .before .if2 in
+    let stepped = c .before .before .before .before .before .before .before .before .before .before .before .stepped in
+    let unsupported = c .before .before .before .before .before .before .before .before .before .before .unsupported in
+    let if3 = c .before .before .before .before .before .before .before .before .before .if3 in
+    let listing = c .before .before .before .before .before .before .before .before .listing in
+    let opcode = c .before .before .before .before .before .before .before .opcode in
+    let gives = c .before .before .before .before .before .before .gives in
+    let put-row = c .before .before .before .put-row in
+    listed-row (args .l) (args .p .now) (args .s) (args .c) 1 (pre .0) (args .f) (args .v) (arity .result) (arity .ensures) (if1 .taken) (if2 .taken)
+    (stepped .result) (unsupported .result) (stepped .ensures) (unsupported .ensures) (if3 .left) (omega arith) (listing .result) (gives .result)
+    (opcode .result) (listing .ensures) (opcode .ensures .0) (gives .ensures) (put-row .last .0) (c .done .result)
+    (c .before .before .before .before .before .if4 .taken) (put-row .ensures) (c .done .ensures)
 
 put-row-requires-2 : tie.Need-put-row-requires-2
 put-row-requires-2 c κs = search needs
@@ -50,13 +72,35 @@ same-length-2 : tie.Need-same-length-2
 same-length-2 c = search needs
 
 returns-3 : tie.Need-returns-3
-returns-3 c = plain-row (c .before .before .before .before .before .before .before .before .before .before .before .before .before .before .before .before .args .l) (c .before .before .before .before .before .before .before .before .before .before .before .before .before .before .before .before .args .p .now) (c .before .before .before .before .before .before .before .before .before .before .before .before .before .before .before .before .args .s) (c .before .before .before .before .before .before .before .before .before .before .before .before .before .before .before .before .args .c) 1 (c .before .before .before .before .before .before .before .before .before .before .before .before .before .before .before .before .pre .0) (c .before .before .before .before .before .before .before .before .before .before .before .before .before .before .before .before .args .f) (c .before .before .before .before .before .before .before .before .before .before .before .before .before .before .before .before .args .v) (c .before .before .before .before .before .before .before .before .before .before .before .before .before .before .arity .result) (c .before .before .before .before .before .before .before .before .before .before .before .before .before .before .arity .ensures) (c .before .before .before .before .before .before .before .before .before .before .before .before .before .if1 .taken) (c .before .before .before .before .before .before .before .before .before .before .before .before .if2 .taken) (c .before .before .before .before .before .before .before .before .before .before .before .stepped .result) (c .before .before .before .before .before .before .before .before .before .before .unsupported .result) (c .before .before .before .before .before .before .before .before .before .before .before .stepped .ensures) (c .before .before .before .before .before .before .before .before .before .before .unsupported .ensures) (c .before .before .before .before .before .before .before .before .before .if3 .left) (omega arith) (c .before .before .before .before .before .before .before .before .listing .result) (c .before .before .before .before .before .before .gives .result) (c .before .before .before .before .before .before .before .opcode .result) (c .before .before .before .before .before .before .before .before .listing .ensures) (c .before .before .before .before .before .before .before .opcode .ensures .0) (c .before .before .before .before .before .before .gives .ensures) (c .before .before .before .put-row2 .last .0) (c .done2 .result) (c .before .before .before .before .before .if4 .left) (c .before .before .before .put-row2 .ensures) (c .done2 .ensures)
+returns-3 c =
+    let args = c .before .before .before .before .before .before .before .before .before .before .before .before .before .before .before .before .args in
+    let pre = c .before .before .before .before .before .before .before .before .before .before .before .before .before .before .before .before .pre in
+    let arity = c .before .before .before .before .before .before .before .before .before .before .before .before .before .before .arity in
+    let if1 = c .before .before .before .before .before .before .before .before .before .before .before .before .before .if1 in
+    let if2 = c .before .before .before .before .before .before .before .before .before .before .before .before .if2 in
+    let stepped = c .before .before .before .before .before .before .before .before .before .before .before .stepped in
+    let unsupported = c .before .before .before .before .before .before .before .before .before .before .unsupported in
+    let if3 = c .before .before .before .before .before .before .before .before .before .if3 in
+    let listing = c .before .before .before .before .before .before .before .before .listing in
+    let opcode = c .before .before .before .before .before .before .before .opcode in
+    let gives = c .before .before .before .before .before .before .gives in
+    let put-row2 = c .before .before .before .put-row2 in
+    plain-row (args .l) (args .p .now) (args .s) (args .c) 1 (pre .0) (args .f) (args .v) (arity .result) (arity .ensures) (if1 .taken) (if2 .taken)
+    (stepped .result) (unsupported .result) (stepped .ensures) (unsupported .ensures) (if3 .left) (omega arith) (listing .result) (gives .result)
+    (opcode .result) (listing .ensures) (opcode .ensures .0) (gives .ensures) (put-row2 .last .0) (c .done2 .result)
+    (c .before .before .before .before .before .if4 .left) (put-row2 .ensures) (c .done2 .ensures)
 
 returns-4 : tie.Need-returns-4
-returns-4 c = wrong-kind (c .before .before .before .before .args .l) (c .before .before .before .before .args .p .now) (c .before .before .before .before .args .s) (c .before .before .before .before .args .c) 1 (c .before .before .before .before .pre .0) (c .before .before .before .before .args .f) (c .before .before .before .before .args .v) (c .before .before .arity .result) (c .before .before .arity .ensures) (c .before .if1 .taken) (c .if2 .left)
+returns-4 c =
+    let args = c .before .before .before .before .args in
+    wrong-kind (args .l) (args .p .now) (args .s) (args .c) 1 (c .before .before .before .before .pre .0) (args .f) (args .v)
+    (c .before .before .arity .result) (c .before .before .arity .ensures) (c .before .if1 .taken) (c .if2 .left)
 
 returns-5 : tie.Need-returns-5
-returns-5 c = wrong-arity (c .before .before .before .args .l) (c .before .before .before .args .p .now) (c .before .before .before .args .s) (c .before .before .before .args .c) 1 (c .before .before .before .pre .0) (c .before .before .before .args .f) (c .before .before .before .args .v) (c .before .arity .result) (c .before .arity .ensures) (c .if1 .left)
+returns-5 c =
+    let args = c .before .before .before .args in
+    wrong-arity (args .l) (args .p .now) (args .s) (args .c) 1 (c .before .before .before .pre .0) (args .f) (args .v) (c .before .arity .result)
+    (c .before .arity .ensures) (c .if1 .left)
 
 pub finish-spec : {M : Type 1} → statement M
 finish-spec =

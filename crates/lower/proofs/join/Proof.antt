@@ -35,13 +35,24 @@ any-requires : tie.Need-any-requires
 any-requires c κs = search needs
 
 add-t15 : tie.Need-add-t15
-add-t15 c = omega (arith, c .before .before .before .before .before .before .before .before .before .before .before .before .before .before .before .before .pre .1, c .before .before .before .before .before .before .before .before .before .before .before .before .before .before .before .before .good .0 .0)
+add-t15 c =
+    let pre = c .before .before .before .before .before .before .before .before .before .before .before .before .before .before .before .before .pre in
+    let good = c .before .before .before .before .before .before .before .before .before .before .before .before .before .before .before .before .good in
+    omega (arith, pre .1, good .0 .0)
 
 same-length : tie.Need-same-length
 same-length c = search needs
 
 returns : tie.Need-returns
-returns c = (rw (sym (c .before .before .before .before .before .before .before .before .before .before .before .before .before .before .same .ensures) ∙ c .before .before .before .before .before .before .before .before .before .before .before .before .before .if1 .taken, c .before .any .ensures), rw (sym (c .before .before .before .before .before .before .before .before .before .before .before .before .before .before .same .ensures) ∙ c .before .before .before .before .before .before .before .before .before .before .before .before .before .if1 .taken) (c .before .before .before .before .put-row2 .ensures ∙ ap (λ (x : List ℕ). over x (32 + 24 * c .before .before .before .before .before .before .before .before .before .before .before .before .before .before .before .before .args .g .code) (row 2 0 (c .before .before .before .before .before .before .before .before .before .before .before .before .before .before .before .before .args .e .reg) (c .before .before .before .before .before .before .before .before .before .before .before .before .before .before .before .before .args .z .a) 0 0 (c .before .before .before .before .before .before .before .before .before .before .before .before .before .before .before .before .args .k))) (c .before .before .before .before .before .before .before .before .put-row .ensures)))
+returns c =
+    let args = c .before .before .before .before .before .before .before .before .before .before .before .before .before .before .before .before .args in
+    let same = c .before .before .before .before .before .before .before .before .before .before .before .before .before .before .same in
+    let if1 = c .before .before .before .before .before .before .before .before .before .before .before .before .before .if1 in
+    let put-row = c .before .before .before .before .before .before .before .before .put-row in (
+      rw (sym (same .ensures) ∙ if1 .taken, c .before .any .ensures),
+      rw (sym (same .ensures) ∙ if1 .taken) (c .before .before .before .before .put-row2 .ensures ∙ ap
+          (λ (x : List ℕ). over x (32 + 24 * args .g .code) (row 2 0 (args .e .reg) (args .z .a) 0 0 (args .k))) (put-row .ensures)),
+    )
 
 returns-2 : tie.Need-returns-2
 returns-2 c = (rw (sym (c .before .same .ensures) ∙ c .if1 .left), rw (sym (c .before .same .ensures) ∙ c .if1 .left))

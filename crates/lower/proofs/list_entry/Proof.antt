@@ -4,13 +4,19 @@ use Rattle.lower.proofs.list_entry.Statement.{statement}
 use Rattle.lower.proofs.list_entry.Tie as tie
 
 mul-put-word : tie.Need-mul-put-word
-mul-put-word c = let h = rw (c .before .if1 .taken) at (c .before .before .before .pre) in omega (arith, h)
+mul-put-word c =
+    let h = rw (c .before .if1 .taken) at (c .before .before .before .pre) in
+    omega (arith, h)
 
 add-put-word : tie.Need-add-put-word
-add-put-word c = let h = rw (c .before .if1 .taken) at (c .before .before .before .pre) in omega (arith, h)
+add-put-word c =
+    let h = rw (c .before .if1 .taken) at (c .before .before .before .pre) in
+    omega (arith, h)
 
 put-word-requires : tie.Need-put-word-requires
-put-word-requires c κs = let h = rw (c .before .if1 .taken) at (c .before .before .before .pre) in omega (arith, h)
+put-word-requires c κs =
+    let h = rw (c .before .if1 .taken) at (c .before .before .before .pre) in
+    omega (arith, h)
 
 same-length : tie.Need-same-length
 same-length c = search needs

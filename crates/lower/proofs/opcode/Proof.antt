@@ -25,7 +25,10 @@ add-result-2 c = search needs
 
 returns-2 : tie.Need-returns-2
 unfolding opcode-at
-returns-2 c = (rw (ne-eqb _ _ (c .before .before .if1 .left), eq-eqb _ _ (c .before .if2 .taken)) (ap (λ (x : ℕ). 8 + x) (c .wide2 .ensures .0)), omega (arith, c .wide2 .ensures .1))
+returns-2 c = (
+  rw (ne-eqb _ _ (c .before .before .if1 .left), eq-eqb _ _ (c .before .if2 .taken)) (ap (λ (x : ℕ). 8 + x) (c .wide2 .ensures .0)),
+  omega (arith, c .wide2 .ensures .1),
+)
 
 wide-requires-3 : tie.Need-wide-requires-3
 wide-requires-3 c κs = search needs
@@ -35,11 +38,24 @@ add-result-3 c = search needs
 
 returns-3 : tie.Need-returns-3
 unfolding opcode-at
-returns-3 c = (rw (ne-eqb _ _ (c .before .before .before .if1 .left), ne-eqb _ _ (c .before .before .if2 .left), eq-eqb _ _ (c .before .if3 .taken)) (ap (λ (x : ℕ). 14 + x) (c .wide3 .ensures .0)), omega (arith, c .wide3 .ensures .1))
+returns-3 c = (
+  rw (ne-eqb _ _ (c .before .before .before .if1 .left), ne-eqb _ _ (c .before .before .if2 .left), eq-eqb _ _ (c .before .if3 .taken))
+      (ap (λ (x : ℕ). 14 + x) (c .wide3 .ensures .0)),
+  omega (arith, c .wide3 .ensures .1),
+)
 
 returns-4 : tie.Need-returns-4
 unfolding opcode-at
-returns-4 c = (rw (ne-eqb _ _ (c .before .before .before .if1 .left), ne-eqb _ _ (c .before .before .if2 .left), ne-eqb _ _ (c .before .if3 .left), eq-eqb _ _ (c .if4 .taken)), omega arith)
+returns-4 c = (
+  rw (
+    ne-eqb _ _ (c .before .before .before .if1 .left),
+    ne-eqb _ _ (c .before .before .if2 .left),
+    ne-eqb _ _ (c .before .if3 .left),
+    eq-eqb _ _
+        (c .if4 .taken),
+  ),
+  omega arith,
+)
 
 wide-requires-4 : tie.Need-wide-requires-4
 wide-requires-4 c κs = search needs
@@ -49,7 +65,16 @@ add-result-4 c = search needs
 
 returns-5 : tie.Need-returns-5
 unfolding opcode-at
-returns-5 c = (rw (ne-eqb _ _ (c .before .before .before .before .if1 .left), ne-eqb _ _ (c .before .before .before .if2 .left), ne-eqb _ _ (c .before .before .if3 .left), ne-eqb _ _ (c .before .if4 .left)) (ap (λ (x : ℕ). 20 + x) (c .wide4 .ensures .0)), omega (arith, c .wide4 .ensures .1))
+returns-5 c = (
+  rw (
+    ne-eqb _ _ (c .before .before .before .before .if1 .left),
+    ne-eqb _ _ (c .before .before .before .if2 .left),
+    ne-eqb _ _
+        (c .before .before .if3 .left),
+    ne-eqb _ _ (c .before .if4 .left),
+  ) (ap (λ (x : ℕ). 20 + x) (c .wide4 .ensures .0)),
+  omega (arith, c .wide4 .ensures .1),
+)
 
 pub opcode-spec : {M : Type 1} → statement M
 opcode-spec =

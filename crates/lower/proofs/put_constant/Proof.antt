@@ -48,7 +48,17 @@ same-length : tie.Need-same-length
 same-length c = search needs
 
 returns : tie.Need-returns
-returns c = constant-stored (c .before .before .before .before .before .before .before .before .before .before .before .before .before .before .before .before .before .before .before .before .before .before .before .before .before .args .p .now) (c .before .before .before .before .before .before .before .before .before .before .before .before .before .before .before .before .before .before .before .before .before .before .put-half .last .0) (c .before .before .before .before .before .before .before .before .before .before .before .before .before .before .before .before .before .before .put-half2 .last .0) (c .before .before .before .before .before .before .before .before .before .before .before .before .before .before .put-word .last .0) (c .before .before .before .before .before .before .before .before .before .before .put-long .last .0) (c .before .before .before .before .before .before .put-word2 .last .0) (c .before .before .put-word3 .last .0) (32 + 24 * c .before .before .before .before .before .before .before .before .before .before .before .before .before .before .before .before .before .before .before .before .before .before .before .before .before .args .n) (c .before .before .before .before .before .before .before .before .before .before .before .before .before .before .before .before .before .before .before .before .before .before .before .before .before .args .bits) (c .before .before .before .before .before .before .before .before .before .before .before .before .before .before .before .before .before .before .before .before .before .before .before .before .before .args .destination) (c .before .before .before .before .before .before .before .before .before .before .before .before .before .before .before .before .before .before .before .before .before .before .before .before .before .args .path) (omega (arith, c .before .before .before .before .before .before .before .before .before .before .before .before .before .before .before .before .before .before .before .before .before .before .before .before .before .pre)) (c .before .before .before .before .before .before .before .before .before .before .before .before .before .before .before .before .before .before .before .before .before .before .put-half .ensures) (c .before .before .before .before .before .before .before .before .before .before .before .before .before .before .before .before .before .before .put-half2 .ensures) (c .before .before .before .before .before .before .before .before .before .before .before .before .before .before .put-word .ensures) (c .before .before .before .before .before .before .before .before .before .before .put-long .ensures) (c .before .before .before .before .before .before .put-word2 .ensures) (c .before .before .put-word3 .ensures)
+returns c =
+    let args = c .before .before .before .before .before .before .before .before .before .before .before .before .before .before .before .before .before .before .before .before .before .before .before .before .before .args in
+    let pre = c .before .before .before .before .before .before .before .before .before .before .before .before .before .before .before .before .before .before .before .before .before .before .before .before .before .pre in
+    let put-half = c .before .before .before .before .before .before .before .before .before .before .before .before .before .before .before .before .before .before .before .before .before .before .put-half in
+    let put-half2 = c .before .before .before .before .before .before .before .before .before .before .before .before .before .before .before .before .before .before .put-half2 in
+    let put-word = c .before .before .before .before .before .before .before .before .before .before .before .before .before .before .put-word in
+    let put-long = c .before .before .before .before .before .before .before .before .before .before .put-long in
+    let put-word2 = c .before .before .before .before .before .before .put-word2 in
+    constant-stored (args .p .now) (put-half .last .0) (put-half2 .last .0) (put-word .last .0) (put-long .last .0) (put-word2 .last .0)
+    (c .before .before .put-word3 .last .0) (32 + 24 * args .n) (args .bits) (args .destination) (args .path) (omega (arith, pre)) (put-half .ensures)
+    (put-half2 .ensures) (put-word .ensures) (put-long .ensures) (put-word2 .ensures) (c .before .before .put-word3 .ensures)
 
 pub put-constant-spec : {M : Type 1} → statement M
 put-constant-spec =

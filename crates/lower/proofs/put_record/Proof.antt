@@ -22,7 +22,13 @@ same-length : tie.Need-same-length
 same-length c = search needs
 
 returns : tie.Need-returns
-returns c = record-stored (c .before .before .before .before .before .before .before .before .before .before .before .before .before .args .p .now) (c .before .before .before .before .before .before .before .before .before .before .put-word .last .0) (c .before .before .before .before .before .before .put-word2 .last .0) (c .before .before .put-word3 .last .0) (c .before .before .before .before .before .before .before .before .before .before .before .before .before .args .at) (c .before .before .before .before .before .before .before .before .before .before .before .before .before .args .parent) (c .before .before .before .before .before .before .before .before .before .before .before .before .before .args .step) (c .before .before .before .before .before .before .before .before .before .before .before .before .before .args .long) (c .before .before .before .before .before .before .before .before .before .before .before .before .before .pre) (c .before .before .before .before .before .before .before .before .before .before .put-word .ensures) (c .before .before .before .before .before .before .put-word2 .ensures) (c .before .before .put-word3 .ensures)
+returns c =
+    let args = c .before .before .before .before .before .before .before .before .before .before .before .before .before .args in
+    let pre = c .before .before .before .before .before .before .before .before .before .before .before .before .before .pre in
+    let put-word = c .before .before .before .before .before .before .before .before .before .before .put-word in
+    let put-word2 = c .before .before .before .before .before .before .put-word2 in
+    record-stored (args .p .now) (put-word .last .0) (put-word2 .last .0) (c .before .before .put-word3 .last .0) (args .at) (args .parent)
+    (args .step) (args .long) (pre) (put-word .ensures) (put-word2 .ensures) (c .before .before .put-word3 .ensures)
 
 pub put-record-spec : {M : Type 1} → statement M
 put-record-spec =

@@ -19,13 +19,20 @@ is-zero-requires-2 : tie.Need-is-zero-requires-2
 is-zero-requires-2 c κs = search needs
 
 returns-2 : tie.Need-returns-2
-returns-2 c = add-right (reading (c .before .before .before .before .args .a)) (reading (c .before .before .before .before .args .b)) (sym (c .before .before .before .is-zero .ensures) ∙ c .before .before .if1 .left) (sym (c .before .is-zero2 .ensures) ∙ c .if2 .taken)
+returns-2 c =
+    let args = c .before .before .before .before .args in
+    add-right (reading (args .a)) (reading (args .b)) (sym (c .before .before .before .is-zero .ensures) ∙ c .before .before .if1 .left)
+    (sym (c .before .is-zero2 .ensures) ∙ c .if2 .taken)
 
 two-requires : tie.Need-two-requires
 two-requires c κs = search needs
 
 returns-3 : tie.Need-returns-3
-returns-3 c = c .two .ensures ∙ add-kept (reading (c .before .before .before .before .before .args .a)) (reading (c .before .before .before .before .before .args .b)) (sym (c .before .before .before .before .is-zero .ensures) ∙ c .before .before .before .if1 .left) (sym (c .before .before .is-zero2 .ensures) ∙ c .before .if2 .left)
+returns-3 c =
+    let args = c .before .before .before .before .before .args in
+    c .two .ensures ∙ add-kept (reading (args .a)) (reading (args .b))
+    (sym (c .before .before .before .before .is-zero .ensures) ∙ c .before .before .before .if1 .left)
+    (sym (c .before .before .is-zero2 .ensures) ∙ c .before .if2 .left)
 
 pub add-spec : {M : Type 1} → statement M
 add-spec =

@@ -21,19 +21,45 @@ add-at : tie.Need-add-at Inv-loop μ-loop
 add-at c = omega (arith, row-inside (c .args .f .now) (c .args .table .now) (c .args .k) (c .pre .0))
 
 loop-holds : tie.Need-loop-holds Inv-loop μ-loop
-loop-holds c = (omega arith, subst (λ (m : ℕ). Walk (c .args .f .now) (c .args .k) (c .args .i) m (c .args .i) (c .args .k + 1)) (omega (arith, c .pre .1)) (walk-start (c .args .f .now) (c .args .k) (c .args .i) (half-at (c .args .f .now) (16 * c .args .k + 2)) (c .pre .0 .formed) refl (c .pre .1)))
+loop-holds c =
+    let f = c .args .f .now in (
+      omega arith,
+      subst (λ (m : ℕ). Walk f (c .args .k) (c .args .i) m (c .args .i) (c .args .k + 1)) (omega (arith, c .pre .1))
+          (walk-start f (c .args .k) (c .args .i) (half-at f (16 * c .args .k + 2)) (c .pre .0 .formed) refl (c .pre .1)),
+    )
 
 mul-at : tie.Need-mul-at Inv-loop μ-loop
-mul-at c = let s = stands (c .before .before .args .f .now) (c .before .before .args .table .now) (c .before .before .args .k) (c .before .before .args .i) (c .before .before .pre .0) (c .before .before .pre .1) (c .before .loop .left) (c .before .loop .at) (c .before .loop .inv .1) in omega (arith, s .ends, s .one, c .before .before .pre .0 .long)
+mul-at c =
+    let args = c .before .before .args in
+    let pre = c .before .before .pre in
+    let s = stands (args .f .now) (args .table .now) (args .k) (args .i) (pre .0) (pre .1) (c .before .loop .left) (c .before .loop .at)
+    (c .before .loop .inv .1) in
+    omega (arith, s .ends, s .one, pre .0 .long)
 
 mul-at-2 : tie.Need-mul-at-2 Inv-loop μ-loop
-mul-at-2 c = let s = stands (c .before .before .args .f .now) (c .before .before .args .table .now) (c .before .before .args .k) (c .before .before .args .i) (c .before .before .pre .0) (c .before .before .pre .1) (c .before .loop .left) (c .before .loop .at) (c .before .loop .inv .1) in omega (arith, s .ends, s .one, c .before .before .pre .0 .long)
+mul-at-2 c =
+    let args = c .before .before .args in
+    let pre = c .before .before .pre in
+    let s = stands (args .f .now) (args .table .now) (args .k) (args .i) (pre .0) (pre .1) (c .before .loop .left) (c .before .loop .at)
+    (c .before .loop .inv .1) in
+    omega (arith, s .ends, s .one, pre .0 .long)
 
 shared-slice-read-at : tie.Need-shared-slice-read-at Inv-loop μ-loop
-shared-slice-read-at c = let s = stands (c .before .before .before .args .f .now) (c .before .before .before .args .table .now) (c .before .before .before .args .k) (c .before .before .before .args .i) (c .before .before .before .pre .0) (c .before .before .before .pre .1) (c .before .before .loop .left) (c .before .before .loop .at) (c .before .before .loop .inv .1) in omega (arith, s .ends, s .one, c .before .before .before .pre .0 .long)
+shared-slice-read-at c =
+    let args = c .before .before .before .args in
+    let pre = c .before .before .before .pre in
+    let loop = c .before .before .loop in
+    let s = stands (args .f .now) (args .table .now) (args .k) (args .i) (pre .0) (pre .1) (loop .left) (loop .at) (loop .inv .1) in
+    omega (arith, s .ends, s .one, pre .0 .long)
 
 add-at-2 : tie.Need-add-at-2 Inv-loop μ-loop
-add-at-2 c = let s = stands (c .before .before .before .args .f .now) (c .before .before .before .args .table .now) (c .before .before .before .args .k) (c .before .before .before .args .i) (c .before .before .before .pre .0) (c .before .before .before .pre .1) (c .before .before .loop .left) (c .before .before .loop .at) (c .before .before .loop .inv .1) in let z = step-size (c .before .before .before .args .f .now) (c .before .before .before .args .table .now) (c .before .before .before .args .k) (c .before .before .before .args .i) (c .before .before .before .pre .0) (c .before .before .before .pre .1) (c .before .before .loop .left) (c .before .before .loop .at) (c .before .before .loop .inv .1) in omega (arith, s .ends, z, c .before .before .before .pre .0 .long)
+add-at-2 c =
+    let args = c .before .before .before .args in
+    let pre = c .before .before .before .pre in
+    let loop = c .before .before .loop in
+    let s = stands (args .f .now) (args .table .now) (args .k) (args .i) (pre .0) (pre .1) (loop .left) (loop .at) (loop .inv .1) in
+    let z = step-size (args .f .now) (args .table .now) (args .k) (args .i) (pre .0) (pre .1) (loop .left) (loop .at) (loop .inv .1) in
+    omega (arith, s .ends, z, pre .0 .long)
 
 sub-left : tie.Need-sub-left Inv-loop μ-loop
 sub-left c = omega (arith, c .before .loop-test .taken)
@@ -42,10 +68,20 @@ loop-less : tie.Need-loop-less Inv-loop μ-loop
 loop-less c = omega (arith, c .before .loop-test .taken)
 
 loop-again : tie.Need-loop-again Inv-loop μ-loop
-loop-again c = (omega (arith, c .before .before .loop .inv .0), walk-again (c .before .before .before .args .f .now) (c .before .before .before .args .table .now) (c .before .before .before .args .k) (c .before .before .before .args .i) (c .before .before .before .pre .0) (c .before .before .before .pre .1) (c .before .before .loop .left) (c .before .before .loop .at) (c .before .before .loop .inv .1) (λ e. omega (arith, c .before .loop-test .taken)))
+loop-again c =
+    let args = c .before .before .before .args in
+    let pre = c .before .before .before .pre in
+    let loop = c .before .before .loop in (
+      omega (arith, loop .inv .0),
+      walk-again (args .f .now) (args .table .now) (args .k) (args .i) (pre .0) (pre .1) (loop .left) (loop .at) (loop .inv .1)
+          (λ e. omega (arith, c .before .loop-test .taken)),
+    )
 
 returns : tie.Need-returns Inv-loop μ-loop
-returns c = walk-done (c .before .before .args .f .now) (c .before .before .args .k) (c .before .before .args .i) _ (c .before .loop .left) (c .before .loop .at) (c .before .loop .inv .1) (omega (arith, c .loop-test .left))
+returns c =
+    let args = c .before .before .args in
+    walk-done (args .f .now) (args .k) (args .i) _ (c .before .loop .left) (c .before .loop .at) (c .before .loop .inv .1)
+    (omega (arith, c .loop-test .left))
 
 pub child-spec : {M : Type 1} → statement M
 child-spec =

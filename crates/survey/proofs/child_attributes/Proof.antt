@@ -25,16 +25,24 @@ child-requires : tie.Need-child-requires
 child-requires c κs = search needs
 
 own-requires : tie.Need-own-requires
-own-requires c κs = owned-child (c .before .before .before .before .before .args .f .now) (c .before .before .before .before .before .args .table .now) (c .before .before .before .before .before .args .k) (c .before .before .before .before .before .args .i) (c .child .result) (c .before .before .before .before .before .pre) (c .child .ensures)
+own-requires c κs =
+    let args = c .before .before .before .before .before .args in
+    owned-child (args .f .now) (args .table .now) (args .k) (args .i) (c .child .result) (c .before .before .before .before .before .pre)
+    (c .child .ensures)
 
 returns : tie.Need-returns
-returns c = c .own .ensures ∙ ap attributes-of (sym (child-is (c .before .before .before .before .before .before .args .f .now) (c .before .before .before .before .before .before .args .k) (c .before .before .before .before .before .before .args .i) (c .before .child .result) (c .before .child .ensures)))
+returns c =
+    let args = c .before .before .before .before .before .before .args in
+    c .own .ensures ∙ ap attributes-of (sym (child-is (args .f .now) (args .k) (args .i) (c .before .child .result) (c .before .child .ensures)))
 
 of-literal-requires : tie.Need-of-literal-requires
 of-literal-requires c κs = search needs
 
 returns-2 : tie.Need-returns-2
-returns-2 c = c .of-literal .ensures ∙ ap attributes-of (sym (child-none (c .before .before .before .before .before .args .f .now) (c .before .before .before .before .before .args .k) (c .before .before .before .before .before .args .i) (c .before .before .before .before .before .pre .formed) (omega (arith, c .before .before .half .ensures .0, c .before .if1 .left))))
+returns-2 c =
+    let args = c .before .before .before .before .before .args in
+    c .of-literal .ensures ∙ ap attributes-of (sym (child-none (args .f .now) (args .k) (args .i)
+    (c .before .before .before .before .before .pre .formed) (omega (arith, c .before .before .half .ensures .0, c .before .if1 .left))))
 
 pub child-attributes-spec : {M : Type 1} → statement M
 child-attributes-spec =

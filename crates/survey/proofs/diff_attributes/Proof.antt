@@ -25,16 +25,28 @@ child-requires : tie.Need-child-requires
 child-requires c κs = search needs
 
 row-requires : tie.Need-row-requires
-row-requires c κs = row-inside (c .before .before .before .before .before .args .f .now) (c .before .before .before .before .before .args .table .now) (c .child .result) (owned-child (c .before .before .before .before .before .args .f .now) (c .before .before .before .before .before .args .table .now) (c .before .before .before .before .before .args .k) (c .before .before .before .before .before .args .i) (c .child .result) (c .before .before .before .before .before .pre .owned) (c .child .ensures))
+row-requires c κs =
+    let args = c .before .before .before .before .before .args in
+    row-inside (args .f .now) (args .table .now) (c .child .result) (owned-child (args .f .now) (args .table .now) (args .k) (args .i)
+    (c .child .result) (c .before .before .before .before .before .pre .owned) (c .child .ensures))
 
 returns : tie.Need-returns
-returns c = c .row .ensures ∙ surveyed-child (c .before .before .before .before .before .before .args .by .symbol) (c .before .before .before .before .before .before .args .by .state) (c .before .before .before .before .before .before .args .f .now) (c .before .before .before .before .before .before .args .table .now) (c .before .before .before .before .before .before .args .k) (c .before .before .before .before .before .before .args .i) (c .before .child .result) (c .before .before .before .before .before .before .pre) (c .before .child .ensures) .diff ∙ ap attributes-of (sym (derived-is (c .before .before .before .before .before .before .args .by .symbol) (c .before .before .before .before .before .before .args .by .state) (c .before .before .before .before .before .before .args .f .now) (c .before .before .before .before .before .before .args .k) (c .before .before .before .before .before .before .args .i) (c .before .child .result) (c .before .child .ensures)))
+returns c =
+    let args = c .before .before .before .before .before .before .args in
+    let pre = c .before .before .before .before .before .before .pre in
+    let result = c .before .child .result in
+    let ensures = c .before .child .ensures in
+    c .row .ensures ∙ surveyed-child (args .by .symbol) (args .by .state) (args .f .now) (args .table .now) (args .k) (args .i) result pre
+    ensures .diff ∙ ap attributes-of (sym (derived-is (args .by .symbol) (args .by .state) (args .f .now) (args .k) (args .i) result ensures))
 
 of-literal-requires : tie.Need-of-literal-requires
 of-literal-requires c κs = search needs
 
 returns-2 : tie.Need-returns-2
-returns-2 c = c .of-literal .ensures ∙ ap attributes-of (sym (derived-none (c .before .before .before .before .before .args .by .symbol) (c .before .before .before .before .before .args .by .state) (c .before .before .before .before .before .args .f .now) (c .before .before .before .before .before .args .k) (c .before .before .before .before .before .args .i) (c .before .before .before .before .before .pre .owned .formed) (omega (arith, c .before .before .half .ensures .0, c .before .if1 .left))))
+returns-2 c =
+    let args = c .before .before .before .before .before .args in
+    c .of-literal .ensures ∙ ap attributes-of (sym (derived-none (args .by .symbol) (args .by .state) (args .f .now) (args .k) (args .i)
+    (c .before .before .before .before .before .pre .owned .formed) (omega (arith, c .before .before .half .ensures .0, c .before .if1 .left))))
 
 pub diff-attributes-spec : {M : Type 1} → statement M
 diff-attributes-spec =

@@ -24,19 +24,53 @@ of-literal-requires : tie.Need-of-literal-requires
 of-literal-requires c κs = search needs
 
 returns : tie.Need-returns
-returns c = (ruled-by (c .before .before .before .before .before .before .before .args .by .symbol) (c .before .before .before .before .before .before .before .args .by .state) (tree (c .before .before .before .before .before .before .before .args .f .now) (c .before .before .before .before .before .before .before .args .k)) none (sym (c .before .before .before .before .before .before .before .pre .1) ∙ c .before .before .before .before .if1 .taken) (no-rule (c .before .before .before .before .before .before .before .args .by .symbol) (c .before .before .before .before .before .before .before .args .by .state) (c .before .before .before .before .before .before .before .args .f .now) (c .before .before .before .before .before .before .before .args .k) (c .before .before .before .before .before .before .before .pre .0 .owned .formed) (c .before .before .before .rule-of .result) (c .before .before .before .rule-of .ensures) (sym (c .before .before .code .ensures) ∙ c .before .if2 .taken)), c .of-literal .ensures ∙ ap attributes-of (sym (derived-ruled (c .before .before .before .before .before .before .before .args .by .symbol) (c .before .before .before .before .before .before .before .args .by .state) (tree (c .before .before .before .before .before .before .before .args .f .now) (c .before .before .before .before .before .before .before .args .k)) none (sym (c .before .before .before .before .before .before .before .pre .1) ∙ c .before .before .before .before .if1 .taken) (no-rule (c .before .before .before .before .before .before .before .args .by .symbol) (c .before .before .before .before .before .before .before .args .by .state) (c .before .before .before .before .before .before .before .args .f .now) (c .before .before .before .before .before .before .before .args .k) (c .before .before .before .before .before .before .before .pre .0 .owned .formed) (c .before .before .before .rule-of .result) (c .before .before .before .rule-of .ensures) (sym (c .before .before .code .ensures) ∙ c .before .if2 .taken)))))
+returns c =
+    let args = c .before .before .before .before .before .before .before .args in
+    let pre = c .before .before .before .before .before .before .before .pre in
+    let if1 = c .before .before .before .before .if1 in
+    let rule-of = c .before .before .before .rule-of in
+    let state = args .by .state in
+    let symbol = args .by .symbol in
+    let sym2 = sym (pre .1) ∙ if1 .taken in
+    let tree2 = tree (args .f .now) (args .k) in
+    let no-rule2 = no-rule symbol state (args .f .now) (args .k) (pre .0 .owned .formed) (rule-of .result) (rule-of .ensures)
+    (sym (c .before .before .code .ensures) ∙ c .before .if2 .taken) in (
+      ruled-by symbol state tree2 none sym2 no-rule2,
+      c .of-literal .ensures ∙ ap attributes-of (sym (derived-ruled symbol state tree2 none sym2 no-rule2)),
+    )
 
 rule-attributes-requires : tie.Need-rule-attributes-requires
 rule-attributes-requires c κs = search needs
 
 returns-2 : tie.Need-returns-2
-returns-2 c = (ruled-by (c .before .before .before .before .before .before .before .args .by .symbol) (c .before .before .before .before .before .before .before .args .by .state) (tree (c .before .before .before .before .before .before .before .args .f .now) (c .before .before .before .before .before .before .before .args .k)) (some (rule-for (tree (c .before .before .before .before .before .before .before .args .f .now) (c .before .before .before .before .before .before .before .args .k)) 16 (c .before .before .before .rule-of .result) 0)) (sym (c .before .before .before .before .before .before .before .pre .1) ∙ c .before .before .before .before .if1 .taken) (some-rule (c .before .before .before .before .before .before .before .args .by .symbol) (c .before .before .before .before .before .before .before .args .by .state) (c .before .before .before .before .before .before .before .args .f .now) (c .before .before .before .before .before .before .before .args .k) (c .before .before .before .before .before .before .before .pre .0 .owned .formed) (c .before .before .before .rule-of .result) (c .before .before .before .rule-of .ensures) (λ z. c .before .if2 .left (c .before .before .code .ensures ∙ z))), c .rule-attributes .ensures ∙ worked-derived (c .before .before .before .before .before .before .before .args .by .symbol) (c .before .before .before .before .before .before .before .args .by .state) (tree (c .before .before .before .before .before .before .before .args .f .now) (c .before .before .before .before .before .before .before .args .k)) (c .before .before .before .rule-of .result) (sym (c .before .before .before .before .before .before .before .pre .1) ∙ c .before .before .before .before .if1 .taken) (some-rule (c .before .before .before .before .before .before .before .args .by .symbol) (c .before .before .before .before .before .before .before .args .by .state) (c .before .before .before .before .before .before .before .args .f .now) (c .before .before .before .before .before .before .before .args .k) (c .before .before .before .before .before .before .before .pre .0 .owned .formed) (c .before .before .before .rule-of .result) (c .before .before .before .rule-of .ensures) (λ z. c .before .if2 .left (c .before .before .code .ensures ∙ z))))
+returns-2 c =
+    let args = c .before .before .before .before .before .before .before .args in
+    let pre = c .before .before .before .before .before .before .before .pre in
+    let if1 = c .before .before .before .before .if1 in
+    let rule-of = c .before .before .before .rule-of in
+    let rule-of-gives = rule-of .result in
+    let state = args .by .state in
+    let symbol = args .by .symbol in
+    let sym2 = sym (pre .1) ∙ if1 .taken in
+    let tree2 = tree (args .f .now) (args .k) in (
+      ruled-by symbol state tree2 (some (rule-for tree2 16 rule-of-gives 0)) sym2 (some-rule symbol state (args .f .now) (args .k)
+          (pre .0 .owned .formed) rule-of-gives (rule-of .ensures) (λ z. c .before .if2 .left (c .before .before .code .ensures ∙ z))),
+      c .rule-attributes .ensures ∙ worked-derived symbol state tree2 rule-of-gives sym2 (some-rule symbol state (args .f .now) (args .k)
+          (pre .0 .owned .formed) rule-of-gives (rule-of .ensures) (λ z. c .before .if2 .left (c .before .before .code .ensures ∙ z))),
+    )
 
 of-literal-requires-2 : tie.Need-of-literal-requires-2
 of-literal-requires-2 c κs = search needs
 
 returns-3 : tie.Need-returns-3
-returns-3 c = (ruled-without (c .before .before .before .before .args .by .symbol) (c .before .before .before .before .args .by .state) (tree (c .before .before .before .before .args .f .now) (c .before .before .before .before .args .k)) (sym (c .before .before .before .before .pre .1) ∙ c .before .if1 .left), c .of-literal2 .ensures ∙ ap attributes-of (sym (derived-without (c .before .before .before .before .args .by .symbol) (c .before .before .before .before .args .by .state) (tree (c .before .before .before .before .args .f .now) (c .before .before .before .before .args .k)) (sym (c .before .before .before .before .pre .1) ∙ c .before .if1 .left))))
+returns-3 c =
+    let args = c .before .before .before .before .args in
+    let pre = c .before .before .before .before .pre in
+    let tree2 = tree (args .f .now) (args .k) in
+    let sym2 = sym (pre .1) ∙ c .before .if1 .left in (
+      ruled-without (args .by .symbol) (args .by .state) tree2 sym2,
+      c .of-literal2 .ensures ∙ ap attributes-of (sym (derived-without (args .by .symbol) (args .by .state) tree2 sym2)),
+    )
 
 pub diff-of-spec : {M : Type 1} → statement M
 diff-of-spec =

@@ -26,10 +26,15 @@ literal-at-requires : tie.Need-literal-at-requires
 literal-at-requires c κs = search needs
 
 returns : tie.Need-returns
-returns c = c .literal-at .ensures ∙ sym (exponent-is (c .before .before .before .before .before .before .args .f .now) (c .before .before .before .before .before .before .args .k) (c .before .child .result) (c .before .child .ensures))
+returns c =
+    let args = c .before .before .before .before .before .before .args in
+    c .literal-at .ensures ∙ sym (exponent-is (args .f .now) (args .k) (c .before .child .result) (c .before .child .ensures))
 
 returns-2 : tie.Need-returns-2
-returns-2 c = sym (exponent-none (c .before .before .before .before .args .f .now) (c .before .before .before .before .args .k) (c .before .before .before .before .pre .formed) (omega (arith, c .before .half .ensures .0, c .if1 .left)))
+returns-2 c =
+    let args = c .before .before .before .before .args in
+    sym (exponent-none (args .f .now) (args .k) (c .before .before .before .before .pre .formed)
+    (omega (arith, c .before .half .ensures .0, c .if1 .left)))
 
 pub exponent-spec : {M : Type 1} → statement M
 exponent-spec =

@@ -25,7 +25,9 @@ use Rattle.survey.proofs.three.Reads as three-reads
 use Rattle.survey.proofs.two.Reads as two-reads
 
 abbrev Inv-loop : tie.InvT-loop
-Inv-loop f k by table n whole i₀ selected₀ i selected = (i < n) × (reading whole ≡ attributes-of (tree f k)) × (reading selected ≡ instance attribute-algebra (attribute-parts (by .symbol) (by .state) (tree f k)) (extremum-from i (n - 1 - i)))
+Inv-loop f k by table n whole i₀ selected₀ i selected =
+    (i < n) × (reading whole ≡ attributes-of (tree f k)) ×
+    (reading selected ≡ instance attribute-algebra (attribute-parts (by .symbol) (by .state) (tree f k)) (extremum-from i (n - 1 - i)))
 
 abbrev μ-loop : tie.MeasureT-loop
 μ-loop f k by table n whole i₀ selected₀ i selected = i
@@ -43,7 +45,11 @@ of-literal-requires : tie.Need-of-literal-requires Inv-loop μ-loop
 of-literal-requires c κs = search needs
 
 returns : tie.Need-returns Inv-loop μ-loop
-returns c = c .of-literal .ensures ∙ extremum-none (c .before .before .before .before .before .args .by .symbol) (c .before .before .before .before .before .args .by .state) (tree (c .before .before .before .before .before .args .f .now) (c .before .before .before .before .before .args .k)) (c .before .before .half .result) (c .before .before .half .ensures .0 ∙ sym (count-is (c .before .before .before .before .before .args .f .now) (c .before .before .before .before .before .args .k) (c .before .before .before .before .before .pre .owned .formed))) (c .before .if1 .taken)
+returns c =
+    let args = c .before .before .before .before .before .args in
+    c .of-literal .ensures ∙ extremum-none (args .by .symbol) (args .by .state) (tree (args .f .now) (args .k)) (c .before .before .half .result)
+    (c .before .before .half .ensures .0 ∙ sym (count-is (args .f .now) (args .k) (c .before .before .before .before .before .pre .owned .formed)))
+    (c .before .if1 .taken)
 
 own-requires : tie.Need-own-requires Inv-loop μ-loop
 own-requires c κs = c .before .before .before .before .pre .owned
@@ -55,7 +61,14 @@ diff-attributes-requires : tie.Need-diff-attributes-requires Inv-loop μ-loop
 diff-attributes-requires c κs = c .before .before .before .before .before .pre
 
 loop-holds : tie.Need-loop-holds Inv-loop μ-loop
-loop-holds c = (omega (arith, c .before .before .if1 .left), c .before .own .ensures, c .diff-attributes .ensures ∙ extremum-last (c .before .before .before .before .before .before .args .by .symbol) (c .before .before .before .before .before .before .args .by .state) (tree (c .before .before .before .before .before .before .args .f .now) (c .before .before .before .before .before .before .args .k)) (c .before .before .before .half .result) (c .before .before .before .half .result - 1) refl)
+loop-holds c =
+    let args = c .before .before .before .before .before .before .args in
+    let half = c .before .before .before .half in (
+      omega (arith, c .before .before .if1 .left),
+      c .before .own .ensures,
+      c .diff-attributes .ensures ∙ extremum-last (args .by .symbol) (args .by .state) (tree (args .f .now) (args .k)) (half .result)
+          (half .result - 1) refl,
+    )
 
 sub-i-2 : tie.Need-sub-i-2 Inv-loop μ-loop
 sub-i-2 c = omega (arith, c .loop-test .taken)
@@ -64,22 +77,56 @@ child-attributes-requires : tie.Need-child-attributes-requires Inv-loop μ-loop
 child-attributes-requires c κs = c .before .before .before .before .before .before .before .before .pre .owned
 
 two-requires : tie.Need-two-requires Inv-loop μ-loop
-two-requires c κs = (capped-tree (c .child-attributes .result) (child-of (tree (c .before .before .before .before .before .before .before .before .before .args .f .now) (c .before .before .before .before .before .before .before .before .before .args .k)) (c .before .before .loop .i - 1)) (c .child-attributes .ensures), capped-tree (c .before .before .before .before .own .result) (tree (c .before .before .before .before .before .before .before .before .before .args .f .now) (c .before .before .before .before .before .before .before .before .before .args .k)) (c .before .before .before .before .own .ensures))
+two-requires c κs =
+    let args = c .before .before .before .before .before .before .before .before .before .args in
+    let own = c .before .before .before .before .own in
+    let tree2 = tree (args .f .now) (args .k) in (
+      capped-tree (c .child-attributes .result) (child-of tree2 (c .before .before .loop .i - 1)) (c .child-attributes .ensures),
+      capped-tree (own .result) tree2 (own .ensures),
+    )
 
 diff-attributes-requires-2 : tie.Need-diff-attributes-requires-2 Inv-loop μ-loop
 diff-attributes-requires-2 c κs = c .before .before .before .before .before .before .before .before .before .before .pre
 
 three-requires : tie.Need-three-requires Inv-loop μ-loop
-three-requires c κs = (capped-inner (c .before .two .result) (reading (c .before .before .child-attributes .result) ∷ reading (c .before .before .before .before .before .before .own .result) ∷ []) (c .before .two .ensures), capped-tree (c .diff-attributes2 .result) (derived-of (c .before .before .before .before .before .before .before .before .before .before .before .args .by .symbol) (c .before .before .before .before .before .before .before .before .before .before .before .args .by .state) (tree (c .before .before .before .before .before .before .before .before .before .before .before .args .f .now) (c .before .before .before .before .before .before .before .before .before .before .before .args .k)) (c .before .before .before .before .loop .i - 1)) (c .diff-attributes2 .ensures), capped-of (c .before .before .before .before .before .before .before .before .before .before .before .args .by .symbol) (c .before .before .before .before .before .before .before .before .before .before .before .args .by .state) (tree (c .before .before .before .before .before .before .before .before .before .before .before .args .f .now) (c .before .before .before .before .before .before .before .before .before .before .before .args .k)) (extremum-from (c .before .before .before .before .loop .i) (c .before .before .before .before .before .before .before .before .half .result - 1 - c .before .before .before .before .loop .i)) (c .before .before .before .before .loop .selected) (c .before .before .before .before .loop .inv .2))
+three-requires c κs =
+    let args = c .before .before .before .before .before .before .before .before .before .before .before .args in
+    let half = c .before .before .before .before .before .before .before .before .half in
+    let own = c .before .before .before .before .before .before .own in
+    let loop = c .before .before .before .before .loop in
+    let tree2 = tree (args .f .now) (args .k) in (
+      capped-inner (c .before .two .result) (reading (c .before .before .child-attributes .result) ∷ reading (own .result) ∷ [])
+          (c .before .two .ensures),
+      capped-tree (c .diff-attributes2 .result) (derived-of (args .by .symbol) (args .by .state) tree2 (loop .i - 1)) (c .diff-attributes2 .ensures),
+      capped-of (args .by .symbol) (args .by .state) tree2 (extremum-from (loop .i) (half .result - 1 - loop .i)) (loop .selected) (loop .inv .2),
+    )
 
 loop-less : tie.Need-loop-less Inv-loop μ-loop
 loop-less c = omega (arith, c .before .before .before .before .loop-test .taken)
 
 loop-again : tie.Need-loop-again Inv-loop μ-loop
-loop-again c = (omega (arith, c .before .before .before .before .before .loop .inv .0), c .before .before .before .before .before .loop .inv .1, selected-next (c .before .before .before .before .before .before .before .before .before .before .before .before .args .by .symbol) (c .before .before .before .before .before .before .before .before .before .before .before .before .args .by .state) (tree (c .before .before .before .before .before .before .before .before .before .before .before .before .args .f .now) (c .before .before .before .before .before .before .before .before .before .before .before .before .args .k)) (c .before .before .before .before .before .before .before .before .before .half .result) (c .before .before .before .before .before .loop .i) (λ e. omega (arith, c .before .before .before .before .loop-test .taken)) (c .before .before .before .before .before .loop .inv .0) (c .before .before .before .before .before .before .before .own .result) (c .before .before .two .result) (c .before .before .before .child-attributes .result) (c .before .diff-attributes2 .result) (c .before .before .before .before .before .before .before .own .ensures) (c .before .before .before .child-attributes .ensures) (c .before .before .two .ensures) (c .before .diff-attributes2 .ensures) (c .before .before .before .before .before .loop .selected) (c .three .result) (c .before .before .before .before .before .loop .inv .2) (c .three .ensures))
+loop-again c =
+    let args = c .before .before .before .before .before .before .before .before .before .before .before .before .args in
+    let half = c .before .before .before .before .before .before .before .before .before .half in
+    let own = c .before .before .before .before .before .before .before .own in
+    let loop = c .before .before .before .before .before .loop in
+    let child-attributes = c .before .before .before .child-attributes in (
+      omega (arith, loop .inv .0),
+      loop .inv .1,
+      selected-next (args .by .symbol) (args .by .state) (tree (args .f .now) (args .k)) (half .result) (loop .i)
+          (λ e. omega (arith, c .before .before .before .before .loop-test .taken)) (loop .inv .0) (own .result) (c .before .before .two .result)
+          (child-attributes .result) (c .before .diff-attributes2 .result) (own .ensures) (child-attributes .ensures) (c .before .before .two .ensures)
+          (c .before .diff-attributes2 .ensures) (loop .selected) (c .three .result) (loop .inv .2) (c .three .ensures),
+    )
 
 returns-2 : tie.Need-returns-2 Inv-loop μ-loop
-returns-2 c = c .before .loop .inv .2 ∙ extremum-done (c .before .before .before .before .before .before .before .before .args .by .symbol) (c .before .before .before .before .before .before .before .before .args .by .state) (tree (c .before .before .before .before .before .before .before .before .args .f .now) (c .before .before .before .before .before .before .before .before .args .k)) (c .before .before .before .before .before .half .result) (c .before .loop .i) (c .before .before .before .before .before .half .ensures .0 ∙ sym (count-is (c .before .before .before .before .before .before .before .before .args .f .now) (c .before .before .before .before .before .before .before .before .args .k) (c .before .before .before .before .before .before .before .before .pre .owned .formed))) (c .before .before .before .before .if1 .left) (omega (arith, c .loop-test .left))
+returns-2 c =
+    let args = c .before .before .before .before .before .before .before .before .args in
+    let pre = c .before .before .before .before .before .before .before .before .pre in
+    let half = c .before .before .before .before .before .half in
+    c .before .loop .inv .2 ∙ extremum-done (args .by .symbol) (args .by .state) (tree (args .f .now) (args .k)) (half .result) (c .before .loop .i)
+    (half .ensures .0 ∙ sym (count-is (args .f .now) (args .k) (pre .owned .formed))) (c .before .before .before .before .if1 .left)
+    (omega (arith, c .loop-test .left))
 
 pub extremum-spec : {M : Type 1} → statement M
 extremum-spec =

@@ -17,19 +17,28 @@ byte-requires : tie.Need-byte-requires
 byte-requires c κs = search needs
 
 mul-word : tie.Need-mul-word
-mul-word c = omega (arith, first-inside (c .before .before .before .args .f .now) (c .before .before .before .args .k) (c .before .before .before .pre))
+mul-word c =
+    let args = c .before .before .before .args in
+    omega (arith, first-inside (args .f .now) (args .k) (c .before .before .before .pre))
 
 add-word : tie.Need-add-word
-add-word c = omega (arith, first-inside (c .before .before .before .args .f .now) (c .before .before .before .args .k) (c .before .before .before .pre))
+add-word c =
+    let args = c .before .before .before .args in
+    omega (arith, first-inside (args .f .now) (args .k) (c .before .before .before .pre))
 
 word-requires : tie.Need-word-requires
 word-requires c κs = search needs
 
 returns : tie.Need-returns
-returns c = symbol-yes (c .before .before .before .before .args .f .now) (c .before .before .before .before .args .k) (c .before .before .before .before .args .s) (c .before .before .before .before .pre) (c .word .result) (c .word .ensures .0) (sym (c .before .before .byte .ensures) ∙ c .before .if1 .taken)
+returns c =
+    let args = c .before .before .before .before .args in
+    symbol-yes (args .f .now) (args .k) (args .s) (c .before .before .before .before .pre) (c .word .result) (c .word .ensures .0)
+    (sym (c .before .before .byte .ensures) ∙ c .before .if1 .taken)
 
 returns-2 : tie.Need-returns-2
-returns-2 c = symbol-no (c .before .before .before .args .f .now) (c .before .before .before .args .k) (c .before .before .before .args .s) (c .before .before .before .pre) (λ e. c .if1 .left (c .before .byte .ensures ∙ e))
+returns-2 c =
+    let args = c .before .before .before .args in
+    symbol-no (args .f .now) (args .k) (args .s) (c .before .before .before .pre) (λ e. c .if1 .left (c .before .byte .ensures ∙ e))
 
 pub is-symbol-spec : {M : Type 1} → statement M
 is-symbol-spec =

@@ -16,19 +16,28 @@ byte-requires : tie.Need-byte-requires
 byte-requires c κs = search needs
 
 mul-long : tie.Need-mul-long
-mul-long c = omega (arith, first-inside (c .before .before .before .args .f .now) (c .before .before .before .args .k) (c .before .before .before .pre))
+mul-long c =
+    let args = c .before .before .before .args in
+    omega (arith, first-inside (args .f .now) (args .k) (c .before .before .before .pre))
 
 add-long : tie.Need-add-long
-add-long c = omega (arith, first-inside (c .before .before .before .args .f .now) (c .before .before .before .args .k) (c .before .before .before .pre))
+add-long c =
+    let args = c .before .before .before .args in
+    omega (arith, first-inside (args .f .now) (args .k) (c .before .before .before .pre))
 
 long-requires : tie.Need-long-requires
 long-requires c κs = search needs
 
 returns : tie.Need-returns
-returns c = literal-yes (c .before .before .before .before .args .f .now) (c .before .before .before .before .args .k) (c .before .before .before .before .pre) (c .long .result) (c .long .ensures) (sym (c .before .before .byte .ensures) ∙ c .before .if1 .taken)
+returns c =
+    let args = c .before .before .before .before .args in
+    literal-yes (args .f .now) (args .k) (c .before .before .before .before .pre) (c .long .result) (c .long .ensures)
+    (sym (c .before .before .byte .ensures) ∙ c .before .if1 .taken)
 
 returns-2 : tie.Need-returns-2
-returns-2 c = literal-no (c .before .before .before .args .f .now) (c .before .before .before .args .k) (c .before .before .before .pre) (λ e. c .if1 .left (c .before .byte .ensures ∙ e))
+returns-2 c =
+    let args = c .before .before .before .args in
+    literal-no (args .f .now) (args .k) (c .before .before .before .pre) (λ e. c .if1 .left (c .before .byte .ensures ∙ e))
 
 pub literal-at-spec : {M : Type 1} → statement M
 literal-at-spec =

@@ -20,7 +20,10 @@ half-requires : tie.Need-half-requires
 half-requires c κs = search needs
 
 returns : tie.Need-returns
-returns c = sym (moving-none (c .before .before .before .before .args .by .symbol) (c .before .before .before .before .args .f .now) (c .before .before .before .before .args .k) (c .before .before .before .before .pre .owned .formed) (sym (c .before .half .ensures .0) ∙ c .if1 .taken))
+returns c =
+    let args = c .before .before .before .before .args in
+    sym (moving-none (args .by .symbol) (args .f .now) (args .k) (c .before .before .before .before .pre .owned .formed)
+    (sym (c .before .half .ensures .0) ∙ c .if1 .taken))
 
 child-requires : tie.Need-child-requires
 child-requires c κs = search needs
@@ -35,10 +38,24 @@ mul-result-2 : tie.Need-mul-result-2
 mul-result-2 c = search needs
 
 shared-slice-read-result : tie.Need-shared-slice-read-result
-shared-slice-read-result c = omega (arith, row-inside (c .before .before .before .before .before .before .args .f .now) (c .before .before .before .before .before .before .args .table .now) (c .before .child .result) (owned-child (c .before .before .before .before .before .before .args .f .now) (c .before .before .before .before .before .before .args .table .now) (c .before .before .before .before .before .before .args .k) 0 (c .before .child .result) (c .before .before .before .before .before .before .pre .owned) (c .before .child .ensures)))
+shared-slice-read-result c =
+    let args = c .before .before .before .before .before .before .args in
+    let pre = c .before .before .before .before .before .before .pre in
+    let result = c .before .child .result in
+    omega (
+      arith,
+      row-inside (args .f .now) (args .table .now) result
+          (owned-child (args .f .now) (args .table .now) (args .k) 0 result (pre .owned) (c .before .child .ensures)),
+    )
 
 returns-2 : tie.Need-returns-2
-returns-2 c = surveyed-child (c .before .before .before .before .before .before .args .by .symbol) (c .before .before .before .before .before .before .args .by .state) (c .before .before .before .before .before .before .args .f .now) (c .before .before .before .before .before .before .args .table .now) (c .before .before .before .before .before .before .args .k) 0 (c .before .child .result) (c .before .before .before .before .before .before .pre) (c .before .child .ensures) .has ∙ sym (moving-is (c .before .before .before .before .before .before .args .by .symbol) (c .before .before .before .before .before .before .args .f .now) (c .before .before .before .before .before .before .args .k) (c .before .child .result) (c .before .child .ensures))
+returns-2 c =
+    let args = c .before .before .before .before .before .before .args in
+    let pre = c .before .before .before .before .before .before .pre in
+    let result = c .before .child .result in
+    let ensures = c .before .child .ensures in
+    surveyed-child (args .by .symbol) (args .by .state) (args .f .now) (args .table .now) (args .k) 0 result pre ensures .has ∙ sym
+    (moving-is (args .by .symbol) (args .f .now) (args .k) result ensures)
 
 pub moving-spec : {M : Type 1} → statement M
 moving-spec =

@@ -19,7 +19,10 @@ least-requires-2 : tie.Need-least-requires-2
 least-requires-2 c κs = search needs
 
 returns : tie.Need-returns
-returns c = node-right (c .before .before .least .result) (c .before .before .before .before .args .s .nodes) (c .least2 .result) (c .before .before .before .before .args .s .levels) (c .before .before .least .ensures) (c .least2 .ensures)
+returns c =
+    let args = c .before .before .before .before .args in
+    node-right (c .before .before .least .result) (args .s .nodes) (c .least2 .result) (args .s .levels) (c .before .before .least .ensures)
+    (c .least2 .ensures)
 
 pub node-spec : {M : Type 1} → statement M
 node-spec = tie.close (tie.spec add-least least-requires add-least-2 least-requires-2 returns)

@@ -19,7 +19,9 @@ mul-least-2 : tie.Need-mul-least-2
 mul-least-2 c = search needs
 
 shared-slice-read-least : tie.Need-shared-slice-read-least
-shared-slice-read-least c = omega (arith, row-inside (c .before .before .before .before .args .f .now) (c .before .before .before .before .args .table .now) (c .before .before .before .before .args .k) (c .before .before .before .before .pre))
+shared-slice-read-least c =
+    let args = c .before .before .before .before .args in
+    omega (arith, row-inside (args .f .now) (args .table .now) (args .k) (c .before .before .before .before .pre))
 
 least-requires : tie.Need-least-requires
 least-requires c κs = search needs
@@ -34,13 +36,21 @@ mul-least-4 : tie.Need-mul-least-4
 mul-least-4 c = search needs
 
 shared-slice-read-least-2 : tie.Need-shared-slice-read-least-2
-shared-slice-read-least-2 c = omega (arith, row-inside (c .before .before .before .before .before .before .args .f .now) (c .before .before .before .before .before .before .args .table .now) (c .before .before .before .before .before .before .args .k) (c .before .before .before .before .before .before .pre))
+shared-slice-read-least-2 c =
+    let args = c .before .before .before .before .before .before .args in
+    let pre = c .before .before .before .before .before .before .pre in
+    omega (arith, row-inside (args .f .now) (args .table .now) (args .k) (pre))
 
 least-requires-2 : tie.Need-least-requires-2
 least-requires-2 c κs = search needs
 
 returns : tie.Need-returns
-returns c = own-right (c .before .before .before .before .before .before .before .args .f .now) (c .before .before .before .before .before .before .before .args .table .now) (c .before .before .before .before .before .before .before .args .k) (c .before .before .before .before .before .before .before .pre) (c .before .before .least .result) (c .least2 .result) (literal-of (c .before .before .before .before .literal-at .result)) (c .before .before .least .ensures) (c .least2 .ensures) (c .before .before .before .before .literal-at .ensures)
+returns c =
+    let args = c .before .before .before .before .before .before .before .args in
+    let pre = c .before .before .before .before .before .before .before .pre in
+    let literal-at = c .before .before .before .before .literal-at in
+    own-right (args .f .now) (args .table .now) (args .k) (pre) (c .before .before .least .result) (c .least2 .result)
+    (literal-of (literal-at .result)) (c .before .before .least .ensures) (c .least2 .ensures) (literal-at .ensures)
 
 pub own-spec : {M : Type 1} → statement M
 own-spec =

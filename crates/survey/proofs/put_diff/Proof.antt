@@ -93,7 +93,11 @@ same-length : tie.Need-same-length
 same-length c = search needs
 
 returns : tie.Need-returns
-returns c = put-diff (c .before .before .before .before .args .table .now) (c .before .before .before .before .args .k) (c .before .before .flag .result) (c .before .flag2 .result) (c .before .before .before .before .args .d .nodes) (c .before .before .before .before .args .d .levels) (c .flag3 .result) (c .before .before .before .before .args .d .bits) (c .before .before .before .before .pre) (c .before .before .before .before .args .has) (c .before .before .before .before .args .fine) (c .before .before .before .before .args .d .literal) (c .before .before .flag .ensures) (c .before .flag2 .ensures) (c .flag3 .ensures)
+returns c =
+    let args = c .before .before .before .before .args in
+    put-diff (args .table .now) (args .k) (c .before .before .flag .result) (c .before .flag2 .result) (args .d .nodes) (args .d .levels)
+    (c .flag3 .result) (args .d .bits) (c .before .before .before .before .pre) (args .has) (args .fine) (args .d .literal)
+    (c .before .before .flag .ensures) (c .before .flag2 .ensures) (c .flag3 .ensures)
 
 pub put-diff-spec : {M : Type 1} → statement M
 put-diff-spec =

@@ -52,31 +52,93 @@ power-rule-requires : tie.Need-power-rule-requires
 power-rule-requires c κs = search needs
 
 returns : tie.Need-returns
-returns c = c .power-rule .ensures ∙ ap power-number (c .before .exponent .ensures) ∙ number-power (c .before .before .before .before .before .before .before .before .before .args .by .symbol) (c .before .before .before .before .before .before .before .before .before .args .by .state) (c .before .before .before .before .before .before .before .before .before .args .f .now) (c .before .before .before .before .before .before .before .before .before .args .k) (16 * c .before .before .before .before .before .wide .result + c .before .before .before .wide2 .result) (omega (arith, c .before .before .before .before .before .wide .ensures .0, c .before .before .before .wide2 .ensures .0, c .before .before .before .before .before .before .byte .ensures, c .before .before .before .before .byte2 .ensures)) (c .before .before .if1 .taken)
+returns c =
+    let args = c .before .before .before .before .before .before .before .before .before .args in
+    let byte = c .before .before .before .before .before .before .byte in
+    let wide = c .before .before .before .before .before .wide in
+    let wide2 = c .before .before .before .wide2 in
+    c .power-rule .ensures ∙ ap power-number (c .before .exponent .ensures) ∙ number-power (args .by .symbol) (args .by .state) (args .f .now)
+    (args .k) (16 * wide .result + wide2 .result)
+    (omega (arith, wide .ensures .0, wide2 .ensures .0, byte .ensures, c .before .before .before .before .byte2 .ensures))
+    (c .before .before .if1 .taken)
 
 returns-2 : tie.Need-returns-2
-returns-2 c = by-state-yes (c .before .before .before .before .before .before .before .before .before .args .by .state) (c .if3 .taken) ∙ number-hill (c .before .before .before .before .before .before .before .before .before .args .by .symbol) (c .before .before .before .before .before .before .before .before .before .args .by .state) (c .before .before .before .before .before .before .before .before .before .args .f .now) (c .before .before .before .before .before .before .before .before .before .args .k) (16 * c .before .before .before .before .before .wide .result + c .before .before .before .wide2 .result) (omega (arith, c .before .before .before .before .before .wide .ensures .0, c .before .before .before .wide2 .ensures .0, c .before .before .before .before .before .before .byte .ensures, c .before .before .before .before .byte2 .ensures)) (c .before .before .if1 .left) (c .before .if2 .taken)
+returns-2 c =
+    let args = c .before .before .before .before .before .before .before .before .before .args in
+    let byte = c .before .before .before .before .before .before .byte in
+    let wide = c .before .before .before .before .before .wide in
+    let wide2 = c .before .before .before .wide2 in
+    by-state-yes (args .by .state) (c .if3 .taken) ∙ number-hill (args .by .symbol) (args .by .state) (args .f .now) (args .k)
+    (16 * wide .result + wide2 .result)
+    (omega (arith, wide .ensures .0, wide2 .ensures .0, byte .ensures, c .before .before .before .before .byte2 .ensures))
+    (c .before .before .if1 .left) (c .before .if2 .taken)
 
 returns-3 : tie.Need-returns-3
-returns-3 c = by-state-no (c .before .before .before .before .before .before .before .before .before .args .by .state) (c .if3 .left) ∙ number-hill (c .before .before .before .before .before .before .before .before .before .args .by .symbol) (c .before .before .before .before .before .before .before .before .before .args .by .state) (c .before .before .before .before .before .before .before .before .before .args .f .now) (c .before .before .before .before .before .before .before .before .before .args .k) (16 * c .before .before .before .before .before .wide .result + c .before .before .before .wide2 .result) (omega (arith, c .before .before .before .before .before .wide .ensures .0, c .before .before .before .wide2 .ensures .0, c .before .before .before .before .before .before .byte .ensures, c .before .before .before .before .byte2 .ensures)) (c .before .before .if1 .left) (c .before .if2 .taken)
+returns-3 c =
+    let args = c .before .before .before .before .before .before .before .before .before .args in
+    let byte = c .before .before .before .before .before .before .byte in
+    let wide = c .before .before .before .before .before .wide in
+    let wide2 = c .before .before .before .wide2 in
+    by-state-no (args .by .state) (c .if3 .left) ∙ number-hill (args .by .symbol) (args .by .state) (args .f .now) (args .k)
+    (16 * wide .result + wide2 .result)
+    (omega (arith, wide .ensures .0, wide2 .ensures .0, byte .ensures, c .before .before .before .before .byte2 .ensures))
+    (c .before .before .if1 .left) (c .before .if2 .taken)
 
 moving-requires : tie.Need-moving-requires
 moving-requires c κs = search needs
 
 returns-4 : tie.Need-returns-4
-returns-4 c = moves-yes (c .before .moving .result) (first-depends (c .before .before .before .before .before .before .before .before .before .before .before .args .by .symbol) (children-of (tree (c .before .before .before .before .before .before .before .before .before .before .before .args .f .now) (c .before .before .before .before .before .before .before .before .before .before .before .args .k)))) 0x7e (c .before .moving .ensures) (c .if5 .taken) ∙ number-ifelse (c .before .before .before .before .before .before .before .before .before .before .before .args .by .symbol) (c .before .before .before .before .before .before .before .before .before .before .before .args .by .state) (c .before .before .before .before .before .before .before .before .before .before .before .args .f .now) (c .before .before .before .before .before .before .before .before .before .before .before .args .k) (16 * c .before .before .before .before .before .before .before .wide .result + c .before .before .before .before .before .wide2 .result) (omega (arith, c .before .before .before .before .before .before .before .wide .ensures .0, c .before .before .before .before .before .wide2 .ensures .0, c .before .before .before .before .before .before .before .before .byte .ensures, c .before .before .before .before .before .before .byte2 .ensures)) (c .before .before .before .before .if1 .left) (c .before .before .before .if2 .left) (c .before .before .if4 .taken)
+returns-4 c =
+    let args = c .before .before .before .before .before .before .before .before .before .before .before .args in
+    let byte = c .before .before .before .before .before .before .before .before .byte in
+    let wide = c .before .before .before .before .before .before .before .wide in
+    let byte2 = c .before .before .before .before .before .before .byte2 in
+    let wide2 = c .before .before .before .before .before .wide2 in
+    moves-yes (c .before .moving .result) (first-depends (args .by .symbol) (children-of (tree (args .f .now) (args .k)))) 0x7e
+    (c .before .moving .ensures) (c .if5 .taken) ∙ number-ifelse (args .by .symbol) (args .by .state) (args .f .now) (args .k)
+    (16 * wide .result + wide2 .result) (omega (arith, wide .ensures .0, wide2 .ensures .0, byte .ensures, byte2 .ensures))
+    (c .before .before .before .before .if1 .left) (c .before .before .before .if2 .left) (c .before .before .if4 .taken)
 
 returns-5 : tie.Need-returns-5
-returns-5 c = moves-no (c .before .moving .result) (first-depends (c .before .before .before .before .before .before .before .before .before .before .before .args .by .symbol) (children-of (tree (c .before .before .before .before .before .before .before .before .before .before .before .args .f .now) (c .before .before .before .before .before .before .before .before .before .before .before .args .k)))) 0x7e (c .before .moving .ensures) (c .if5 .left) ∙ number-ifelse (c .before .before .before .before .before .before .before .before .before .before .before .args .by .symbol) (c .before .before .before .before .before .before .before .before .before .before .before .args .by .state) (c .before .before .before .before .before .before .before .before .before .before .before .args .f .now) (c .before .before .before .before .before .before .before .before .before .before .before .args .k) (16 * c .before .before .before .before .before .before .before .wide .result + c .before .before .before .before .before .wide2 .result) (omega (arith, c .before .before .before .before .before .before .before .wide .ensures .0, c .before .before .before .before .before .wide2 .ensures .0, c .before .before .before .before .before .before .before .before .byte .ensures, c .before .before .before .before .before .before .byte2 .ensures)) (c .before .before .before .before .if1 .left) (c .before .before .before .if2 .left) (c .before .before .if4 .taken)
+returns-5 c =
+    let args = c .before .before .before .before .before .before .before .before .before .before .before .args in
+    let byte = c .before .before .before .before .before .before .before .before .byte in
+    let wide = c .before .before .before .before .before .before .before .wide in
+    let byte2 = c .before .before .before .before .before .before .byte2 in
+    let wide2 = c .before .before .before .before .before .wide2 in
+    moves-no (c .before .moving .result) (first-depends (args .by .symbol) (children-of (tree (args .f .now) (args .k)))) 0x7e
+    (c .before .moving .ensures) (c .if5 .left) ∙ number-ifelse (args .by .symbol) (args .by .state) (args .f .now) (args .k)
+    (16 * wide .result + wide2 .result) (omega (arith, wide .ensures .0, wide2 .ensures .0, byte .ensures, byte2 .ensures))
+    (c .before .before .before .before .if1 .left) (c .before .before .before .if2 .left) (c .before .before .if4 .taken)
 
 moving-requires-2 : tie.Need-moving-requires-2
 moving-requires-2 c κs = search needs
 
 returns-6 : tie.Need-returns-6
-returns-6 c = moves-yes (c .before .moving2 .result) (first-depends (c .before .before .before .before .before .before .before .before .before .before .before .before .args .by .symbol) (children-of (tree (c .before .before .before .before .before .before .before .before .before .before .before .before .args .f .now) (c .before .before .before .before .before .before .before .before .before .before .before .before .args .k)))) 0x80 (c .before .moving2 .ensures) (c .if7 .taken) ∙ number-conditional (c .before .before .before .before .before .before .before .before .before .before .before .before .args .by .symbol) (c .before .before .before .before .before .before .before .before .before .before .before .before .args .by .state) (c .before .before .before .before .before .before .before .before .before .before .before .before .args .f .now) (c .before .before .before .before .before .before .before .before .before .before .before .before .args .k) (16 * c .before .before .before .before .before .before .before .before .wide .result + c .before .before .before .before .before .before .wide2 .result) (omega (arith, c .before .before .before .before .before .before .before .before .wide .ensures .0, c .before .before .before .before .before .before .wide2 .ensures .0, c .before .before .before .before .before .before .before .before .before .byte .ensures, c .before .before .before .before .before .before .before .byte2 .ensures)) (c .before .before .before .before .before .if1 .left) (c .before .before .before .before .if2 .left) (c .before .before .before .if4 .left) (c .before .before .if6 .taken)
+returns-6 c =
+    let args = c .before .before .before .before .before .before .before .before .before .before .before .before .args in
+    let byte = c .before .before .before .before .before .before .before .before .before .byte in
+    let wide = c .before .before .before .before .before .before .before .before .wide in
+    let byte2 = c .before .before .before .before .before .before .before .byte2 in
+    let wide2 = c .before .before .before .before .before .before .wide2 in
+    moves-yes (c .before .moving2 .result) (first-depends (args .by .symbol) (children-of (tree (args .f .now) (args .k)))) 0x80
+    (c .before .moving2 .ensures) (c .if7 .taken) ∙ number-conditional (args .by .symbol) (args .by .state) (args .f .now) (args .k)
+    (16 * wide .result + wide2 .result) (omega (arith, wide .ensures .0, wide2 .ensures .0, byte .ensures, byte2 .ensures))
+    (c .before .before .before .before .before .if1 .left) (c .before .before .before .before .if2 .left) (c .before .before .before .if4 .left)
+    (c .before .before .if6 .taken)
 
 returns-7 : tie.Need-returns-7
-returns-7 c = moves-no (c .before .moving2 .result) (first-depends (c .before .before .before .before .before .before .before .before .before .before .before .before .args .by .symbol) (children-of (tree (c .before .before .before .before .before .before .before .before .before .before .before .before .args .f .now) (c .before .before .before .before .before .before .before .before .before .before .before .before .args .k)))) 0x80 (c .before .moving2 .ensures) (c .if7 .left) ∙ number-conditional (c .before .before .before .before .before .before .before .before .before .before .before .before .args .by .symbol) (c .before .before .before .before .before .before .before .before .before .before .before .before .args .by .state) (c .before .before .before .before .before .before .before .before .before .before .before .before .args .f .now) (c .before .before .before .before .before .before .before .before .before .before .before .before .args .k) (16 * c .before .before .before .before .before .before .before .before .wide .result + c .before .before .before .before .before .before .wide2 .result) (omega (arith, c .before .before .before .before .before .before .before .before .wide .ensures .0, c .before .before .before .before .before .before .wide2 .ensures .0, c .before .before .before .before .before .before .before .before .before .byte .ensures, c .before .before .before .before .before .before .before .byte2 .ensures)) (c .before .before .before .before .before .if1 .left) (c .before .before .before .before .if2 .left) (c .before .before .before .if4 .left) (c .before .before .if6 .taken)
+returns-7 c =
+    let args = c .before .before .before .before .before .before .before .before .before .before .before .before .args in
+    let byte = c .before .before .before .before .before .before .before .before .before .byte in
+    let wide = c .before .before .before .before .before .before .before .before .wide in
+    let byte2 = c .before .before .before .before .before .before .before .byte2 in
+    let wide2 = c .before .before .before .before .before .before .wide2 in
+    moves-no (c .before .moving2 .result) (first-depends (args .by .symbol) (children-of (tree (args .f .now) (args .k)))) 0x80
+    (c .before .moving2 .ensures) (c .if7 .left) ∙ number-conditional (args .by .symbol) (args .by .state) (args .f .now) (args .k)
+    (16 * wide .result + wide2 .result) (omega (arith, wide .ensures .0, wide2 .ensures .0, byte .ensures, byte2 .ensures))
+    (c .before .before .before .before .before .if1 .left) (c .before .before .before .before .if2 .left) (c .before .before .before .if4 .left)
+    (c .before .before .if6 .taken)
 
 mul-half : tie.Need-mul-half
 mul-half c = search needs
@@ -88,10 +150,34 @@ half-requires : tie.Need-half-requires
 half-requires c κs = search needs
 
 returns-8 : tie.Need-returns-8
-returns-8 c = none-yes (c .before .before .before .before .before .before .before .before .before .before .before .before .before .args .f .now) (c .before .before .before .before .before .before .before .before .before .before .before .before .before .args .k) (c .before .half .result) 0x7b (c .before .before .before .before .before .before .before .before .before .before .before .before .before .pre .owned .formed) (c .before .half .ensures .0) (c .if9 .taken) ∙ number-min (c .before .before .before .before .before .before .before .before .before .before .before .before .before .args .by .symbol) (c .before .before .before .before .before .before .before .before .before .before .before .before .before .args .by .state) (c .before .before .before .before .before .before .before .before .before .before .before .before .before .args .f .now) (c .before .before .before .before .before .before .before .before .before .before .before .before .before .args .k) (16 * c .before .before .before .before .before .before .before .before .before .wide .result + c .before .before .before .before .before .before .before .wide2 .result) (omega (arith, c .before .before .before .before .before .before .before .before .before .wide .ensures .0, c .before .before .before .before .before .before .before .wide2 .ensures .0, c .before .before .before .before .before .before .before .before .before .before .byte .ensures, c .before .before .before .before .before .before .before .before .byte2 .ensures)) (c .before .before .before .before .before .before .if1 .left) (c .before .before .before .before .before .if2 .left) (c .before .before .before .before .if4 .left) (c .before .before .before .if6 .left) (c .before .before .if8 .taken)
+returns-8 c =
+    let args = c .before .before .before .before .before .before .before .before .before .before .before .before .before .args in
+    let pre = c .before .before .before .before .before .before .before .before .before .before .before .before .before .pre in
+    let byte = c .before .before .before .before .before .before .before .before .before .before .byte in
+    let wide = c .before .before .before .before .before .before .before .before .before .wide in
+    let byte2 = c .before .before .before .before .before .before .before .before .byte2 in
+    let wide2 = c .before .before .before .before .before .before .before .wide2 in
+    let if1 = c .before .before .before .before .before .before .if1 in
+    none-yes (args .f .now) (args .k) (c .before .half .result) 0x7b (pre .owned .formed) (c .before .half .ensures .0) (c .if9 .taken) ∙ number-min
+    (args .by .symbol) (args .by .state) (args .f .now) (args .k) (16 * wide .result + wide2 .result)
+    (omega (arith, wide .ensures .0, wide2 .ensures .0, byte .ensures, byte2 .ensures)) (if1 .left)
+    (c .before .before .before .before .before .if2 .left) (c .before .before .before .before .if4 .left) (c .before .before .before .if6 .left)
+    (c .before .before .if8 .taken)
 
 returns-9 : tie.Need-returns-9
-returns-9 c = none-no (c .before .before .before .before .before .before .before .before .before .before .before .before .before .args .f .now) (c .before .before .before .before .before .before .before .before .before .before .before .before .before .args .k) (c .before .half .result) 0x7b (c .before .before .before .before .before .before .before .before .before .before .before .before .before .pre .owned .formed) (c .before .half .ensures .0) (c .if9 .left) ∙ number-min (c .before .before .before .before .before .before .before .before .before .before .before .before .before .args .by .symbol) (c .before .before .before .before .before .before .before .before .before .before .before .before .before .args .by .state) (c .before .before .before .before .before .before .before .before .before .before .before .before .before .args .f .now) (c .before .before .before .before .before .before .before .before .before .before .before .before .before .args .k) (16 * c .before .before .before .before .before .before .before .before .before .wide .result + c .before .before .before .before .before .before .before .wide2 .result) (omega (arith, c .before .before .before .before .before .before .before .before .before .wide .ensures .0, c .before .before .before .before .before .before .before .wide2 .ensures .0, c .before .before .before .before .before .before .before .before .before .before .byte .ensures, c .before .before .before .before .before .before .before .before .byte2 .ensures)) (c .before .before .before .before .before .before .if1 .left) (c .before .before .before .before .before .if2 .left) (c .before .before .before .before .if4 .left) (c .before .before .before .if6 .left) (c .before .before .if8 .taken)
+returns-9 c =
+    let args = c .before .before .before .before .before .before .before .before .before .before .before .before .before .args in
+    let pre = c .before .before .before .before .before .before .before .before .before .before .before .before .before .pre in
+    let byte = c .before .before .before .before .before .before .before .before .before .before .byte in
+    let wide = c .before .before .before .before .before .before .before .before .before .wide in
+    let byte2 = c .before .before .before .before .before .before .before .before .byte2 in
+    let wide2 = c .before .before .before .before .before .before .before .wide2 in
+    let if1 = c .before .before .before .before .before .before .if1 in
+    none-no (args .f .now) (args .k) (c .before .half .result) 0x7b (pre .owned .formed) (c .before .half .ensures .0) (c .if9 .left) ∙ number-min
+    (args .by .symbol) (args .by .state) (args .f .now) (args .k) (16 * wide .result + wide2 .result)
+    (omega (arith, wide .ensures .0, wide2 .ensures .0, byte .ensures, byte2 .ensures)) (if1 .left)
+    (c .before .before .before .before .before .if2 .left) (c .before .before .before .before .if4 .left) (c .before .before .before .if6 .left)
+    (c .before .before .if8 .taken)
 
 mul-half-2 : tie.Need-mul-half-2
 mul-half-2 c = search needs
@@ -103,13 +189,48 @@ half-requires-2 : tie.Need-half-requires-2
 half-requires-2 c κs = search needs
 
 returns-10 : tie.Need-returns-10
-returns-10 c = none-yes (c .before .before .before .before .before .before .before .before .before .before .before .before .before .before .args .f .now) (c .before .before .before .before .before .before .before .before .before .before .before .before .before .before .args .k) (c .before .half2 .result) 0x7c (c .before .before .before .before .before .before .before .before .before .before .before .before .before .before .pre .owned .formed) (c .before .half2 .ensures .0) (c .if11 .taken) ∙ number-max (c .before .before .before .before .before .before .before .before .before .before .before .before .before .before .args .by .symbol) (c .before .before .before .before .before .before .before .before .before .before .before .before .before .before .args .by .state) (c .before .before .before .before .before .before .before .before .before .before .before .before .before .before .args .f .now) (c .before .before .before .before .before .before .before .before .before .before .before .before .before .before .args .k) (16 * c .before .before .before .before .before .before .before .before .before .before .wide .result + c .before .before .before .before .before .before .before .before .wide2 .result) (omega (arith, c .before .before .before .before .before .before .before .before .before .before .wide .ensures .0, c .before .before .before .before .before .before .before .before .wide2 .ensures .0, c .before .before .before .before .before .before .before .before .before .before .before .byte .ensures, c .before .before .before .before .before .before .before .before .before .byte2 .ensures)) (c .before .before .before .before .before .before .before .if1 .left) (c .before .before .before .before .before .before .if2 .left) (c .before .before .before .before .before .if4 .left) (c .before .before .before .before .if6 .left) (c .before .before .before .if8 .left) (c .before .before .if10 .taken)
+returns-10 c =
+    let args = c .before .before .before .before .before .before .before .before .before .before .before .before .before .before .args in
+    let pre = c .before .before .before .before .before .before .before .before .before .before .before .before .before .before .pre in
+    let byte = c .before .before .before .before .before .before .before .before .before .before .before .byte in
+    let wide = c .before .before .before .before .before .before .before .before .before .before .wide in
+    let byte2 = c .before .before .before .before .before .before .before .before .before .byte2 in
+    let wide2 = c .before .before .before .before .before .before .before .before .wide2 in
+    let if1 = c .before .before .before .before .before .before .before .if1 in
+    let if2 = c .before .before .before .before .before .before .if2 in
+    none-yes (args .f .now) (args .k) (c .before .half2 .result) 0x7c (pre .owned .formed) (c .before .half2 .ensures .0) (c .if11 .taken) ∙
+    number-max (args .by .symbol) (args .by .state) (args .f .now) (args .k) (16 * wide .result + wide2 .result)
+    (omega (arith, wide .ensures .0, wide2 .ensures .0, byte .ensures, byte2 .ensures)) (if1 .left) (if2 .left)
+    (c .before .before .before .before .before .if4 .left) (c .before .before .before .before .if6 .left) (c .before .before .before .if8 .left)
+    (c .before .before .if10 .taken)
 
 returns-11 : tie.Need-returns-11
-returns-11 c = none-no (c .before .before .before .before .before .before .before .before .before .before .before .before .before .before .args .f .now) (c .before .before .before .before .before .before .before .before .before .before .before .before .before .before .args .k) (c .before .half2 .result) 0x7c (c .before .before .before .before .before .before .before .before .before .before .before .before .before .before .pre .owned .formed) (c .before .half2 .ensures .0) (c .if11 .left) ∙ number-max (c .before .before .before .before .before .before .before .before .before .before .before .before .before .before .args .by .symbol) (c .before .before .before .before .before .before .before .before .before .before .before .before .before .before .args .by .state) (c .before .before .before .before .before .before .before .before .before .before .before .before .before .before .args .f .now) (c .before .before .before .before .before .before .before .before .before .before .before .before .before .before .args .k) (16 * c .before .before .before .before .before .before .before .before .before .before .wide .result + c .before .before .before .before .before .before .before .before .wide2 .result) (omega (arith, c .before .before .before .before .before .before .before .before .before .before .wide .ensures .0, c .before .before .before .before .before .before .before .before .wide2 .ensures .0, c .before .before .before .before .before .before .before .before .before .before .before .byte .ensures, c .before .before .before .before .before .before .before .before .before .byte2 .ensures)) (c .before .before .before .before .before .before .before .if1 .left) (c .before .before .before .before .before .before .if2 .left) (c .before .before .before .before .before .if4 .left) (c .before .before .before .before .if6 .left) (c .before .before .before .if8 .left) (c .before .before .if10 .taken)
+returns-11 c =
+    let args = c .before .before .before .before .before .before .before .before .before .before .before .before .before .before .args in
+    let pre = c .before .before .before .before .before .before .before .before .before .before .before .before .before .before .pre in
+    let byte = c .before .before .before .before .before .before .before .before .before .before .before .byte in
+    let wide = c .before .before .before .before .before .before .before .before .before .before .wide in
+    let byte2 = c .before .before .before .before .before .before .before .before .before .byte2 in
+    let wide2 = c .before .before .before .before .before .before .before .before .wide2 in
+    let if1 = c .before .before .before .before .before .before .before .if1 in
+    let if2 = c .before .before .before .before .before .before .if2 in
+    none-no (args .f .now) (args .k) (c .before .half2 .result) 0x7c (pre .owned .formed) (c .before .half2 .ensures .0) (c .if11 .left) ∙ number-max
+    (args .by .symbol) (args .by .state) (args .f .now) (args .k) (16 * wide .result + wide2 .result)
+    (omega (arith, wide .ensures .0, wide2 .ensures .0, byte .ensures, byte2 .ensures)) (if1 .left) (if2 .left)
+    (c .before .before .before .before .before .if4 .left) (c .before .before .before .before .if6 .left) (c .before .before .before .if8 .left)
+    (c .before .before .if10 .taken)
 
 returns-12 : tie.Need-returns-12
-returns-12 c = number-plain (c .before .before .before .before .before .before .before .before .before .before .before .before .args .by .symbol) (c .before .before .before .before .before .before .before .before .before .before .before .before .args .by .state) (c .before .before .before .before .before .before .before .before .before .before .before .before .args .f .now) (c .before .before .before .before .before .before .before .before .before .before .before .before .args .k) (16 * c .before .before .before .before .before .before .before .before .wide .result + c .before .before .before .before .before .before .wide2 .result) (omega (arith, c .before .before .before .before .before .before .before .before .wide .ensures .0, c .before .before .before .before .before .before .wide2 .ensures .0, c .before .before .before .before .before .before .before .before .before .byte .ensures, c .before .before .before .before .before .before .before .byte2 .ensures)) (c .before .before .before .before .before .if1 .left) (c .before .before .before .before .if2 .left) (c .before .before .before .if4 .left) (c .before .before .if6 .left) (c .before .if8 .left) (c .if10 .left)
+returns-12 c =
+    let args = c .before .before .before .before .before .before .before .before .before .before .before .before .args in
+    let byte = c .before .before .before .before .before .before .before .before .before .byte in
+    let wide = c .before .before .before .before .before .before .before .before .wide in
+    let byte2 = c .before .before .before .before .before .before .before .byte2 in
+    let wide2 = c .before .before .before .before .before .before .wide2 in
+    number-plain (args .by .symbol) (args .by .state) (args .f .now) (args .k) (16 * wide .result + wide2 .result)
+    (omega (arith, wide .ensures .0, wide2 .ensures .0, byte .ensures, byte2 .ensures)) (c .before .before .before .before .before .if1 .left)
+    (c .before .before .before .before .if2 .left) (c .before .before .before .if4 .left) (c .before .before .if6 .left) (c .before .if8 .left)
+    (c .if10 .left)
 
 pub rule-of-spec : {M : Type 1} → statement M
 rule-of-spec =

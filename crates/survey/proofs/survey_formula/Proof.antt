@@ -19,19 +19,38 @@ own-requires : tie.Need-own-requires
 own-requires c κs = search needs
 
 row-requires : tie.Need-row-requires
-row-requires c κs = omega (arith, c .before .before .before .before .before .before .before .before .before .pre .long, size-pos (tree (c .before .before .before .before .before .before .before .before .before .args .f .now) 0), c .before .before .before .before .before .survey .kept .1 .1 .1 .1 .0)
+row-requires c κs =
+    let pre = c .before .before .before .before .before .before .before .before .before .pre in
+    let args = c .before .before .before .before .before .before .before .before .before .args in
+    omega (arith, pre .long, size-pos (tree (args .f .now) 0), c .before .before .before .before .before .survey .kept .1 .1 .1 .1 .0)
 
 slice-read-t15 : tie.Need-slice-read-t15
-slice-read-t15 c = omega (arith, c .before .before .before .before .before .before .before .before .before .before .before .pre .long, size-pos (tree (c .before .before .before .before .before .before .before .before .before .before .before .args .f .now) 0), c .before .before .before .before .before .before .before .survey .kept .1 .1 .1 .1 .0)
+slice-read-t15 c =
+    let pre = c .before .before .before .before .before .before .before .before .before .before .before .pre in
+    let args = c .before .before .before .before .before .before .before .before .before .before .before .args in
+    let survey = c .before .before .before .before .before .before .before .survey in
+    omega (arith, pre .long, size-pos (tree (args .f .now) 0), survey .kept .1 .1 .1 .1 .0)
 
 slice-read-t18 : tie.Need-slice-read-t18
-slice-read-t18 c = omega (arith, c .before .before .before .before .before .before .before .before .before .before .before .before .pre .long, size-pos (tree (c .before .before .before .before .before .before .before .before .before .before .before .before .args .f .now) 0), c .before .before .before .before .before .before .before .before .survey .kept .1 .1 .1 .1 .0)
+slice-read-t18 c =
+    let pre = c .before .before .before .before .before .before .before .before .before .before .before .before .pre in
+    let args = c .before .before .before .before .before .before .before .before .before .before .before .before .args in
+    let survey = c .before .before .before .before .before .before .before .before .survey in
+    omega (arith, pre .long, size-pos (tree (args .f .now) 0), survey .kept .1 .1 .1 .1 .0)
 
 same-length : tie.Need-same-length
 same-length c = search needs
 
 returns : tie.Need-returns
-returns c = (survey-is (c .before .before .before .before .before .before .before .before .before .before .before .before .args .by .symbol) (c .before .before .before .before .before .before .before .before .before .before .before .before .args .by .state) (tree (c .before .before .before .before .before .before .before .before .before .before .before .before .args .f .now) 0) (reading (c .before .before .before .before .own .result)) (reading (c .before .before .row .result)) _ _ (c .before .before .before .before .own .ensures) ((c .before .before .before .before .before .before .before .before .survey .ensures .survey 0 (omega arith) (omega (arith, size-pos (tree (c .before .before .before .before .before .before .before .before .before .before .before .before .args .f .now) 0)))) .has) ((c .before .before .before .before .before .before .before .before .survey .ensures .survey 0 (omega arith) (omega (arith, size-pos (tree (c .before .before .before .before .before .before .before .before .before .before .before .before .args .f .now) 0)))) .fine) (c .before .before .row .ensures ∙ (c .before .before .before .before .before .before .before .before .survey .ensures .survey 0 (omega arith) (omega (arith, size-pos (tree (c .before .before .before .before .before .before .before .before .before .before .before .before .args .f .now) 0)))) .diff), c .before .before .before .before .before .before .before .before .survey .ensures)
+returns c =
+    let args = c .before .before .before .before .before .before .before .before .before .before .before .before .args in
+    let survey = c .before .before .before .before .before .before .before .before .survey in
+    let own = c .before .before .before .before .own in
+    let survey2 = survey .ensures .survey 0 (omega arith) (omega (arith, size-pos (tree (args .f .now) 0))) in (
+      survey-is (args .by .symbol) (args .by .state) (tree (args .f .now) 0) (reading (own .result)) (reading (c .before .before .row .result)) _ _
+          (own .ensures) (survey2 .has) (survey2 .fine) (c .before .before .row .ensures ∙ survey2 .diff),
+      survey .ensures,
+    )
 
 pub survey-formula-spec : {M : Type 1} → statement M
 survey-formula-spec =

@@ -17,13 +17,25 @@ of-literal-requires : tie.Need-of-literal-requires
 of-literal-requires c κs = search needs
 
 two-requires : tie.Need-two-requires
-two-requires c κs = ((omega (arith, ap (λ (x : Attributes). x .nodes) (c .of-literal .ensures)), omega (arith, ap (λ (x : Attributes). x .levels) (c .of-literal .ensures))), c .before .pre .0)
+two-requires c κs = (
+  (
+    omega (arith, ap (λ (x : Attributes). x .nodes) (c .of-literal .ensures)),
+    omega (arith, ap (λ (x : Attributes). x .levels) (c .of-literal .ensures)),
+  ),
+  c .before .pre .0,
+)
 
 two-requires-2 : tie.Need-two-requires-2
-two-requires-2 c κs = (capped-inner (c .two .result) (reading (c .before .of-literal .result) ∷ reading (c .before .before .args .own) ∷ []) (c .two .ensures), c .before .before .pre .1)
+two-requires-2 c κs = (
+  capped-inner (c .two .result) (reading (c .before .of-literal .result) ∷ reading (c .before .before .args .own) ∷ []) (c .two .ensures),
+  c .before .before .pre .1,
+)
 
 returns : tie.Need-returns
-returns c = c .two2 .ensures ∙ ap (λ (v : Attributes). inner (v ∷ reading (c .before .before .before .args .diff) ∷ [])) (c .before .two .ensures ∙ ap (λ (v : Attributes). inner (v ∷ reading (c .before .before .before .args .own) ∷ [])) (c .before .before .of-literal .ensures))
+returns c =
+    let args = c .before .before .before .args in
+    c .two2 .ensures ∙ ap (λ (v : Attributes). inner (v ∷ reading (args .diff) ∷ []))
+    (c .before .two .ensures ∙ ap (λ (v : Attributes). inner (v ∷ reading (args .own) ∷ [])) (c .before .before .of-literal .ensures))
 
 pub with-primal-spec : {M : Type 1} → statement M
 with-primal-spec = tie.close (tie.spec of-literal-requires two-requires two-requires-2 returns)

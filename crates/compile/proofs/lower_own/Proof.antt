@@ -1,8 +1,11 @@
 use native.Mathlib.Omega.{arith}
-use Rattle.derive.proofs.Parts.{small}
+use Rattle.compile.proofs.Own.{small}
 use borrow.Author.Needs.{needs}
-use Rattle.derive.proofs.lower_own.Statement.{statement}
-use Rattle.derive.proofs.lower_own.Tie as tie
+use Rattle.compile.proofs.lower_own.Statement.{statement}
+use Rattle.compile.proofs.lower_own.Tie as tie
+use Rattle.compile.proofs.lower_own.Reads as reads
+use Rattle.compile.proofs.lower_own.Lts as lts
+use Rattle.compile.proofs.lower_into.Reads as lower-into-reads
 
 slice-aggregate-lower-into : tie.Need-slice-aggregate-lower-into
 slice-aggregate-lower-into c = search needs
@@ -20,7 +23,10 @@ slice-aggregate-lower-into-2 : tie.Need-slice-aggregate-lower-into-2
 slice-aggregate-lower-into-2 c = search needs
 
 lower-into-requires-2 : tie.Need-lower-into-requires-2
-lower-into-requires-2 c κs = (omega (arith, small (c .before .before .before .before .before .before .args .formula .now) (c .before .before .before .before .before .before .args .kinds .now) (c .before .before .before .before .before .before .pre .1 .0) (c .before .before .before .before .before .before .pre .1 .1) (c .before .before .before .before .before .before .pre .1 .2)), c .before .before .before .before .before .before .pre .0, c .before .before .before .before .before .before .pre .1)
+lower-into-requires-2 c κs =
+    let args = c .before .before .before .before .before .before .args in
+    let pre = c .before .before .before .before .before .before .pre in
+    (omega (arith, small (args .formula .now) (args .kinds .now) (pre .1 .0) (pre .1 .1) (pre .1 .2)), pre .0, pre .1)
 
 same-length-2 : tie.Need-same-length-2
 same-length-2 c = search needs
