@@ -430,10 +430,16 @@ differentiate-returns-3 t c =
     (put-literal2 .ensures)
 
 write-diff-mul-half : (t : ℕ) → write-diff-lts.Need-mul-half (write-diff-calls t) (write-diff-at t) write-diff.Post
-write-diff-mul-half t c = omega (arith, first-inside (c .before .before .before .args .f .now) (c .before .before .before .args .k) (c .before .before .before .pre .1 .known .owned .formed))
+write-diff-mul-half t c =
+    let args = c .before .before .before .args in
+    let pre = c .before .before .before .pre in
+    omega (arith, first-inside (args .f .now) (args .k) (pre .1 .known .owned .formed))
 
 write-diff-add-half : (t : ℕ) → write-diff-lts.Need-add-half (write-diff-calls t) (write-diff-at t) write-diff.Post
-write-diff-add-half t c = omega (arith, first-inside (c .before .before .before .args .f .now) (c .before .before .before .args .k) (c .before .before .before .pre .1 .known .owned .formed))
+write-diff-add-half t c =
+    let args = c .before .before .before .args in
+    let pre = c .before .before .before .pre in
+    omega (arith, first-inside (args .f .now) (args .k) (pre .1 .known .owned .formed))
 
 write-diff-half-requires : (t : ℕ) → write-diff-lts.Need-half-requires (write-diff-calls t) (write-diff-at t) write-diff.Post
 write-diff-half-requires t c κs = search needs
@@ -499,10 +505,16 @@ write-diff-returns-2 t c =
     (put-literal .ensures)
 
 write-extremum-mul-half : (t : ℕ) → write-extremum-lts.Need-mul-half (write-extremum-calls t) (write-extremum-at t) write-extremum.Post
-write-extremum-mul-half t c = omega (arith, first-inside (c .before .before .before .args .f .now) (c .before .before .before .args .k) (c .before .before .before .pre .1 .known .owned .formed))
+write-extremum-mul-half t c =
+    let args = c .before .before .before .args in
+    let pre = c .before .before .before .pre in
+    omega (arith, first-inside (args .f .now) (args .k) (pre .1 .known .owned .formed))
 
 write-extremum-add-half : (t : ℕ) → write-extremum-lts.Need-add-half (write-extremum-calls t) (write-extremum-at t) write-extremum.Post
-write-extremum-add-half t c = omega (arith, first-inside (c .before .before .before .args .f .now) (c .before .before .before .args .k) (c .before .before .before .pre .1 .known .owned .formed))
+write-extremum-add-half t c =
+    let args = c .before .before .before .args in
+    let pre = c .before .before .before .pre in
+    omega (arith, first-inside (args .f .now) (args .k) (pre .1 .known .owned .formed))
 
 write-extremum-half-requires : (t : ℕ) → write-extremum-lts.Need-half-requires (write-extremum-calls t) (write-extremum-at t) write-extremum.Post
 write-extremum-half-requires t c κs = search needs
@@ -569,10 +581,11 @@ write-extremum-returns-2 t c =
 write-node-put-node-requires : (t : ℕ) → write-node-lts.Need-put-node-requires (write-node-calls t) (write-node-at t) write-node.Post
 write-node-put-node-requires t c κs =
     let args = c .before .before .before .before .args in
+    let pre = c .before .before .before .before .pre in
     let u = parts-bytes (args .by .symbol) (args .by .state) (tree (args .f .now) (args .k)) (args .levels) (args .q) (args .children) (args .i) in
     let fields = inner-fields (args .kind) (args .operator) (args .children) in
-    let h = front (node-bytes fields) u (args .out .now) (c .before .before .before .before .pre .1 .1 .room) in
-    (c .before .before .before .before .pre .1 .0 .kind-byte, c .before .before .before .before .pre .1 .0 .operator-byte, omega (arith, c .before .before .before .before .pre .1 .0 .few), omega (arith, h, node-length fields))
+    let h = front (node-bytes fields) u (args .out .now) (pre .1 .1 .room) in
+    (pre .1 .0 .kind-byte, pre .1 .0 .operator-byte, omega (arith, pre .1 .0 .few), omega (arith, h, node-length fields))
 
 write-node-sub-write-rules : (t : ℕ) → write-node-lts.Need-sub-write-rules (write-node-calls t) (write-node-at t) write-node.Post
 write-node-sub-write-rules t c =
@@ -598,18 +611,23 @@ write-node-part-write-rules-end t c =
 write-node-write-rules-requires : (t : ℕ) → write-node-lts.Need-write-rules-requires (write-node-calls t) (write-node-at t) write-node.Post
 write-node-write-rules-requires t c κs =
     let args = c .before .before .before .before .before .before .before .before .args in
-    let u = parts-bytes (args .by .symbol) (args .by .state) (tree (args .f .now) (args .k)) (args .levels) (args .q) (args .children) (args .i) in
-    let pre = c .before .before .before .before .before .before .before .before .pre in (
+    let pre = c .before .before .before .before .before .before .before .before .pre in
+    let put-node = c .before .before .before .put-node in
+    let u = parts-bytes (args .by .symbol) (args .by .state) (tree (args .f .now) (args .k)) (args .levels) (args .q) (args .children) (args .i) in (
       omega (arith, pre .0, pre .1 .0 .few),
-      (pre .1 .0 .few, record { known = pre .1 .1 .known; deep = pre .1 .1 .deep; room = behind-room (c .before .before .before .put-node .ensures) u (pre .1 .1 .room) }),
+      (pre .1 .0 .few, record { known = pre .1 .1 .known; deep = pre .1 .1 .deep; room = behind-room (put-node .ensures) u (pre .1 .1 .room) }),
     )
 
 write-node-add-result : (t : ℕ) → write-node-lts.Need-add-result (write-node-calls t) (write-node-at t) write-node.Post
 write-node-add-result t c =
     let args = c .before .before .before .before .before .before .before .before .before .before .before .args in
+    let good = c .before .before .before .before .before .before .before .before .before .before .before .good in
+    let pre = c .before .before .before .before .before .before .before .before .before .before .before .pre in
+    let put-node = c .before .before .before .before .before .before .put-node in
+    let write-rules = c .before .before .write-rules in
     let u = parts-bytes (args .by .symbol) (args .by .state) (tree (args .f .now) (args .k)) (args .levels) (args .q) (args .children) (args .i) in
-    let w = behind-writes (c .before .before .before .before .before .before .put-node .ensures) u (c .before .before .before .before .before .before .before .before .before .before .before .pre .1 .1 .room) (c .before .before .write-rules .ensures) in
-    omega (arith, w .count, c .before .before .before .before .before .before .before .before .before .before .before .pre .1 .1 .room, c .before .before .before .before .before .before .before .before .before .before .before .good .1 .1 .1 .1 .1 .1 .1 .1 .1 .1 .1 .0 .0)
+    let w = behind-writes (put-node .ensures) u (pre .1 .1 .room) (write-rules .ensures) in
+    omega (arith, w .count, pre .1 .1 .room, good .1 .1 .1 .1 .1 .1 .1 .1 .1 .1 .1 .0 .0)
 
 write-node-same-length : (t : ℕ) → write-node-lts.Need-same-length (write-node-calls t) (write-node-at t) write-node.Post
 write-node-same-length t c =
@@ -622,8 +640,11 @@ write-node-same-length t c =
 write-node-returns : (t : ℕ) → write-node-lts.Need-returns (write-node-calls t) (write-node-at t) write-node.Post
 write-node-returns t c =
     let args = c .before .before .before .before .before .before .before .before .before .before .before .args in
+    let pre = c .before .before .before .before .before .before .before .before .before .before .before .pre in
+    let put-node = c .before .before .before .before .before .before .put-node in
+    let write-rules = c .before .before .write-rules in
     let u = parts-bytes (args .by .symbol) (args .by .state) (tree (args .f .now) (args .k)) (args .levels) (args .q) (args .children) (args .i) in
-    behind-writes (c .before .before .before .before .before .before .put-node .ensures) u (c .before .before .before .before .before .before .before .before .before .before .before .pre .1 .1 .room) (c .before .before .write-rules .ensures)
+    behind-writes (put-node .ensures) u (pre .1 .1 .room) (write-rules .ensures)
 
 write-product-end-of-requires : (t : ℕ) → write-product-lts.Need-end-of-requires (write-product-calls t) (write-product-at t) write-product.Post
 write-product-end-of-requires t c κs = search needs
@@ -1109,7 +1130,10 @@ write-rule-write-rule-requires t c κs =
     )
 
 write-rule-add-write-sum : (t : ℕ) → write-rule-lts.Need-add-write-sum (write-rule-calls t) (write-rule-at t) write-rule.Post
-write-rule-add-write-sum t c = omega (arith, leb-false 128 (c .before .before .before .before .before .before .before .before .before .args .i) (c .before .before .before .before .if2 .left))
+write-rule-add-write-sum t c =
+    let args = c .before .before .before .before .before .before .before .before .before .args in
+    let if2 = c .before .before .before .before .if2 in
+    omega (arith, leb-false 128 (args .i) (if2 .left))
 
 write-rule-sub-write-sum : (t : ℕ) → write-rule-lts.Need-sub-write-sum (write-rule-calls t) (write-rule-at t) write-rule.Post
 write-rule-sub-write-sum t c = omega (arith, c .before .before .before .before .before .if1 .left)
@@ -1130,7 +1154,10 @@ write-rule-write-sum-requires t c κs =
     )
 
 write-rule-add-write-product : (t : ℕ) → write-rule-lts.Need-add-write-product (write-rule-calls t) (write-rule-at t) write-rule.Post
-write-rule-add-write-product t c = omega (arith, leb-false 128 (c .before .before .before .before .before .before .before .before .before .args .i) (c .before .before .before .before .if2 .left))
+write-rule-add-write-product t c =
+    let args = c .before .before .before .before .before .before .before .before .before .args in
+    let if2 = c .before .before .before .before .if2 in
+    omega (arith, leb-false 128 (args .i) (if2 .left))
 
 write-rule-sub-write-product : (t : ℕ) → write-rule-lts.Need-sub-write-product (write-rule-calls t) (write-rule-at t) write-rule.Post
 write-rule-sub-write-product t c = omega (arith, c .before .before .before .before .before .if1 .left)
@@ -1376,11 +1403,13 @@ write-rules-returns t c =
 write-rules-write-rule-requires : (t : ℕ) → write-rules-lts.Need-write-rule-requires (write-rules-calls t) (write-rules-at t) write-rules.Post
 write-rules-write-rule-requires t c κs =
     let args = c .before .before .before .before .before .args in
+    let pre = c .before .before .before .before .before .pre in
     let the-tree = tree (args .f .now) (args .k) in
     let u = parts-bytes (args .by .symbol) (args .by .state) the-tree (args .levels) (args .q) (args .left - 1) (end-at (args .levels) (args .q) (args .i)) in
-    let e = next-part (args .by .symbol) (args .by .state) the-tree (args .levels) (args .q) (args .left) (args .i) (end-at (args .levels) (args .q) (args .i)) (c .before .if1 .left) refl in
-    let r = room-as _ _ _ e (c .before .before .before .before .before .pre .1 .1 .room) in
-    let pre = c .before .before .before .before .before .pre in
+    let e =
+    next-part (args .by .symbol) (args .by .state) the-tree (args .levels) (args .q) (args .left) (args .i) (end-at (args .levels) (args .q) (args .i))
+    (c .before .if1 .left) refl in
+    let r = room-as _ _ _ e (pre .1 .1 .room) in
     let h = front (encode (part (args .by .symbol) (args .by .state) the-tree (args .levels) (args .q) (args .i))) u (args .out .now) r in
     (omega (arith, pre .0), record { known = pre .1 .1 .known; deep = pre .1 .1 .deep; room = h })
 
@@ -1390,64 +1419,93 @@ write-rules-end-of-requires t c κs = search needs
 write-rules-sub-write-rules : (t : ℕ) → write-rules-lts.Need-sub-write-rules (write-rules-calls t) (write-rules-at t) write-rules.Post
 write-rules-sub-write-rules t c =
     let args = c .before .before .before .before .before .before .before .before .before .args in
+    let pre = c .before .before .before .before .before .before .before .before .before .pre in
+    let if1 = c .before .before .before .before .before .if1 in
+    let write-rule = c .before .before .before .write-rule in
     let the-tree = tree (args .f .now) (args .k) in
     let u = parts-bytes (args .by .symbol) (args .by .state) the-tree (args .levels) (args .q) (args .left - 1) (end-at (args .levels) (args .q) (args .i)) in
-    let e = next-part (args .by .symbol) (args .by .state) the-tree (args .levels) (args .q) (args .left) (args .i) (end-at (args .levels) (args .q) (args .i)) (c .before .before .before .before .before .if1 .left) refl in
-    let r = room-as _ _ _ e (c .before .before .before .before .before .before .before .before .before .pre .1 .1 .room) in
-    let h = behind-start (c .before .before .before .write-rule .ensures) u r in
-    omega (arith, h, c .before .before .before .before .before .if1 .left)
+    let e =
+    next-part (args .by .symbol) (args .by .state) the-tree (args .levels) (args .q) (args .left) (args .i) (end-at (args .levels) (args .q) (args .i))
+    (if1 .left) refl in
+    let r = room-as _ _ _ e (pre .1 .1 .room) in
+    let h = behind-start (write-rule .ensures) u r in
+    omega (arith, h, if1 .left)
 
 write-rules-sub-write-rules-2 : (t : ℕ) → write-rules-lts.Need-sub-write-rules-2 (write-rules-calls t) (write-rules-at t) write-rules.Post
 write-rules-sub-write-rules-2 t c =
     let args = c .before .before .before .before .before .before .before .before .before .args in
+    let pre = c .before .before .before .before .before .before .before .before .before .pre in
+    let if1 = c .before .before .before .before .before .if1 in
+    let write-rule = c .before .before .before .write-rule in
     let the-tree = tree (args .f .now) (args .k) in
     let u = parts-bytes (args .by .symbol) (args .by .state) the-tree (args .levels) (args .q) (args .left - 1) (end-at (args .levels) (args .q) (args .i)) in
-    let e = next-part (args .by .symbol) (args .by .state) the-tree (args .levels) (args .q) (args .left) (args .i) (end-at (args .levels) (args .q) (args .i)) (c .before .before .before .before .before .if1 .left) refl in
-    let r = room-as _ _ _ e (c .before .before .before .before .before .before .before .before .before .pre .1 .1 .room) in
-    let h = behind-start (c .before .before .before .write-rule .ensures) u r in
-    omega (arith, h, c .before .before .before .before .before .if1 .left)
+    let e =
+    next-part (args .by .symbol) (args .by .state) the-tree (args .levels) (args .q) (args .left) (args .i) (end-at (args .levels) (args .q) (args .i))
+    (if1 .left) refl in
+    let r = room-as _ _ _ e (pre .1 .1 .room) in
+    let h = behind-start (write-rule .ensures) u r in
+    omega (arith, h, if1 .left)
 
 write-rules-part-write-rules-start : (t : ℕ) → write-rules-lts.Need-part-write-rules-start (write-rules-calls t) (write-rules-at t) write-rules.Post
 write-rules-part-write-rules-start t c =
     let args = c .before .before .before .before .before .before .before .before .before .args in
+    let pre = c .before .before .before .before .before .before .before .before .before .pre in
+    let if1 = c .before .before .before .before .before .if1 in
+    let write-rule = c .before .before .before .write-rule in
     let the-tree = tree (args .f .now) (args .k) in
     let u = parts-bytes (args .by .symbol) (args .by .state) the-tree (args .levels) (args .q) (args .left - 1) (end-at (args .levels) (args .q) (args .i)) in
-    let e = next-part (args .by .symbol) (args .by .state) the-tree (args .levels) (args .q) (args .left) (args .i) (end-at (args .levels) (args .q) (args .i)) (c .before .before .before .before .before .if1 .left) refl in
-    let r = room-as _ _ _ e (c .before .before .before .before .before .before .before .before .before .pre .1 .1 .room) in
-    let h = behind-start (c .before .before .before .write-rule .ensures) u r in
-    omega (arith, h, c .before .before .before .before .before .if1 .left)
+    let e =
+    next-part (args .by .symbol) (args .by .state) the-tree (args .levels) (args .q) (args .left) (args .i) (end-at (args .levels) (args .q) (args .i))
+    (if1 .left) refl in
+    let r = room-as _ _ _ e (pre .1 .1 .room) in
+    let h = behind-start (write-rule .ensures) u r in
+    omega (arith, h, if1 .left)
 
 write-rules-part-write-rules-end : (t : ℕ) → write-rules-lts.Need-part-write-rules-end (write-rules-calls t) (write-rules-at t) write-rules.Post
 write-rules-part-write-rules-end t c =
     let args = c .before .before .before .before .before .before .before .before .before .args in
+    let pre = c .before .before .before .before .before .before .before .before .before .pre in
+    let if1 = c .before .before .before .before .before .if1 in
+    let write-rule = c .before .before .before .write-rule in
     let the-tree = tree (args .f .now) (args .k) in
     let u = parts-bytes (args .by .symbol) (args .by .state) the-tree (args .levels) (args .q) (args .left - 1) (end-at (args .levels) (args .q) (args .i)) in
-    let e = next-part (args .by .symbol) (args .by .state) the-tree (args .levels) (args .q) (args .left) (args .i) (end-at (args .levels) (args .q) (args .i)) (c .before .before .before .before .before .if1 .left) refl in
-    let r = room-as _ _ _ e (c .before .before .before .before .before .before .before .before .before .pre .1 .1 .room) in
-    let h = behind-start (c .before .before .before .write-rule .ensures) u r in
-    omega (arith, h, c .before .before .before .before .before .if1 .left)
+    let e =
+    next-part (args .by .symbol) (args .by .state) the-tree (args .levels) (args .q) (args .left) (args .i) (end-at (args .levels) (args .q) (args .i))
+    (if1 .left) refl in
+    let r = room-as _ _ _ e (pre .1 .1 .room) in
+    let h = behind-start (write-rule .ensures) u r in
+    omega (arith, h, if1 .left)
 
 write-rules-write-rules-requires : (t : ℕ) → write-rules-lts.Need-write-rules-requires (write-rules-calls t) (write-rules-at t) write-rules.Post
 write-rules-write-rules-requires t c κs =
     let args = c .before .before .before .before .before .before .before .before .before .before .args in
+    let pre = c .before .before .before .before .before .before .before .before .before .before .pre in
+    let if1 = c .before .before .before .before .before .before .if1 in
+    let write-rule = c .before .before .before .before .write-rule in
+    let end-of = c .before .end-of in
     let the-tree = tree (args .f .now) (args .k) in
-    let u = parts-bytes (args .by .symbol) (args .by .state) the-tree (args .levels) (args .q) (args .left - 1) (c .before .end-of .result) in
-    let e = next-part (args .by .symbol) (args .by .state) the-tree (args .levels) (args .q) (args .left) (args .i) (c .before .end-of .result) (c .before .before .before .before .before .before .if1 .left) (c .before .end-of .ensures) in
-    let r = room-as _ _ _ e (c .before .before .before .before .before .before .before .before .before .before .pre .1 .1 .room) in
-    let pre = c .before .before .before .before .before .before .before .before .before .before .pre in (
-      omega (arith, pre .0, c .before .before .before .before .before .before .if1 .left),
-      (omega (arith, pre .1 .0), record { known = pre .1 .1 .known; deep = pre .1 .1 .deep; room = behind-room (c .before .before .before .before .write-rule .ensures) u r }),
+    let u = parts-bytes (args .by .symbol) (args .by .state) the-tree (args .levels) (args .q) (args .left - 1) (end-of .result) in
+    let e = next-part (args .by .symbol) (args .by .state) the-tree (args .levels) (args .q) (args .left) (args .i) (end-of .result) (if1 .left) (end-of .ensures) in
+    let r = room-as _ _ _ e (pre .1 .1 .room) in (
+      omega (arith, pre .0, if1 .left),
+      (omega (arith, pre .1 .0), record { known = pre .1 .1 .known; deep = pre .1 .1 .deep; room = behind-room (write-rule .ensures) u r }),
     )
 
 write-rules-add-result : (t : ℕ) → write-rules-lts.Need-add-result (write-rules-calls t) (write-rules-at t) write-rules.Post
 write-rules-add-result t c =
     let args = c .before .before .before .before .before .before .before .before .before .before .before .before .before .args in
+    let good = c .before .before .before .before .before .before .before .before .before .before .before .before .before .good in
+    let pre = c .before .before .before .before .before .before .before .before .before .before .before .before .before .pre in
+    let if1 = c .before .before .before .before .before .before .before .before .before .if1 in
+    let write-rule = c .before .before .before .before .before .before .before .write-rule in
+    let end-of = c .before .before .before .before .end-of in
+    let write-rules = c .before .before .write-rules in
     let the-tree = tree (args .f .now) (args .k) in
-    let u = parts-bytes (args .by .symbol) (args .by .state) the-tree (args .levels) (args .q) (args .left - 1) (c .before .before .before .before .end-of .result) in
-    let e = next-part (args .by .symbol) (args .by .state) the-tree (args .levels) (args .q) (args .left) (args .i) (c .before .before .before .before .end-of .result) (c .before .before .before .before .before .before .before .before .before .if1 .left) (c .before .before .before .before .end-of .ensures) in
-    let r = room-as _ _ _ e (c .before .before .before .before .before .before .before .before .before .before .before .before .before .pre .1 .1 .room) in
-    let w = behind-writes (c .before .before .before .before .before .before .before .write-rule .ensures) u r (c .before .before .write-rules .ensures) in
-    omega (arith, w .count, r, c .before .before .before .before .before .before .before .before .before .before .before .before .before .good .1 .1 .1 .1 .1 .1 .1 .1 .1 .0 .0)
+    let u = parts-bytes (args .by .symbol) (args .by .state) the-tree (args .levels) (args .q) (args .left - 1) (end-of .result) in
+    let e = next-part (args .by .symbol) (args .by .state) the-tree (args .levels) (args .q) (args .left) (args .i) (end-of .result) (if1 .left) (end-of .ensures) in
+    let r = room-as _ _ _ e (pre .1 .1 .room) in
+    let w = behind-writes (write-rule .ensures) u r (write-rules .ensures) in
+    omega (arith, w .count, r, good .1 .1 .1 .1 .1 .1 .1 .1 .1 .0 .0)
 
 write-rules-same-length : (t : ℕ) → write-rules-lts.Need-same-length (write-rules-calls t) (write-rules-at t) write-rules.Post
 write-rules-same-length t c =
@@ -1461,11 +1519,16 @@ write-rules-same-length t c =
 write-rules-returns-2 : (t : ℕ) → write-rules-lts.Need-returns-2 (write-rules-calls t) (write-rules-at t) write-rules.Post
 write-rules-returns-2 t c =
     let args = c .before .before .before .before .before .before .before .before .before .before .before .before .before .args in
+    let pre = c .before .before .before .before .before .before .before .before .before .before .before .before .before .pre in
+    let if1 = c .before .before .before .before .before .before .before .before .before .if1 in
+    let write-rule = c .before .before .before .before .before .before .before .write-rule in
+    let end-of = c .before .before .before .before .end-of in
+    let write-rules = c .before .before .write-rules in
     let the-tree = tree (args .f .now) (args .k) in
-    let u = parts-bytes (args .by .symbol) (args .by .state) the-tree (args .levels) (args .q) (args .left - 1) (c .before .before .before .before .end-of .result) in
-    let e = next-part (args .by .symbol) (args .by .state) the-tree (args .levels) (args .q) (args .left) (args .i) (c .before .before .before .before .end-of .result) (c .before .before .before .before .before .before .before .before .before .if1 .left) (c .before .before .before .before .end-of .ensures) in
-    let r = room-as _ _ _ e (c .before .before .before .before .before .before .before .before .before .before .before .before .before .pre .1 .1 .room) in
-    as-text _ _ _ _ _ e (behind-writes (c .before .before .before .before .before .before .before .write-rule .ensures) u r (c .before .before .write-rules .ensures))
+    let u = parts-bytes (args .by .symbol) (args .by .state) the-tree (args .levels) (args .q) (args .left - 1) (end-of .result) in
+    let e = next-part (args .by .symbol) (args .by .state) the-tree (args .levels) (args .q) (args .left) (args .i) (end-of .result) (if1 .left) (end-of .ensures) in
+    let r = room-as _ _ _ e (pre .1 .1 .room) in
+    as-text _ _ _ _ _ e (behind-writes (write-rule .ensures) u r (write-rules .ensures))
 
 write-sum-end-of-requires : (t : ℕ) → write-sum-lts.Need-end-of-requires (write-sum-calls t) (write-sum-at t) write-sum.Post
 write-sum-end-of-requires t c κs = search needs
@@ -1695,14 +1758,19 @@ write-ties-write-diff-requires-2 t c κs =
 write-ties-add-m : (t : ℕ) → write-ties-lts.Need-add-m (write-ties-calls t) (write-ties-at t) write-ties.Post
 write-ties-add-m t c =
     let args = c .before .before .before .before .before .before .before .before .before .before .before .before .args in
+    let good = c .before .before .before .before .before .before .before .before .before .before .before .before .good in
+    let pre = c .before .before .before .before .before .before .before .before .before .before .before .before .pre in
+    let if1 = c .before .before .before .before .before .before .before .before .if1 in
+    let put-tie = c .before .before .before .before .before .before .put-tie in
+    let write-diff2 = c .before .before .write-diff2 in
     let the-tree = tree (args .f .now) (args .k) in
     let d = encode (derived-of (args .by .symbol) (args .by .state) the-tree (args .i)) in
     let u = extremum-bytes (args .by .symbol) (args .by .state) the-tree (args .i + 1) (args .left - 1) in
-    let e = next-tie (args .by .symbol) (args .by .state) the-tree (args .i) (args .left) (c .before .before .before .before .before .before .before .before .if1 .left) in
-    let r = room-as _ _ _ e (c .before .before .before .before .before .before .before .before .before .before .before .before .pre .1 .1 .room) in
+    let e = next-tie (args .by .symbol) (args .by .state) the-tree (args .i) (args .left) (if1 .left) in
+    let r = room-as _ _ _ e (pre .1 .1 .room) in
     let q = front (tie-bytes the-tree (args .i) ++ d) u (args .out .now) r in
-    let w = behind-writes (c .before .before .before .before .before .before .put-tie .ensures) d q (c .before .before .write-diff2 .ensures) in
-    omega (arith, w .count, q, c .before .before .before .before .before .before .before .before .before .before .before .before .good .1 .1 .1 .1 .1 .1 .1 .0 .0)
+    let w = behind-writes (put-tie .ensures) d q (write-diff2 .ensures) in
+    omega (arith, w .count, q, good .1 .1 .1 .1 .1 .1 .1 .0 .0)
 
 write-ties-add-write-ties : (t : ℕ) → write-ties-lts.Need-add-write-ties (write-ties-calls t) (write-ties-at t) write-ties.Post
 write-ties-add-write-ties t c = omega (arith, c .before .before .before .before .before .before .before .before .before .before .before .before .pre .1 .0)
@@ -1710,82 +1778,107 @@ write-ties-add-write-ties t c = omega (arith, c .before .before .before .before 
 write-ties-sub-write-ties : (t : ℕ) → write-ties-lts.Need-sub-write-ties (write-ties-calls t) (write-ties-at t) write-ties.Post
 write-ties-sub-write-ties t c =
     let args = c .before .before .before .before .before .before .before .before .before .before .before .before .args in
+    let pre = c .before .before .before .before .before .before .before .before .before .before .before .before .pre in
+    let if1 = c .before .before .before .before .before .before .before .before .if1 in
+    let put-tie = c .before .before .before .before .before .before .put-tie in
+    let write-diff2 = c .before .before .write-diff2 in
     let the-tree = tree (args .f .now) (args .k) in
     let d = encode (derived-of (args .by .symbol) (args .by .state) the-tree (args .i)) in
     let u = extremum-bytes (args .by .symbol) (args .by .state) the-tree (args .i + 1) (args .left - 1) in
-    let e = next-tie (args .by .symbol) (args .by .state) the-tree (args .i) (args .left) (c .before .before .before .before .before .before .before .before .if1 .left) in
-    let r = room-as _ _ _ e (c .before .before .before .before .before .before .before .before .before .before .before .before .pre .1 .1 .room) in
+    let e = next-tie (args .by .symbol) (args .by .state) the-tree (args .i) (args .left) (if1 .left) in
+    let r = room-as _ _ _ e (pre .1 .1 .room) in
     let q = front (tie-bytes the-tree (args .i) ++ d) u (args .out .now) r in
-    let w = behind-writes (c .before .before .before .before .before .before .put-tie .ensures) d q (c .before .before .write-diff2 .ensures) in
+    let w = behind-writes (put-tie .ensures) d q (write-diff2 .ensures) in
     let h = behind-start w u r in
-    omega (arith, h, c .before .before .before .before .before .before .before .before .if1 .left)
+    omega (arith, h, if1 .left)
 
 write-ties-sub-write-ties-2 : (t : ℕ) → write-ties-lts.Need-sub-write-ties-2 (write-ties-calls t) (write-ties-at t) write-ties.Post
 write-ties-sub-write-ties-2 t c =
     let args = c .before .before .before .before .before .before .before .before .before .before .before .before .args in
+    let pre = c .before .before .before .before .before .before .before .before .before .before .before .before .pre in
+    let if1 = c .before .before .before .before .before .before .before .before .if1 in
+    let put-tie = c .before .before .before .before .before .before .put-tie in
+    let write-diff2 = c .before .before .write-diff2 in
     let the-tree = tree (args .f .now) (args .k) in
     let d = encode (derived-of (args .by .symbol) (args .by .state) the-tree (args .i)) in
     let u = extremum-bytes (args .by .symbol) (args .by .state) the-tree (args .i + 1) (args .left - 1) in
-    let e = next-tie (args .by .symbol) (args .by .state) the-tree (args .i) (args .left) (c .before .before .before .before .before .before .before .before .if1 .left) in
-    let r = room-as _ _ _ e (c .before .before .before .before .before .before .before .before .before .before .before .before .pre .1 .1 .room) in
+    let e = next-tie (args .by .symbol) (args .by .state) the-tree (args .i) (args .left) (if1 .left) in
+    let r = room-as _ _ _ e (pre .1 .1 .room) in
     let q = front (tie-bytes the-tree (args .i) ++ d) u (args .out .now) r in
-    let w = behind-writes (c .before .before .before .before .before .before .put-tie .ensures) d q (c .before .before .write-diff2 .ensures) in
+    let w = behind-writes (put-tie .ensures) d q (write-diff2 .ensures) in
     let h = behind-start w u r in
-    omega (arith, h, c .before .before .before .before .before .before .before .before .if1 .left)
+    omega (arith, h, if1 .left)
 
 write-ties-part-write-ties-start : (t : ℕ) → write-ties-lts.Need-part-write-ties-start (write-ties-calls t) (write-ties-at t) write-ties.Post
 write-ties-part-write-ties-start t c =
     let args = c .before .before .before .before .before .before .before .before .before .before .before .before .args in
+    let pre = c .before .before .before .before .before .before .before .before .before .before .before .before .pre in
+    let if1 = c .before .before .before .before .before .before .before .before .if1 in
+    let put-tie = c .before .before .before .before .before .before .put-tie in
+    let write-diff2 = c .before .before .write-diff2 in
     let the-tree = tree (args .f .now) (args .k) in
     let d = encode (derived-of (args .by .symbol) (args .by .state) the-tree (args .i)) in
     let u = extremum-bytes (args .by .symbol) (args .by .state) the-tree (args .i + 1) (args .left - 1) in
-    let e = next-tie (args .by .symbol) (args .by .state) the-tree (args .i) (args .left) (c .before .before .before .before .before .before .before .before .if1 .left) in
-    let r = room-as _ _ _ e (c .before .before .before .before .before .before .before .before .before .before .before .before .pre .1 .1 .room) in
+    let e = next-tie (args .by .symbol) (args .by .state) the-tree (args .i) (args .left) (if1 .left) in
+    let r = room-as _ _ _ e (pre .1 .1 .room) in
     let q = front (tie-bytes the-tree (args .i) ++ d) u (args .out .now) r in
-    let w = behind-writes (c .before .before .before .before .before .before .put-tie .ensures) d q (c .before .before .write-diff2 .ensures) in
+    let w = behind-writes (put-tie .ensures) d q (write-diff2 .ensures) in
     let h = behind-start w u r in
-    omega (arith, h, c .before .before .before .before .before .before .before .before .if1 .left)
+    omega (arith, h, if1 .left)
 
 write-ties-part-write-ties-end : (t : ℕ) → write-ties-lts.Need-part-write-ties-end (write-ties-calls t) (write-ties-at t) write-ties.Post
 write-ties-part-write-ties-end t c =
     let args = c .before .before .before .before .before .before .before .before .before .before .before .before .args in
+    let pre = c .before .before .before .before .before .before .before .before .before .before .before .before .pre in
+    let if1 = c .before .before .before .before .before .before .before .before .if1 in
+    let put-tie = c .before .before .before .before .before .before .put-tie in
+    let write-diff2 = c .before .before .write-diff2 in
     let the-tree = tree (args .f .now) (args .k) in
     let d = encode (derived-of (args .by .symbol) (args .by .state) the-tree (args .i)) in
     let u = extremum-bytes (args .by .symbol) (args .by .state) the-tree (args .i + 1) (args .left - 1) in
-    let e = next-tie (args .by .symbol) (args .by .state) the-tree (args .i) (args .left) (c .before .before .before .before .before .before .before .before .if1 .left) in
-    let r = room-as _ _ _ e (c .before .before .before .before .before .before .before .before .before .before .before .before .pre .1 .1 .room) in
+    let e = next-tie (args .by .symbol) (args .by .state) the-tree (args .i) (args .left) (if1 .left) in
+    let r = room-as _ _ _ e (pre .1 .1 .room) in
     let q = front (tie-bytes the-tree (args .i) ++ d) u (args .out .now) r in
-    let w = behind-writes (c .before .before .before .before .before .before .put-tie .ensures) d q (c .before .before .write-diff2 .ensures) in
+    let w = behind-writes (put-tie .ensures) d q (write-diff2 .ensures) in
     let h = behind-start w u r in
-    omega (arith, h, c .before .before .before .before .before .before .before .before .if1 .left)
+    omega (arith, h, if1 .left)
 
 write-ties-write-ties-requires : (t : ℕ) → write-ties-lts.Need-write-ties-requires (write-ties-calls t) (write-ties-at t) write-ties.Post
 write-ties-write-ties-requires t c κs =
     let args = c .before .before .before .before .before .before .before .before .before .before .before .before .before .args in
+    let pre = c .before .before .before .before .before .before .before .before .before .before .before .before .before .pre in
+    let if1 = c .before .before .before .before .before .before .before .before .before .if1 in
+    let put-tie = c .before .before .before .before .before .before .before .put-tie in
+    let write-diff2 = c .before .before .before .write-diff2 in
     let the-tree = tree (args .f .now) (args .k) in
     let d = encode (derived-of (args .by .symbol) (args .by .state) the-tree (args .i)) in
     let u = extremum-bytes (args .by .symbol) (args .by .state) the-tree (args .i + 1) (args .left - 1) in
-    let e = next-tie (args .by .symbol) (args .by .state) the-tree (args .i) (args .left) (c .before .before .before .before .before .before .before .before .before .if1 .left) in
-    let r = room-as _ _ _ e (c .before .before .before .before .before .before .before .before .before .before .before .before .before .pre .1 .1 .room) in
+    let e = next-tie (args .by .symbol) (args .by .state) the-tree (args .i) (args .left) (if1 .left) in
+    let r = room-as _ _ _ e (pre .1 .1 .room) in
     let q = front (tie-bytes the-tree (args .i) ++ d) u (args .out .now) r in
-    let w = behind-writes (c .before .before .before .before .before .before .before .put-tie .ensures) d q (c .before .before .before .write-diff2 .ensures) in
-    let pre = c .before .before .before .before .before .before .before .before .before .before .before .before .before .pre in (
-      omega (arith, pre .0, c .before .before .before .before .before .before .before .before .before .if1 .left),
-      (omega (arith, pre .1 .0, c .before .before .before .before .before .before .before .before .before .if1 .left), record { known = pre .1 .1 .known; deep = pre .1 .1 .deep; room = behind-room w u r }),
+    let w = behind-writes (put-tie .ensures) d q (write-diff2 .ensures) in (
+      omega (arith, pre .0, if1 .left),
+      (omega (arith, pre .1 .0, if1 .left), record { known = pre .1 .1 .known; deep = pre .1 .1 .deep; room = behind-room w u r }),
     )
 
 write-ties-add-result : (t : ℕ) → write-ties-lts.Need-add-result (write-ties-calls t) (write-ties-at t) write-ties.Post
 write-ties-add-result t c =
     let args = c .before .before .before .before .before .before .before .before .before .before .before .before .before .before .before .before .args in
+    let good = c .before .before .before .before .before .before .before .before .before .before .before .before .before .before .before .before .good in
+    let pre = c .before .before .before .before .before .before .before .before .before .before .before .before .before .before .before .before .pre in
+    let if1 = c .before .before .before .before .before .before .before .before .before .before .before .before .if1 in
+    let put-tie = c .before .before .before .before .before .before .before .before .before .before .put-tie in
+    let write-diff2 = c .before .before .before .before .before .before .write-diff2 in
+    let write-ties = c .before .before .write-ties in
     let the-tree = tree (args .f .now) (args .k) in
     let d = encode (derived-of (args .by .symbol) (args .by .state) the-tree (args .i)) in
     let u = extremum-bytes (args .by .symbol) (args .by .state) the-tree (args .i + 1) (args .left - 1) in
-    let e = next-tie (args .by .symbol) (args .by .state) the-tree (args .i) (args .left) (c .before .before .before .before .before .before .before .before .before .before .before .before .if1 .left) in
-    let r = room-as _ _ _ e (c .before .before .before .before .before .before .before .before .before .before .before .before .before .before .before .before .pre .1 .1 .room) in
+    let e = next-tie (args .by .symbol) (args .by .state) the-tree (args .i) (args .left) (if1 .left) in
+    let r = room-as _ _ _ e (pre .1 .1 .room) in
     let q = front (tie-bytes the-tree (args .i) ++ d) u (args .out .now) r in
-    let w = behind-writes (c .before .before .before .before .before .before .before .before .before .before .put-tie .ensures) d q (c .before .before .before .before .before .before .write-diff2 .ensures) in
-    let v = behind-writes w u r (c .before .before .write-ties .ensures) in
-    omega (arith, v .count, r, c .before .before .before .before .before .before .before .before .before .before .before .before .before .before .before .before .good .1 .1 .1 .1 .1 .1 .1 .0 .0)
+    let w = behind-writes (put-tie .ensures) d q (write-diff2 .ensures) in
+    let v = behind-writes w u r (write-ties .ensures) in
+    omega (arith, v .count, r, good .1 .1 .1 .1 .1 .1 .1 .0 .0)
 
 write-ties-same-length-2 : (t : ℕ) → write-ties-lts.Need-same-length-2 (write-ties-calls t) (write-ties-at t) write-ties.Post
 write-ties-same-length-2 t c =
@@ -1804,14 +1897,19 @@ write-ties-same-length-2 t c =
 write-ties-returns-2 : (t : ℕ) → write-ties-lts.Need-returns-2 (write-ties-calls t) (write-ties-at t) write-ties.Post
 write-ties-returns-2 t c =
     let args = c .before .before .before .before .before .before .before .before .before .before .before .before .before .before .before .before .args in
+    let pre = c .before .before .before .before .before .before .before .before .before .before .before .before .before .before .before .before .pre in
+    let if1 = c .before .before .before .before .before .before .before .before .before .before .before .before .if1 in
+    let put-tie = c .before .before .before .before .before .before .before .before .before .before .put-tie in
+    let write-diff2 = c .before .before .before .before .before .before .write-diff2 in
+    let write-ties = c .before .before .write-ties in
     let the-tree = tree (args .f .now) (args .k) in
     let d = encode (derived-of (args .by .symbol) (args .by .state) the-tree (args .i)) in
     let u = extremum-bytes (args .by .symbol) (args .by .state) the-tree (args .i + 1) (args .left - 1) in
-    let e = next-tie (args .by .symbol) (args .by .state) the-tree (args .i) (args .left) (c .before .before .before .before .before .before .before .before .before .before .before .before .if1 .left) in
-    let r = room-as _ _ _ e (c .before .before .before .before .before .before .before .before .before .before .before .before .before .before .before .before .pre .1 .1 .room) in
+    let e = next-tie (args .by .symbol) (args .by .state) the-tree (args .i) (args .left) (if1 .left) in
+    let r = room-as _ _ _ e (pre .1 .1 .room) in
     let q = front (tie-bytes the-tree (args .i) ++ d) u (args .out .now) r in
-    let w = behind-writes (c .before .before .before .before .before .before .before .before .before .before .put-tie .ensures) d q (c .before .before .before .before .before .before .write-diff2 .ensures) in
-    as-text _ _ _ _ _ e (behind-writes w u r (c .before .before .write-ties .ensures))
+    let w = behind-writes (put-tie .ensures) d q (write-diff2 .ensures) in
+    as-text _ _ _ _ _ e (behind-writes w u r (write-ties .ensures))
 
 pub +differentiate+write-diff+write-extremum+write-node+write-product+write-rule+write-rules+write-sum+write-ties-spec :
     {M : Type 1} → statement M

@@ -104,33 +104,46 @@ put-literal-requires c κs =
 add-c : tie.Need-add-c
 add-c c =
     let args = c .before .before .before .before .before .before .before .before .before .before .before .before .before .before .before .args in
+    let good = c .before .before .before .before .before .before .before .before .before .before .before .before .before .before .before .good in
+    let pre = c .before .before .before .before .before .before .before .before .before .before .before .before .before .before .before .pre in
+    let put-node = c .before .before .before .before .before .before .before .before .before .before .put-node in
+    let put-node2 = c .before .before .before .before .before .before .put-node2 in
+    let put-literal = c .before .before .put-literal in
     let t = tree (args .f .now) 0 in
-    let r = two t (args .out .now) (c .before .before .before .before .before .before .before .before .before .before .before .before .before .before .before .pre .1) in
-    let w = behind-writes (c .before .before .before .before .before .before .before .before .before .before .put-node .ensures) b r (c .before .before .before .before .before .before .put-node2 .ensures) in
-    let s = three t (args .out .now) (c .before .before .before .before .before .before .before .before .before .before .before .before .before .before .before .pre .1) in
-    let v = behind-writes w (literal-bytes 0) s (c .before .before .put-literal .ensures) in
-    omega (arith, v .count, s, c .before .before .before .before .before .before .before .before .before .before .before .before .before .before .before .good .1 .1 .0 .0)
+    let r = two t (args .out .now) (pre .1) in
+    let w = behind-writes (put-node .ensures) b r (put-node2 .ensures) in
+    let s = three t (args .out .now) (pre .1) in
+    let v = behind-writes w (literal-bytes 0) s (put-literal .ensures) in
+    omega (arith, v .count, s, good .1 .1 .0 .0)
 
 sub-put-tree : tie.Need-sub-put-tree
 sub-put-tree c =
     let args = c .before .before .before .before .before .before .before .before .before .before .before .before .before .before .before .args in
+    let pre = c .before .before .before .before .before .before .before .before .before .before .before .before .before .before .before .pre in
+    let put-node = c .before .before .before .before .before .before .before .before .before .before .put-node in
+    let put-node2 = c .before .before .before .before .before .before .put-node2 in
+    let put-literal = c .before .before .put-literal in
     let t = tree (args .f .now) 0 in
-    let r = two t (args .out .now) (c .before .before .before .before .before .before .before .before .before .before .before .before .before .before .before .pre .1) in
-    let w = behind-writes (c .before .before .before .before .before .before .before .before .before .before .put-node .ensures) b r (c .before .before .before .before .before .before .put-node2 .ensures) in
-    let s = three t (args .out .now) (c .before .before .before .before .before .before .before .before .before .before .before .before .before .before .before .pre .1) in
-    let v = behind-writes w (literal-bytes 0) s (c .before .before .put-literal .ensures) in
-    let h = behind-start v (encode t) (c .before .before .before .before .before .before .before .before .before .before .before .before .before .before .before .pre .1) in
+    let r = two t (args .out .now) (pre .1) in
+    let w = behind-writes (put-node .ensures) b r (put-node2 .ensures) in
+    let s = three t (args .out .now) (pre .1) in
+    let v = behind-writes w (literal-bytes 0) s (put-literal .ensures) in
+    let h = behind-start v (encode t) (pre .1) in
     omega (arith, h)
 
 part-put-tree-start : tie.Need-part-put-tree-start
 part-put-tree-start c =
     let args = c .before .before .before .before .before .before .before .before .before .before .before .before .before .before .before .args in
+    let pre = c .before .before .before .before .before .before .before .before .before .before .before .before .before .before .before .pre in
+    let put-node = c .before .before .before .before .before .before .before .before .before .before .put-node in
+    let put-node2 = c .before .before .before .before .before .before .put-node2 in
+    let put-literal = c .before .before .put-literal in
     let t = tree (args .f .now) 0 in
-    let r = two t (args .out .now) (c .before .before .before .before .before .before .before .before .before .before .before .before .before .before .before .pre .1) in
-    let w = behind-writes (c .before .before .before .before .before .before .before .before .before .before .put-node .ensures) b r (c .before .before .before .before .before .before .put-node2 .ensures) in
-    let s = three t (args .out .now) (c .before .before .before .before .before .before .before .before .before .before .before .before .before .before .before .pre .1) in
-    let v = behind-writes w (literal-bytes 0) s (c .before .before .put-literal .ensures) in
-    let h = behind-start v (encode t) (c .before .before .before .before .before .before .before .before .before .before .before .before .before .before .before .pre .1) in
+    let r = two t (args .out .now) (pre .1) in
+    let w = behind-writes (put-node .ensures) b r (put-node2 .ensures) in
+    let s = three t (args .out .now) (pre .1) in
+    let v = behind-writes w (literal-bytes 0) s (put-literal .ensures) in
+    let h = behind-start v (encode t) (pre .1) in
     omega (arith, h)
 
 part-put-tree-end : tie.Need-part-put-tree-end
@@ -139,23 +152,33 @@ part-put-tree-end c = search needs
 put-tree-requires : tie.Need-put-tree-requires
 put-tree-requires c κs =
     let args = c .before .before .before .before .before .before .before .before .before .before .before .before .before .before .before .before .args in
+    let pre = c .before .before .before .before .before .before .before .before .before .before .before .before .before .before .before .before .pre in
+    let put-node = c .before .before .before .before .before .before .before .before .before .before .before .put-node in
+    let put-node2 = c .before .before .before .before .before .before .before .put-node2 in
+    let put-literal = c .before .before .before .put-literal in
     let t = tree (args .f .now) 0 in
-    let r = two t (args .out .now) (c .before .before .before .before .before .before .before .before .before .before .before .before .before .before .before .before .pre .1) in
-    let w = behind-writes (c .before .before .before .before .before .before .before .before .before .before .before .put-node .ensures) b r (c .before .before .before .before .before .before .before .put-node2 .ensures) in
-    let s = three t (args .out .now) (c .before .before .before .before .before .before .before .before .before .before .before .before .before .before .before .before .pre .1) in
-    let v = behind-writes w (literal-bytes 0) s (c .before .before .before .put-literal .ensures) in
-    (c .before .before .before .before .before .before .before .before .before .before .before .before .before .before .before .before .pre .0, behind-room v (encode t) (c .before .before .before .before .before .before .before .before .before .before .before .before .before .before .before .before .pre .1))
+    let r = two t (args .out .now) (pre .1) in
+    let w = behind-writes (put-node .ensures) b r (put-node2 .ensures) in
+    let s = three t (args .out .now) (pre .1) in
+    let v = behind-writes w (literal-bytes 0) s (put-literal .ensures) in
+    (pre .0, behind-room v (encode t) (pre .1))
 
 add-result : tie.Need-add-result
 add-result c =
     let args = c .before .before .before .before .before .before .before .before .before .before .before .before .before .before .before .before .before .before .before .args in
+    let good = c .before .before .before .before .before .before .before .before .before .before .before .before .before .before .before .before .before .before .before .good in
+    let pre = c .before .before .before .before .before .before .before .before .before .before .before .before .before .before .before .before .before .before .before .pre in
+    let put-node = c .before .before .before .before .before .before .before .before .before .before .before .before .before .before .put-node in
+    let put-node2 = c .before .before .before .before .before .before .before .before .before .before .put-node2 in
+    let put-literal = c .before .before .before .before .before .before .put-literal in
+    let put-tree = c .before .before .put-tree in
     let t = tree (args .f .now) 0 in
-    let r = two t (args .out .now) (c .before .before .before .before .before .before .before .before .before .before .before .before .before .before .before .before .before .before .before .pre .1) in
-    let w = behind-writes (c .before .before .before .before .before .before .before .before .before .before .before .before .before .before .put-node .ensures) b r (c .before .before .before .before .before .before .before .before .before .before .put-node2 .ensures) in
-    let s = three t (args .out .now) (c .before .before .before .before .before .before .before .before .before .before .before .before .before .before .before .before .before .before .before .pre .1) in
-    let v = behind-writes w (literal-bytes 0) s (c .before .before .before .before .before .before .put-literal .ensures) in
-    let x = behind-writes v (encode t) (c .before .before .before .before .before .before .before .before .before .before .before .before .before .before .before .before .before .before .before .pre .1) (c .before .before .put-tree .ensures) in
-    omega (arith, x .count, c .before .before .before .before .before .before .before .before .before .before .before .before .before .before .before .before .before .before .before .pre .1, c .before .before .before .before .before .before .before .before .before .before .before .before .before .before .before .before .before .before .before .good .1 .1 .0 .0)
+    let r = two t (args .out .now) (pre .1) in
+    let w = behind-writes (put-node .ensures) b r (put-node2 .ensures) in
+    let s = three t (args .out .now) (pre .1) in
+    let v = behind-writes w (literal-bytes 0) s (put-literal .ensures) in
+    let x = behind-writes v (encode t) (pre .1) (put-tree .ensures) in
+    omega (arith, x .count, pre .1, good .1 .1 .0 .0)
 
 same-length : tie.Need-same-length
 same-length c = search needs
@@ -163,12 +186,17 @@ same-length c = search needs
 returns : tie.Need-returns
 returns c =
     let args = c .before .before .before .before .before .before .before .before .before .before .before .before .before .before .before .before .before .before .before .args in
+    let pre = c .before .before .before .before .before .before .before .before .before .before .before .before .before .before .before .before .before .before .before .pre in
+    let put-node = c .before .before .before .before .before .before .before .before .before .before .before .before .before .before .put-node in
+    let put-node2 = c .before .before .before .before .before .before .before .before .before .before .put-node2 in
+    let put-literal = c .before .before .before .before .before .before .put-literal in
+    let put-tree = c .before .before .put-tree in
     let t = tree (args .f .now) 0 in
-    let r = two t (args .out .now) (c .before .before .before .before .before .before .before .before .before .before .before .before .before .before .before .before .before .before .before .pre .1) in
-    let w = behind-writes (c .before .before .before .before .before .before .before .before .before .before .before .before .before .before .put-node .ensures) b r (c .before .before .before .before .before .before .before .before .before .before .put-node2 .ensures) in
-    let s = three t (args .out .now) (c .before .before .before .before .before .before .before .before .before .before .before .before .before .before .before .before .before .before .before .pre .1) in
-    let v = behind-writes w (literal-bytes 0) s (c .before .before .before .before .before .before .put-literal .ensures) in
-    behind-writes v (encode t) (c .before .before .before .before .before .before .before .before .before .before .before .before .before .before .before .before .before .before .before .pre .1) (c .before .before .put-tree .ensures)
+    let r = two t (args .out .now) (pre .1) in
+    let w = behind-writes (put-node .ensures) b r (put-node2 .ensures) in
+    let s = three t (args .out .now) (pre .1) in
+    let v = behind-writes w (literal-bytes 0) s (put-literal .ensures) in
+    behind-writes v (encode t) (pre .1) (put-tree .ensures)
 
 pub put-primal-spec : {M : Type 1} → statement M
 put-primal-spec =

@@ -107,33 +107,46 @@ put-child-requires c κs =
 add-c : tie.Need-add-c
 add-c c =
     let args = c .before .before .before .before .before .before .before .before .before .before .before .before .before .before .before .args in
+    let good = c .before .before .before .before .before .before .before .before .before .before .before .before .before .before .before .good in
+    let pre = c .before .before .before .before .before .before .before .before .before .before .before .before .before .before .before .pre in
+    let put-node = c .before .before .before .before .before .before .before .before .before .before .put-node in
+    let put-node2 = c .before .before .before .before .before .before .put-node2 in
+    let put-child = c .before .before .put-child in
     let t = tree (args .f .now) (args .k) in
-    let r = two t (args .i) (args .out .now) (c .before .before .before .before .before .before .before .before .before .before .before .before .before .before .before .pre .1) in
-    let w = behind-writes (c .before .before .before .before .before .before .before .before .before .before .put-node .ensures) b r (c .before .before .before .before .before .before .put-node2 .ensures) in
-    let s = three t (args .i) (args .out .now) (c .before .before .before .before .before .before .before .before .before .before .before .before .before .before .before .pre .1) in
-    let v = behind-writes w (child-text t (args .i)) s (c .before .before .put-child .ensures) in
-    omega (arith, v .count, s, c .before .before .before .before .before .before .before .before .before .before .before .before .before .before .before .good .1 .1 .1 .1 .0 .0)
+    let r = two t (args .i) (args .out .now) (pre .1) in
+    let w = behind-writes (put-node .ensures) b r (put-node2 .ensures) in
+    let s = three t (args .i) (args .out .now) (pre .1) in
+    let v = behind-writes w (child-text t (args .i)) s (put-child .ensures) in
+    omega (arith, v .count, s, good .1 .1 .1 .1 .0 .0)
 
 sub-put-tree : tie.Need-sub-put-tree
 sub-put-tree c =
     let args = c .before .before .before .before .before .before .before .before .before .before .before .before .before .before .before .args in
+    let pre = c .before .before .before .before .before .before .before .before .before .before .before .before .before .before .before .pre in
+    let put-node = c .before .before .before .before .before .before .before .before .before .before .put-node in
+    let put-node2 = c .before .before .before .before .before .before .put-node2 in
+    let put-child = c .before .before .put-child in
     let t = tree (args .f .now) (args .k) in
-    let r = two t (args .i) (args .out .now) (c .before .before .before .before .before .before .before .before .before .before .before .before .before .before .before .pre .1) in
-    let w = behind-writes (c .before .before .before .before .before .before .before .before .before .before .put-node .ensures) b r (c .before .before .before .before .before .before .put-node2 .ensures) in
-    let s = three t (args .i) (args .out .now) (c .before .before .before .before .before .before .before .before .before .before .before .before .before .before .before .pre .1) in
-    let v = behind-writes w (child-text t (args .i)) s (c .before .before .put-child .ensures) in
-    let h = behind-start v (encode t) (c .before .before .before .before .before .before .before .before .before .before .before .before .before .before .before .pre .1) in
+    let r = two t (args .i) (args .out .now) (pre .1) in
+    let w = behind-writes (put-node .ensures) b r (put-node2 .ensures) in
+    let s = three t (args .i) (args .out .now) (pre .1) in
+    let v = behind-writes w (child-text t (args .i)) s (put-child .ensures) in
+    let h = behind-start v (encode t) (pre .1) in
     omega (arith, h)
 
 part-put-tree-start : tie.Need-part-put-tree-start
 part-put-tree-start c =
     let args = c .before .before .before .before .before .before .before .before .before .before .before .before .before .before .before .args in
+    let pre = c .before .before .before .before .before .before .before .before .before .before .before .before .before .before .before .pre in
+    let put-node = c .before .before .before .before .before .before .before .before .before .before .put-node in
+    let put-node2 = c .before .before .before .before .before .before .put-node2 in
+    let put-child = c .before .before .put-child in
     let t = tree (args .f .now) (args .k) in
-    let r = two t (args .i) (args .out .now) (c .before .before .before .before .before .before .before .before .before .before .before .before .before .before .before .pre .1) in
-    let w = behind-writes (c .before .before .before .before .before .before .before .before .before .before .put-node .ensures) b r (c .before .before .before .before .before .before .put-node2 .ensures) in
-    let s = three t (args .i) (args .out .now) (c .before .before .before .before .before .before .before .before .before .before .before .before .before .before .before .pre .1) in
-    let v = behind-writes w (child-text t (args .i)) s (c .before .before .put-child .ensures) in
-    let h = behind-start v (encode t) (c .before .before .before .before .before .before .before .before .before .before .before .before .before .before .before .pre .1) in
+    let r = two t (args .i) (args .out .now) (pre .1) in
+    let w = behind-writes (put-node .ensures) b r (put-node2 .ensures) in
+    let s = three t (args .i) (args .out .now) (pre .1) in
+    let v = behind-writes w (child-text t (args .i)) s (put-child .ensures) in
+    let h = behind-start v (encode t) (pre .1) in
     omega (arith, h)
 
 part-put-tree-end : tie.Need-part-put-tree-end
@@ -142,23 +155,33 @@ part-put-tree-end c = search needs
 put-tree-requires : tie.Need-put-tree-requires
 put-tree-requires c κs =
     let args = c .before .before .before .before .before .before .before .before .before .before .before .before .before .before .before .before .args in
+    let pre = c .before .before .before .before .before .before .before .before .before .before .before .before .before .before .before .before .pre in
+    let put-node = c .before .before .before .before .before .before .before .before .before .before .before .put-node in
+    let put-node2 = c .before .before .before .before .before .before .before .put-node2 in
+    let put-child = c .before .before .before .put-child in
     let t = tree (args .f .now) (args .k) in
-    let r = two t (args .i) (args .out .now) (c .before .before .before .before .before .before .before .before .before .before .before .before .before .before .before .before .pre .1) in
-    let w = behind-writes (c .before .before .before .before .before .before .before .before .before .before .before .put-node .ensures) b r (c .before .before .before .before .before .before .before .put-node2 .ensures) in
-    let s = three t (args .i) (args .out .now) (c .before .before .before .before .before .before .before .before .before .before .before .before .before .before .before .before .pre .1) in
-    let v = behind-writes w (child-text t (args .i)) s (c .before .before .before .put-child .ensures) in
-    (c .before .before .before .before .before .before .before .before .before .before .before .before .before .before .before .before .pre .0, behind-room v (encode t) (c .before .before .before .before .before .before .before .before .before .before .before .before .before .before .before .before .pre .1))
+    let r = two t (args .i) (args .out .now) (pre .1) in
+    let w = behind-writes (put-node .ensures) b r (put-node2 .ensures) in
+    let s = three t (args .i) (args .out .now) (pre .1) in
+    let v = behind-writes w (child-text t (args .i)) s (put-child .ensures) in
+    (pre .0, behind-room v (encode t) (pre .1))
 
 add-result : tie.Need-add-result
 add-result c =
     let args = c .before .before .before .before .before .before .before .before .before .before .before .before .before .before .before .before .before .before .before .args in
+    let good = c .before .before .before .before .before .before .before .before .before .before .before .before .before .before .before .before .before .before .before .good in
+    let pre = c .before .before .before .before .before .before .before .before .before .before .before .before .before .before .before .before .before .before .before .pre in
+    let put-node = c .before .before .before .before .before .before .before .before .before .before .before .before .before .before .put-node in
+    let put-node2 = c .before .before .before .before .before .before .before .before .before .before .put-node2 in
+    let put-child = c .before .before .before .before .before .before .put-child in
+    let put-tree = c .before .before .put-tree in
     let t = tree (args .f .now) (args .k) in
-    let r = two t (args .i) (args .out .now) (c .before .before .before .before .before .before .before .before .before .before .before .before .before .before .before .before .before .before .before .pre .1) in
-    let w = behind-writes (c .before .before .before .before .before .before .before .before .before .before .before .before .before .before .put-node .ensures) b r (c .before .before .before .before .before .before .before .before .before .before .put-node2 .ensures) in
-    let s = three t (args .i) (args .out .now) (c .before .before .before .before .before .before .before .before .before .before .before .before .before .before .before .before .before .before .before .pre .1) in
-    let v = behind-writes w (child-text t (args .i)) s (c .before .before .before .before .before .before .put-child .ensures) in
-    let x = behind-writes v (encode t) (c .before .before .before .before .before .before .before .before .before .before .before .before .before .before .before .before .before .before .before .pre .1) (c .before .before .put-tree .ensures) in
-    omega (arith, x .count, c .before .before .before .before .before .before .before .before .before .before .before .before .before .before .before .before .before .before .before .pre .1, c .before .before .before .before .before .before .before .before .before .before .before .before .before .before .before .before .before .before .before .good .1 .1 .1 .1 .0 .0)
+    let r = two t (args .i) (args .out .now) (pre .1) in
+    let w = behind-writes (put-node .ensures) b r (put-node2 .ensures) in
+    let s = three t (args .i) (args .out .now) (pre .1) in
+    let v = behind-writes w (child-text t (args .i)) s (put-child .ensures) in
+    let x = behind-writes v (encode t) (pre .1) (put-tree .ensures) in
+    omega (arith, x .count, pre .1, good .1 .1 .1 .1 .0 .0)
 
 same-length : tie.Need-same-length
 same-length c = search needs
@@ -166,12 +189,17 @@ same-length c = search needs
 returns : tie.Need-returns
 returns c =
     let args = c .before .before .before .before .before .before .before .before .before .before .before .before .before .before .before .before .before .before .before .args in
+    let pre = c .before .before .before .before .before .before .before .before .before .before .before .before .before .before .before .before .before .before .before .pre in
+    let put-node = c .before .before .before .before .before .before .before .before .before .before .before .before .before .before .put-node in
+    let put-node2 = c .before .before .before .before .before .before .before .before .before .before .put-node2 in
+    let put-child = c .before .before .before .before .before .before .put-child in
+    let put-tree = c .before .before .put-tree in
     let t = tree (args .f .now) (args .k) in
-    let r = two t (args .i) (args .out .now) (c .before .before .before .before .before .before .before .before .before .before .before .before .before .before .before .before .before .before .before .pre .1) in
-    let w = behind-writes (c .before .before .before .before .before .before .before .before .before .before .before .before .before .before .put-node .ensures) b r (c .before .before .before .before .before .before .before .before .before .before .put-node2 .ensures) in
-    let s = three t (args .i) (args .out .now) (c .before .before .before .before .before .before .before .before .before .before .before .before .before .before .before .before .before .before .before .pre .1) in
-    let v = behind-writes w (child-text t (args .i)) s (c .before .before .before .before .before .before .put-child .ensures) in
-    behind-writes v (encode t) (c .before .before .before .before .before .before .before .before .before .before .before .before .before .before .before .before .before .before .before .pre .1) (c .before .before .put-tree .ensures)
+    let r = two t (args .i) (args .out .now) (pre .1) in
+    let w = behind-writes (put-node .ensures) b r (put-node2 .ensures) in
+    let s = three t (args .i) (args .out .now) (pre .1) in
+    let v = behind-writes w (child-text t (args .i)) s (put-child .ensures) in
+    behind-writes v (encode t) (pre .1) (put-tree .ensures)
 
 pub put-tie-spec : {M : Type 1} → statement M
 put-tie-spec =

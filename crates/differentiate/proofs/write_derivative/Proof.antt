@@ -19,17 +19,21 @@ put-primal-requires c κs =
 sub-differentiate : tie.Need-sub-differentiate
 sub-differentiate c =
     let args = c .before .before .before .before .before .before .before .args in
+    let pre = c .before .before .before .before .before .before .before .pre in
+    let put-primal = c .before .before .put-primal in
     let d = encode (derived (args .by .symbol) (args .by .state) (tree (args .f .now) 0)) in
-    let r = job-room (args .by .symbol) (args .by .state) (args .f .now) (args .table .now) (args .depth) (args .out .now) (c .before .before .before .before .before .before .before .pre) in
-    let h = behind-start (c .before .before .put-primal .ensures) d r in
+    let r = job-room (args .by .symbol) (args .by .state) (args .f .now) (args .table .now) (args .depth) (args .out .now) pre in
+    let h = behind-start (put-primal .ensures) d r in
     omega (arith, h)
 
 part-differentiate-start : tie.Need-part-differentiate-start
 part-differentiate-start c =
     let args = c .before .before .before .before .before .before .before .args in
+    let pre = c .before .before .before .before .before .before .before .pre in
+    let put-primal = c .before .before .put-primal in
     let d = encode (derived (args .by .symbol) (args .by .state) (tree (args .f .now) 0)) in
-    let r = job-room (args .by .symbol) (args .by .state) (args .f .now) (args .table .now) (args .depth) (args .out .now) (c .before .before .before .before .before .before .before .pre) in
-    let h = behind-start (c .before .before .put-primal .ensures) d r in
+    let r = job-room (args .by .symbol) (args .by .state) (args .f .now) (args .table .now) (args .depth) (args .out .now) pre in
+    let h = behind-start (put-primal .ensures) d r in
     omega (arith, h)
 
 part-differentiate-end : tie.Need-part-differentiate-end
@@ -38,17 +42,23 @@ part-differentiate-end c = search needs
 differentiate-requires : tie.Need-differentiate-requires
 differentiate-requires c κs =
     let args = c .before .before .before .before .before .before .before .before .args in
+    let pre = c .before .before .before .before .before .before .before .before .pre in
+    let put-primal = c .before .before .before .put-primal in
     let d = encode (derived (args .by .symbol) (args .by .state) (tree (args .f .now) 0)) in
-    let r = job-room (args .by .symbol) (args .by .state) (args .f .now) (args .table .now) (args .depth) (args .out .now) (c .before .before .before .before .before .before .before .before .pre) in
-    record { known = c .before .before .before .before .before .before .before .before .pre .known; deep = c .before .before .before .before .before .before .before .before .pre .deep; room = behind-room (c .before .before .before .put-primal .ensures) d r }
+    let r = job-room (args .by .symbol) (args .by .state) (args .f .now) (args .table .now) (args .depth) (args .out .now) pre in
+    record { known = pre .known; deep = pre .deep; room = behind-room (put-primal .ensures) d r }
 
 add-result : tie.Need-add-result
 add-result c =
     let args = c .before .before .before .before .before .before .before .before .before .before .before .args in
+    let good = c .before .before .before .before .before .before .before .before .before .before .before .good in
+    let pre = c .before .before .before .before .before .before .before .before .before .before .before .pre in
+    let put-primal = c .before .before .before .before .before .before .put-primal in
+    let differentiate = c .before .before .differentiate in
     let d = encode (derived (args .by .symbol) (args .by .state) (tree (args .f .now) 0)) in
-    let r = job-room (args .by .symbol) (args .by .state) (args .f .now) (args .table .now) (args .depth) (args .out .now) (c .before .before .before .before .before .before .before .before .before .before .before .pre) in
-    let w = behind-writes (c .before .before .before .before .before .before .put-primal .ensures) d r (c .before .before .differentiate .ensures) in
-    omega (arith, w .count, r, c .before .before .before .before .before .before .before .before .before .before .before .good .1 .1 .1 .1 .0 .0)
+    let r = job-room (args .by .symbol) (args .by .state) (args .f .now) (args .table .now) (args .depth) (args .out .now) pre in
+    let w = behind-writes (put-primal .ensures) d r (differentiate .ensures) in
+    omega (arith, w .count, r, good .1 .1 .1 .1 .0 .0)
 
 same-length : tie.Need-same-length
 same-length c = search needs
@@ -56,10 +66,13 @@ same-length c = search needs
 returns : tie.Need-returns
 returns c =
     let args = c .before .before .before .before .before .before .before .before .before .before .before .args in
+    let pre = c .before .before .before .before .before .before .before .before .before .before .before .pre in
+    let put-primal = c .before .before .before .before .before .before .put-primal in
+    let differentiate = c .before .before .differentiate in
     let d = encode (derived (args .by .symbol) (args .by .state) (tree (args .f .now) 0)) in
-    let r = job-room (args .by .symbol) (args .by .state) (args .f .now) (args .table .now) (args .depth) (args .out .now) (c .before .before .before .before .before .before .before .before .before .before .before .pre) in
-    job-done (args .by .symbol) (args .by .state) (args .f .now) (args .table .now) (args .depth) (args .out .now) (c .before .before .before .before .before .before .before .before .before .before .before .pre) _ _
-    (behind-writes (c .before .before .before .before .before .before .put-primal .ensures) d r (c .before .before .differentiate .ensures))
+    let r = job-room (args .by .symbol) (args .by .state) (args .f .now) (args .table .now) (args .depth) (args .out .now) pre in
+    job-done (args .by .symbol) (args .by .state) (args .f .now) (args .table .now) (args .depth) (args .out .now) pre _ _
+    (behind-writes (put-primal .ensures) d r (differentiate .ensures))
 
 pub write-derivative-spec : {M : Type 1} → statement M
 write-derivative-spec =
