@@ -8,7 +8,8 @@ ghost use Rattle.formula.specs.Formula.{well-formed};
 ghost use Rattle.formula.specs.Node.{fields-at, head-of, head-at, tree-at, formula-of};
 ghost use Rattle.reader.specs.Read.{is-some, written, extent-at, limited};
 
-fn wide(x: u8) -> usize
+// A byte as a place or a count.
+pub fn wide(x: u8) -> usize
     ensures { λ r. ⌜ (r ≡ x) × (r < 256) ⌝ }
 {
     x as usize

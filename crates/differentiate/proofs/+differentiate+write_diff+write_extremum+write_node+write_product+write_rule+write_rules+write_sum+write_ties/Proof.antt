@@ -67,7 +67,7 @@ use Rattle.survey.proofs.is_zero.Reads as is-zero-reads
 use Rattle.survey.proofs.literal_bits.Reads as literal-bits-reads
 use Rattle.survey.proofs.rule_attributes.Reads as rule-attributes-reads
 use Rattle.survey.proofs.rule_of.Reads as rule-of-reads
-use Rattle.survey.proofs.wide.Reads as wide-reads
+use Rattle.reader.proofs.wide.Reads as wide-reads
 use Rattle.differentiate.proofs.+differentiate+write_diff+write_extremum+write_node+write_product+write_rule+write_rules+write_sum+write_ties.{
   statement,
 }
