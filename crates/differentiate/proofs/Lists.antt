@@ -77,3 +77,18 @@ module _ (t o o1 : List ℕ) (n : ℕ) (w : Writes t o o1 n) (h : length t ≤ l
             ∙ sym (append-assoc t u (drop (length t + length u) o))
             ∙ ap (λ (k : ℕ). (t ++ u) ++ drop k o) (sym (length-append t u));
       }
+
+-- the first of two texts fits where both do
+pub front : (t u o : List ℕ) → length (t ++ u) ≤ length o → length t ≤ length o
+front t u o h = omega (arith, length-append t u)
+
+-- u is to be written behind t, with room for both
+module _ {t o o1 : List ℕ} {n : ℕ} (w : Writes t o o1 n) (u : List ℕ) (h : length (t ++ u) ≤ length o) where
+  pub behind-start : n ≤ length o1
+  behind-start = free-start t o o1 n w (front t u o h)
+
+  pub behind-room : length u ≤ length (midOf n (length o1 - n) o1)
+  behind-room = free-room t o o1 n w (front t u o h) u (omega (arith, length-append t u))
+
+  pub behind-writes : {ys : List ℕ} {m : ℕ} → Writes u (midOf n (length o1 - n) o1) ys m → Writes (t ++ u) o (putMid n (length o1 - n) o1 ys) (n + m)
+  behind-writes {ys} {m} v = then-writes t o o1 n w (front t u o h) u ys m v

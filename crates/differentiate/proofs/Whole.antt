@@ -3,9 +3,9 @@ use mathlib.Core.Path.{_≡_, refl, sym, ap, _∙_}
 use mathlib.Core.Bool.{Bool, true, false, cond}
 use mathlib.Core.List.{List, [], _++_, append-assoc, append-nil}
 use mathlib.Core.Option.{Option, none, some}
-use Prim.Native.Nat.{ℕ, _+_, _*_, _≤_, min}
+use Prim.Native.Nat.{ℕ, _*_, _≤_, min}
 use native.Mathlib.Omega.{arith}
-use lib.ListN.{length, length-append}
+use lib.ListN.{length}
 use lib.Dec.{leb}
 use borrow.Author.Tests.{leb-true}
 use Rattle.formula.specs.Formula.{Formula, size, depth, within}
@@ -56,10 +56,10 @@ module _ (s : ℕ) (b : Bool) (f T : List ℕ) (levels : ℕ) (out : List ℕ) (
   abbrev D : Formula
   D = derived s b t
 
-  pub job-room : length (primal-bytes t) + length (encode D) ≤ length out
+  pub job-room : length (primal-bytes t ++ encode D) ≤ length out
   job-room =
       let h = j .room (with-primal t D) (derivative-is s b t (j .fine)) in
-      omega (arith, h, ap length (primal-text t D), length-append (primal-bytes t) (encode D), encode-length (with-primal t D))
+      omega (arith, h, ap length (primal-text t D), encode-length (with-primal t D))
 
   pub job-done : (out′ : List ℕ) (r : ℕ) → Writes (primal-bytes t ++ encode D) out out′ r → (d : Formula) → derivative s b t ≡ some d → Writes (encode d) out out′ r
   job-done out′ r w d p = as-text _ _ _ _ _ (primal-text t D ∙ ap encode (written-is s b t d (j .fine) p)) w

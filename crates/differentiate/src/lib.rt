@@ -17,6 +17,7 @@ ghost use Rattle.survey.specs.Table.{tree, Owned};
 ghost use Rattle.differentiate.specs.Written.{Writes, Task, literal-bytes, part, parts-bytes, node-of, extremum-bytes, tie-bytes, sum-bytes, product-bytes, extremum-tree, Small, primal-bytes, Job};
 use reader::NODE_SIZE;
 use reader::half;
+use reader::wide;
 use rules::code;
 use rules::end_of;
 use rules::parts_of;
@@ -28,7 +29,6 @@ use survey::is_zero;
 use survey::literal_bits;
 use survey::rule_attributes;
 use survey::rule_of;
-use survey::wide;
 
 // Copies b to the start of out.
 fn copy(b: &[u8], out: &mut [u8]) -> usize

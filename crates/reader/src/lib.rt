@@ -11,7 +11,8 @@ ghost use Rattle.reader.specs.Read.{is-some, written, extent-at, limited
 // How many bytes a node has.
 pub const NODE_SIZE: usize = 16;
 
-fn wide(x: u8) -> usize
+// A byte as a place or a count.
+pub fn wide(x: u8) -> usize
     ensures { λ r. ⌜ (r ≡ x) × (r < 256) ⌝ }
 {
     x as usize

@@ -3,10 +3,11 @@
 // written out would stand twice, once for the attributes and once for the nodes, with each test for a literal zero or one in
 // both; here each arm stands once, and the tests of `add` and `mul` once in each reading.
 ghost use mathlib.Core.Path.{_≡_};
-ghost use Prim.Native.Nat.{_<_, _≤_};
+ghost use Prim.Native.Nat.{_≤_};
 ghost use lib.ListN.{getD};
 ghost use Rattle.rules.specs.Notation.{look, binaries, calls, others, coded, operators, operator-codes, code-of, letter-at, code-at, parts, end-at};
 use reader::byte;
+use reader::wide;
 
 // The children and their derivatives.
 const A: u8 = 0x10;
@@ -209,12 +210,6 @@ pub fn code(q: usize, i: usize) -> u8
     ensures { λ r. ⌜ r ≡ code-at q i ⌝ }
 {
     code_of(letter(q, i))
-}
-
-fn wide(x: u8) -> usize
-    ensures { λ r. ⌜ (r ≡ x) × (r < 256) ⌝ }
-{
-    x as usize
 }
 
 // How many parts follow a code.

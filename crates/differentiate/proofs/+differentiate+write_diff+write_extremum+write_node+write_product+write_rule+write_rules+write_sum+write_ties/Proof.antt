@@ -1,23 +1,23 @@
 use mathlib.Core.Logic.{⊎-elim}
 use borrow.Author.Tests.{leb-true, leb-false}
-use Prim.Native.Nat.{_+_, _-_, _*_, _/_, _%_, _≤_}
+use Prim.Native.Nat.{_+_, _-_, _*_, _/_, _%_}
 use native.Mathlib.Omega.{arith}
-use mathlib.Core.Path.{_≡_, refl, _∙_, sym, ap}
-use mathlib.Core.List.{List, [], _++_}
+use mathlib.Core.Path.{refl, _∙_, sym}
+use mathlib.Core.List.{_++_}
 use borrow.Author.Needs.{needs}
 use borrow.Rule.Slice.PartMut.{same-len-mid, putMid}
 use Rattle.rules.specs.Notation.{end-at}
-use lib.ListN.{length, length-append}
+use lib.ListN.{length}
 use Rattle.formula.specs.Node.{encode, node-bytes, inner-fields}
 use Rattle.reader.proofs.Trees.{depth-pos}
-use Rattle.survey.specs.Derived.{child-of, derived-of}
+use Rattle.survey.specs.Derived.{derived-of}
 use Rattle.survey.specs.Table.{tree}
 use Rattle.survey.proofs.Rows.{first-inside, row-inside}
 use Rattle.survey.proofs.Trees.{count-is}
 use Rattle.survey.proofs.Worked.{writing}
 use Rattle.survey.proofs.Steps.{tested}
-use Rattle.differentiate.specs.Written.{part, parts-bytes, node-of, extremum-bytes, tie-bytes}
-use Rattle.differentiate.proofs.Lists.{as-text, room-as, writes-none, same, free-start, free-room, then-writes}
+use Rattle.differentiate.specs.Written.{part, parts-bytes, extremum-bytes, tie-bytes}
+use Rattle.differentiate.proofs.Lists.{as-text, room-as, writes-none, front, behind-start, behind-room, behind-writes}
 use Rattle.differentiate.proofs.Leaves.{literal-room, node-length}
 use Rattle.differentiate.proofs.Texts.{text-none, text-long, text-zero, text-child, text-diff, text-whole, text-extremum, text-literal, text-unless-yes, text-unless-no, text-sum, text-product, text-node}
 use Rattle.differentiate.proofs.Texts.{none-left, next-part, zero-test, one-test, sum-left, sum-right, sum-kept, product-left, product-right, one-left, one-right, product-kept, last-tie, next-tie, no-ties, all-ties, ready-of, has-not, without-rule, by-rule, known-child, diff-text, no-diff, task-as}
@@ -67,7 +67,7 @@ use Rattle.survey.proofs.is_zero.Reads as is-zero-reads
 use Rattle.survey.proofs.literal_bits.Reads as literal-bits-reads
 use Rattle.survey.proofs.rule_attributes.Reads as rule-attributes-reads
 use Rattle.survey.proofs.rule_of.Reads as rule-of-reads
-use Rattle.survey.proofs.wide.Reads as wide-reads
+use Rattle.reader.proofs.wide.Reads as wide-reads
 use Rattle.differentiate.proofs.+differentiate+write_diff+write_extremum+write_node+write_product+write_rule+write_rules+write_sum+write_ties.{
   statement,
 }
@@ -430,10 +430,16 @@ differentiate-returns-3 t c =
     (put-literal2 .ensures)
 
 write-diff-mul-half : (t : ℕ) → write-diff-lts.Need-mul-half (write-diff-calls t) (write-diff-at t) write-diff.Post
-write-diff-mul-half t c = omega (arith, first-inside (c .before .before .before .args .f .now) (c .before .before .before .args .k) (c .before .before .before .pre .1 .known .owned .formed))
+write-diff-mul-half t c =
+    let args = c .before .before .before .args in
+    let pre = c .before .before .before .pre in
+    omega (arith, first-inside (args .f .now) (args .k) (pre .1 .known .owned .formed))
 
 write-diff-add-half : (t : ℕ) → write-diff-lts.Need-add-half (write-diff-calls t) (write-diff-at t) write-diff.Post
-write-diff-add-half t c = omega (arith, first-inside (c .before .before .before .args .f .now) (c .before .before .before .args .k) (c .before .before .before .pre .1 .known .owned .formed))
+write-diff-add-half t c =
+    let args = c .before .before .before .args in
+    let pre = c .before .before .before .pre in
+    omega (arith, first-inside (args .f .now) (args .k) (pre .1 .known .owned .formed))
 
 write-diff-half-requires : (t : ℕ) → write-diff-lts.Need-half-requires (write-diff-calls t) (write-diff-at t) write-diff.Post
 write-diff-half-requires t c κs = search needs
@@ -499,10 +505,16 @@ write-diff-returns-2 t c =
     (put-literal .ensures)
 
 write-extremum-mul-half : (t : ℕ) → write-extremum-lts.Need-mul-half (write-extremum-calls t) (write-extremum-at t) write-extremum.Post
-write-extremum-mul-half t c = omega (arith, first-inside (c .before .before .before .args .f .now) (c .before .before .before .args .k) (c .before .before .before .pre .1 .known .owned .formed))
+write-extremum-mul-half t c =
+    let args = c .before .before .before .args in
+    let pre = c .before .before .before .pre in
+    omega (arith, first-inside (args .f .now) (args .k) (pre .1 .known .owned .formed))
 
 write-extremum-add-half : (t : ℕ) → write-extremum-lts.Need-add-half (write-extremum-calls t) (write-extremum-at t) write-extremum.Post
-write-extremum-add-half t c = omega (arith, first-inside (c .before .before .before .args .f .now) (c .before .before .before .args .k) (c .before .before .before .pre .1 .known .owned .formed))
+write-extremum-add-half t c =
+    let args = c .before .before .before .args in
+    let pre = c .before .before .before .pre in
+    omega (arith, first-inside (args .f .now) (args .k) (pre .1 .known .owned .formed))
 
 write-extremum-half-requires : (t : ℕ) → write-extremum-lts.Need-half-requires (write-extremum-calls t) (write-extremum-at t) write-extremum.Post
 write-extremum-half-requires t c κs = search needs
@@ -570,65 +582,30 @@ write-node-put-node-requires : (t : ℕ) → write-node-lts.Need-put-node-requir
 write-node-put-node-requires t c κs =
     let args = c .before .before .before .before .args in
     let pre = c .before .before .before .before .pre in
-    let the-inner-fields = inner-fields (args .kind) (args .operator) (args .children) in (
-      pre .1 .0 .kind-byte,
-      pre .1 .0 .operator-byte,
-      omega (arith, pre .1 .0 .few),
-      omega (
-        arith,
-        pre .1 .1 .room,
-        length-append (node-bytes the-inner-fields)
-            (parts-bytes (args .by .symbol) (args .by .state) (tree (args .f .now) (args .k)) (args .levels) (args .q) (args .children) (args .i)),
-        node-length the-inner-fields,
-      ),
-    )
+    let u = parts-bytes (args .by .symbol) (args .by .state) (tree (args .f .now) (args .k)) (args .levels) (args .q) (args .children) (args .i) in
+    let fields = inner-fields (args .kind) (args .operator) (args .children) in
+    let h = front (node-bytes fields) u (args .out .now) (pre .1 .1 .room) in
+    (pre .1 .0 .kind-byte, pre .1 .0 .operator-byte, omega (arith, pre .1 .0 .few), omega (arith, h, node-length fields))
 
 write-node-sub-write-rules : (t : ℕ) → write-node-lts.Need-sub-write-rules (write-node-calls t) (write-node-at t) write-node.Post
 write-node-sub-write-rules t c =
     let args = c .before .before .before .before .before .before .before .args in
-    let pre = c .before .before .before .before .before .before .before .pre in
-    let put-node = c .before .before .put-node in
-    let the-node-bytes = node-bytes (inner-fields (args .kind) (args .operator) (args .children)) in
-    let h =
-    free-start the-node-bytes (args .out .now) (put-node .last .1 .1 .1 .0) (put-node .result) (put-node .ensures)
-    (omega (
-      arith,
-      pre .1 .1 .room,
-      length-append the-node-bytes
-          (parts-bytes (args .by .symbol) (args .by .state) (tree (args .f .now) (args .k)) (args .levels) (args .q) (args .children) (args .i)),
-    )) in
+    let u = parts-bytes (args .by .symbol) (args .by .state) (tree (args .f .now) (args .k)) (args .levels) (args .q) (args .children) (args .i) in
+    let h = behind-start (c .before .before .put-node .ensures) u (c .before .before .before .before .before .before .before .pre .1 .1 .room) in
     omega (arith, h)
 
 write-node-part-write-rules-start : (t : ℕ) → write-node-lts.Need-part-write-rules-start (write-node-calls t) (write-node-at t) write-node.Post
 write-node-part-write-rules-start t c =
     let args = c .before .before .before .before .before .before .before .args in
-    let pre = c .before .before .before .before .before .before .before .pre in
-    let put-node = c .before .before .put-node in
-    let the-node-bytes = node-bytes (inner-fields (args .kind) (args .operator) (args .children)) in
-    let h =
-    free-start the-node-bytes (args .out .now) (put-node .last .1 .1 .1 .0) (put-node .result) (put-node .ensures)
-    (omega (
-      arith,
-      pre .1 .1 .room,
-      length-append the-node-bytes
-          (parts-bytes (args .by .symbol) (args .by .state) (tree (args .f .now) (args .k)) (args .levels) (args .q) (args .children) (args .i)),
-    )) in
+    let u = parts-bytes (args .by .symbol) (args .by .state) (tree (args .f .now) (args .k)) (args .levels) (args .q) (args .children) (args .i) in
+    let h = behind-start (c .before .before .put-node .ensures) u (c .before .before .before .before .before .before .before .pre .1 .1 .room) in
     omega (arith, h)
 
 write-node-part-write-rules-end : (t : ℕ) → write-node-lts.Need-part-write-rules-end (write-node-calls t) (write-node-at t) write-node.Post
 write-node-part-write-rules-end t c =
     let args = c .before .before .before .before .before .before .before .args in
-    let pre = c .before .before .before .before .before .before .before .pre in
-    let put-node = c .before .before .put-node in
-    let the-node-bytes = node-bytes (inner-fields (args .kind) (args .operator) (args .children)) in
-    let h =
-    free-start the-node-bytes (args .out .now) (put-node .last .1 .1 .1 .0) (put-node .result) (put-node .ensures)
-    (omega (
-      arith,
-      pre .1 .1 .room,
-      length-append the-node-bytes
-          (parts-bytes (args .by .symbol) (args .by .state) (tree (args .f .now) (args .k)) (args .levels) (args .q) (args .children) (args .i)),
-    )) in
+    let u = parts-bytes (args .by .symbol) (args .by .state) (tree (args .f .now) (args .k)) (args .levels) (args .q) (args .children) (args .i) in
+    let h = behind-start (c .before .before .put-node .ensures) u (c .before .before .before .before .before .before .before .pre .1 .1 .room) in
     omega (arith, h)
 
 write-node-write-rules-requires : (t : ℕ) → write-node-lts.Need-write-rules-requires (write-node-calls t) (write-node-at t) write-node.Post
@@ -636,20 +613,9 @@ write-node-write-rules-requires t c κs =
     let args = c .before .before .before .before .before .before .before .before .args in
     let pre = c .before .before .before .before .before .before .before .before .pre in
     let put-node = c .before .before .before .put-node in
-    let the-parts-bytes = parts-bytes (args .by .symbol) (args .by .state) (tree (args .f .now) (args .k)) (args .levels) (args .q) (args .children) (args .i) in
-    let the-node-bytes = node-bytes (inner-fields (args .kind) (args .operator) (args .children)) in (
+    let u = parts-bytes (args .by .symbol) (args .by .state) (tree (args .f .now) (args .k)) (args .levels) (args .q) (args .children) (args .i) in (
       omega (arith, pre .0, pre .1 .0 .few),
-      (
-        pre .1 .0 .few,
-        record {
-          known = pre .1 .1 .known;
-          deep = pre .1 .1 .deep;
-          room =
-              free-room the-node-bytes (args .out .now) (put-node .last .1 .1 .1 .0) (put-node .result) (put-node .ensures)
-              (omega (arith, pre .1 .1 .room, length-append the-node-bytes the-parts-bytes)) the-parts-bytes
-              (omega (arith, pre .1 .1 .room, length-append the-node-bytes the-parts-bytes));
-        },
-      ),
+      (pre .1 .0 .few, record { known = pre .1 .1 .known; deep = pre .1 .1 .deep; room = behind-room (put-node .ensures) u (pre .1 .1 .room) }),
     )
 
 write-node-add-result : (t : ℕ) → write-node-lts.Need-add-result (write-node-calls t) (write-node-at t) write-node.Post
@@ -659,15 +625,9 @@ write-node-add-result t c =
     let pre = c .before .before .before .before .before .before .before .before .before .before .before .pre in
     let put-node = c .before .before .before .before .before .before .put-node in
     let write-rules = c .before .before .write-rules in
-    omega (
-      arith,
-      put-node .ensures .count,
-      write-rules .ensures .count,
-      pre .1 .1 .room,
-      length-append (node-bytes (inner-fields (args .kind) (args .operator) (args .children)))
-          (parts-bytes (args .by .symbol) (args .by .state) (tree (args .f .now) (args .k)) (args .levels) (args .q) (args .children) (args .i)),
-      good .1 .1 .1 .1 .1 .1 .1 .1 .1 .1 .1 .0 .0,
-    )
+    let u = parts-bytes (args .by .symbol) (args .by .state) (tree (args .f .now) (args .k)) (args .levels) (args .q) (args .children) (args .i) in
+    let w = behind-writes (put-node .ensures) u (pre .1 .1 .room) (write-rules .ensures) in
+    omega (arith, w .count, pre .1 .1 .room, good .1 .1 .1 .1 .1 .1 .1 .1 .1 .1 .1 .0 .0)
 
 write-node-same-length : (t : ℕ) → write-node-lts.Need-same-length (write-node-calls t) (write-node-at t) write-node.Post
 write-node-same-length t c =
@@ -683,11 +643,8 @@ write-node-returns t c =
     let pre = c .before .before .before .before .before .before .before .before .before .before .before .pre in
     let put-node = c .before .before .before .before .before .before .put-node in
     let write-rules = c .before .before .write-rules in
-    let the-parts-bytes = parts-bytes (args .by .symbol) (args .by .state) (tree (args .f .now) (args .k)) (args .levels) (args .q) (args .children) (args .i) in
-    let the-node-bytes = node-bytes (inner-fields (args .kind) (args .operator) (args .children)) in
-    then-writes the-node-bytes (args .out .now) (put-node .last .1 .1 .1 .0) (put-node .result) (put-node .ensures)
-    (omega (arith, pre .1 .1 .room, length-append the-node-bytes the-parts-bytes)) the-parts-bytes (write-rules .last .1 .1 .1 .1 .1 .1 .1 .1 .1 .0)
-    (write-rules .result) (write-rules .ensures)
+    let u = parts-bytes (args .by .symbol) (args .by .state) (tree (args .f .now) (args .k)) (args .levels) (args .q) (args .children) (args .i) in
+    behind-writes (put-node .ensures) u (pre .1 .1 .room) (write-rules .ensures)
 
 write-product-end-of-requires : (t : ℕ) → write-product-lts.Need-end-of-requires (write-product-calls t) (write-product-at t) write-product.Post
 write-product-end-of-requires t c κs = search needs
@@ -698,23 +655,7 @@ write-product-rule-attributes-requires t c κs =
     let pre = c .before .before .before .before .pre in
     ready-of (args .by .symbol) (args .by .state) (args .f .now) (args .table .now) (args .k) (pre .1 .known)
 
-write-product-rule-attributes-requires-2 :
-    (t : ℕ) → write-product-lts.Need-rule-attributes-requires-2 (
-      end-of-reads.Asked,
-      end-of-reads.Learnt,
-      rule-attributes-reads.Asked,
-      rule-attributes-reads.Learnt,
-      is-zero-reads.Asked,
-      is-zero-reads.Learnt,
-      put-literal-reads.Asked,
-      put-literal-reads.Learnt,
-      is-one-reads.Asked,
-      is-one-reads.Learnt,
-      write-rule-below t,
-      write-rule.Post,
-      write-node-below t,
-      write-node.Post,
-    ) (write-product-at t) write-product.Post
+write-product-rule-attributes-requires-2 : (t : ℕ) → write-product-lts.Need-rule-attributes-requires-2 (write-product-calls t) (write-product-at t) write-product.Post
 write-product-rule-attributes-requires-2 t c κs =
     let args = c .before .before .before .before .before .args in
     let pre = c .before .before .before .before .before .pre in
@@ -1189,7 +1130,10 @@ write-rule-write-rule-requires t c κs =
     )
 
 write-rule-add-write-sum : (t : ℕ) → write-rule-lts.Need-add-write-sum (write-rule-calls t) (write-rule-at t) write-rule.Post
-write-rule-add-write-sum t c = omega (arith, leb-false 128 (c .before .before .before .before .before .before .before .before .before .args .i) (c .before .before .before .before .if2 .left))
+write-rule-add-write-sum t c =
+    let args = c .before .before .before .before .before .before .before .before .before .args in
+    let if2 = c .before .before .before .before .if2 in
+    omega (arith, leb-false 128 (args .i) (if2 .left))
 
 write-rule-sub-write-sum : (t : ℕ) → write-rule-lts.Need-sub-write-sum (write-rule-calls t) (write-rule-at t) write-rule.Post
 write-rule-sub-write-sum t c = omega (arith, c .before .before .before .before .before .if1 .left)
@@ -1210,7 +1154,10 @@ write-rule-write-sum-requires t c κs =
     )
 
 write-rule-add-write-product : (t : ℕ) → write-rule-lts.Need-add-write-product (write-rule-calls t) (write-rule-at t) write-rule.Post
-write-rule-add-write-product t c = omega (arith, leb-false 128 (c .before .before .before .before .before .before .before .before .before .args .i) (c .before .before .before .before .if2 .left))
+write-rule-add-write-product t c =
+    let args = c .before .before .before .before .before .before .before .before .before .args in
+    let if2 = c .before .before .before .before .if2 in
+    omega (arith, leb-false 128 (args .i) (if2 .left))
 
 write-rule-sub-write-product : (t : ℕ) → write-rule-lts.Need-sub-write-product (write-rule-calls t) (write-rule-at t) write-rule.Post
 write-rule-sub-write-product t c = omega (arith, c .before .before .before .before .before .if1 .left)
@@ -1458,22 +1405,13 @@ write-rules-write-rule-requires t c κs =
     let args = c .before .before .before .before .before .args in
     let pre = c .before .before .before .before .before .pre in
     let the-tree = tree (args .f .now) (args .k) in
-    let the-end-at = end-at (args .levels) (args .q) (args .i) in (
-      omega (arith, pre .0),
-      record {
-        known = pre .1 .1 .known;
-        deep = pre .1 .1 .deep;
-        room =
-            omega (
-              arith,
-              pre .1 .1 .room,
-              ap length
-                  (next-part (args .by .symbol) (args .by .state) the-tree (args .levels) (args .q) (args .left) (args .i) the-end-at (c .before .if1 .left) refl),
-              length-append (encode (part (args .by .symbol) (args .by .state) the-tree (args .levels) (args .q) (args .i)))
-                  (parts-bytes (args .by .symbol) (args .by .state) the-tree (args .levels) (args .q) (args .left - 1) the-end-at),
-            );
-      },
-    )
+    let u = parts-bytes (args .by .symbol) (args .by .state) the-tree (args .levels) (args .q) (args .left - 1) (end-at (args .levels) (args .q) (args .i)) in
+    let e =
+    next-part (args .by .symbol) (args .by .state) the-tree (args .levels) (args .q) (args .left) (args .i) (end-at (args .levels) (args .q) (args .i))
+    (c .before .if1 .left) refl in
+    let r = room-as _ _ _ e (pre .1 .1 .room) in
+    let h = front (encode (part (args .by .symbol) (args .by .state) the-tree (args .levels) (args .q) (args .i))) u (args .out .now) r in
+    (omega (arith, pre .0), record { known = pre .1 .1 .known; deep = pre .1 .1 .deep; room = h })
 
 write-rules-end-of-requires : (t : ℕ) → write-rules-lts.Need-end-of-requires (write-rules-calls t) (write-rules-at t) write-rules.Post
 write-rules-end-of-requires t c κs = search needs
@@ -1485,16 +1423,12 @@ write-rules-sub-write-rules t c =
     let if1 = c .before .before .before .before .before .if1 in
     let write-rule = c .before .before .before .write-rule in
     let the-tree = tree (args .f .now) (args .k) in
-    let the-encode = encode (part (args .by .symbol) (args .by .state) the-tree (args .levels) (args .q) (args .i)) in
-    let the-end-at = end-at (args .levels) (args .q) (args .i) in
-    let h =
-    free-start the-encode (args .out .now) (write-rule .last .1 .1 .1 .1 .1 .1 .1 .1 .0) (write-rule .result) (write-rule .ensures)
-    (omega (
-      arith,
-      pre .1 .1 .room,
-      ap length (next-part (args .by .symbol) (args .by .state) the-tree (args .levels) (args .q) (args .left) (args .i) the-end-at (if1 .left) refl),
-      length-append the-encode (parts-bytes (args .by .symbol) (args .by .state) the-tree (args .levels) (args .q) (args .left - 1) the-end-at),
-    )) in
+    let u = parts-bytes (args .by .symbol) (args .by .state) the-tree (args .levels) (args .q) (args .left - 1) (end-at (args .levels) (args .q) (args .i)) in
+    let e =
+    next-part (args .by .symbol) (args .by .state) the-tree (args .levels) (args .q) (args .left) (args .i) (end-at (args .levels) (args .q) (args .i))
+    (if1 .left) refl in
+    let r = room-as _ _ _ e (pre .1 .1 .room) in
+    let h = behind-start (write-rule .ensures) u r in
     omega (arith, h, if1 .left)
 
 write-rules-sub-write-rules-2 : (t : ℕ) → write-rules-lts.Need-sub-write-rules-2 (write-rules-calls t) (write-rules-at t) write-rules.Post
@@ -1504,16 +1438,12 @@ write-rules-sub-write-rules-2 t c =
     let if1 = c .before .before .before .before .before .if1 in
     let write-rule = c .before .before .before .write-rule in
     let the-tree = tree (args .f .now) (args .k) in
-    let the-encode = encode (part (args .by .symbol) (args .by .state) the-tree (args .levels) (args .q) (args .i)) in
-    let the-end-at = end-at (args .levels) (args .q) (args .i) in
-    let h =
-    free-start the-encode (args .out .now) (write-rule .last .1 .1 .1 .1 .1 .1 .1 .1 .0) (write-rule .result) (write-rule .ensures)
-    (omega (
-      arith,
-      pre .1 .1 .room,
-      ap length (next-part (args .by .symbol) (args .by .state) the-tree (args .levels) (args .q) (args .left) (args .i) the-end-at (if1 .left) refl),
-      length-append the-encode (parts-bytes (args .by .symbol) (args .by .state) the-tree (args .levels) (args .q) (args .left - 1) the-end-at),
-    )) in
+    let u = parts-bytes (args .by .symbol) (args .by .state) the-tree (args .levels) (args .q) (args .left - 1) (end-at (args .levels) (args .q) (args .i)) in
+    let e =
+    next-part (args .by .symbol) (args .by .state) the-tree (args .levels) (args .q) (args .left) (args .i) (end-at (args .levels) (args .q) (args .i))
+    (if1 .left) refl in
+    let r = room-as _ _ _ e (pre .1 .1 .room) in
+    let h = behind-start (write-rule .ensures) u r in
     omega (arith, h, if1 .left)
 
 write-rules-part-write-rules-start : (t : ℕ) → write-rules-lts.Need-part-write-rules-start (write-rules-calls t) (write-rules-at t) write-rules.Post
@@ -1523,16 +1453,12 @@ write-rules-part-write-rules-start t c =
     let if1 = c .before .before .before .before .before .if1 in
     let write-rule = c .before .before .before .write-rule in
     let the-tree = tree (args .f .now) (args .k) in
-    let the-encode = encode (part (args .by .symbol) (args .by .state) the-tree (args .levels) (args .q) (args .i)) in
-    let the-end-at = end-at (args .levels) (args .q) (args .i) in
-    let h =
-    free-start the-encode (args .out .now) (write-rule .last .1 .1 .1 .1 .1 .1 .1 .1 .0) (write-rule .result) (write-rule .ensures)
-    (omega (
-      arith,
-      pre .1 .1 .room,
-      ap length (next-part (args .by .symbol) (args .by .state) the-tree (args .levels) (args .q) (args .left) (args .i) the-end-at (if1 .left) refl),
-      length-append the-encode (parts-bytes (args .by .symbol) (args .by .state) the-tree (args .levels) (args .q) (args .left - 1) the-end-at),
-    )) in
+    let u = parts-bytes (args .by .symbol) (args .by .state) the-tree (args .levels) (args .q) (args .left - 1) (end-at (args .levels) (args .q) (args .i)) in
+    let e =
+    next-part (args .by .symbol) (args .by .state) the-tree (args .levels) (args .q) (args .left) (args .i) (end-at (args .levels) (args .q) (args .i))
+    (if1 .left) refl in
+    let r = room-as _ _ _ e (pre .1 .1 .room) in
+    let h = behind-start (write-rule .ensures) u r in
     omega (arith, h, if1 .left)
 
 write-rules-part-write-rules-end : (t : ℕ) → write-rules-lts.Need-part-write-rules-end (write-rules-calls t) (write-rules-at t) write-rules.Post
@@ -1542,16 +1468,12 @@ write-rules-part-write-rules-end t c =
     let if1 = c .before .before .before .before .before .if1 in
     let write-rule = c .before .before .before .write-rule in
     let the-tree = tree (args .f .now) (args .k) in
-    let the-encode = encode (part (args .by .symbol) (args .by .state) the-tree (args .levels) (args .q) (args .i)) in
-    let the-end-at = end-at (args .levels) (args .q) (args .i) in
-    let h =
-    free-start the-encode (args .out .now) (write-rule .last .1 .1 .1 .1 .1 .1 .1 .1 .0) (write-rule .result) (write-rule .ensures)
-    (omega (
-      arith,
-      pre .1 .1 .room,
-      ap length (next-part (args .by .symbol) (args .by .state) the-tree (args .levels) (args .q) (args .left) (args .i) the-end-at (if1 .left) refl),
-      length-append the-encode (parts-bytes (args .by .symbol) (args .by .state) the-tree (args .levels) (args .q) (args .left - 1) the-end-at),
-    )) in
+    let u = parts-bytes (args .by .symbol) (args .by .state) the-tree (args .levels) (args .q) (args .left - 1) (end-at (args .levels) (args .q) (args .i)) in
+    let e =
+    next-part (args .by .symbol) (args .by .state) the-tree (args .levels) (args .q) (args .left) (args .i) (end-at (args .levels) (args .q) (args .i))
+    (if1 .left) refl in
+    let r = room-as _ _ _ e (pre .1 .1 .room) in
+    let h = behind-start (write-rule .ensures) u r in
     omega (arith, h, if1 .left)
 
 write-rules-write-rules-requires : (t : ℕ) → write-rules-lts.Need-write-rules-requires (write-rules-calls t) (write-rules-at t) write-rules.Post
@@ -1562,33 +1484,11 @@ write-rules-write-rules-requires t c κs =
     let write-rule = c .before .before .before .before .write-rule in
     let end-of = c .before .end-of in
     let the-tree = tree (args .f .now) (args .k) in
-    let the-encode = encode (part (args .by .symbol) (args .by .state) the-tree (args .levels) (args .q) (args .i)) in
-    let the-parts-bytes = parts-bytes (args .by .symbol) (args .by .state) the-tree (args .levels) (args .q) (args .left - 1) (end-of .result) in
-    let the-end-at = end-at (args .levels) (args .q) (args .i) in (
+    let u = parts-bytes (args .by .symbol) (args .by .state) the-tree (args .levels) (args .q) (args .left - 1) (end-of .result) in
+    let e = next-part (args .by .symbol) (args .by .state) the-tree (args .levels) (args .q) (args .left) (args .i) (end-of .result) (if1 .left) (end-of .ensures) in
+    let r = room-as _ _ _ e (pre .1 .1 .room) in (
       omega (arith, pre .0, if1 .left),
-      (
-        omega (arith, pre .1 .0),
-        record {
-          known = pre .1 .1 .known;
-          deep = pre .1 .1 .deep;
-          room =
-              free-room the-encode (args .out .now) (write-rule .last .1 .1 .1 .1 .1 .1 .1 .1 .0) (write-rule .result) (write-rule .ensures)
-              (omega (
-                arith,
-                pre .1 .1 .room,
-                ap length (next-part (args .by .symbol) (args .by .state) the-tree (args .levels) (args .q) (args .left) (args .i) the-end-at (if1 .left) refl),
-                length-append the-encode (parts-bytes (args .by .symbol) (args .by .state) the-tree (args .levels) (args .q) (args .left - 1) the-end-at),
-              ))
-              the-parts-bytes
-              (omega (
-                arith,
-                pre .1 .1 .room,
-                ap length
-                    (next-part (args .by .symbol) (args .by .state) the-tree (args .levels) (args .q) (args .left) (args .i) (end-of .result) (if1 .left) (end-of .ensures)),
-                length-append the-encode the-parts-bytes,
-              ));
-        },
-      ),
+      (omega (arith, pre .1 .0), record { known = pre .1 .1 .known; deep = pre .1 .1 .deep; room = behind-room (write-rule .ensures) u r }),
     )
 
 write-rules-add-result : (t : ℕ) → write-rules-lts.Need-add-result (write-rules-calls t) (write-rules-at t) write-rules.Post
@@ -1601,17 +1501,11 @@ write-rules-add-result t c =
     let end-of = c .before .before .before .before .end-of in
     let write-rules = c .before .before .write-rules in
     let the-tree = tree (args .f .now) (args .k) in
-    omega (
-      arith,
-      write-rule .ensures .count,
-      write-rules .ensures .count,
-      pre .1 .1 .room,
-      ap length
-          (next-part (args .by .symbol) (args .by .state) the-tree (args .levels) (args .q) (args .left) (args .i) (end-of .result) (if1 .left) (end-of .ensures)),
-      length-append (encode (part (args .by .symbol) (args .by .state) the-tree (args .levels) (args .q) (args .i)))
-          (parts-bytes (args .by .symbol) (args .by .state) the-tree (args .levels) (args .q) (args .left - 1) (end-of .result)),
-      good .1 .1 .1 .1 .1 .1 .1 .1 .1 .0 .0,
-    )
+    let u = parts-bytes (args .by .symbol) (args .by .state) the-tree (args .levels) (args .q) (args .left - 1) (end-of .result) in
+    let e = next-part (args .by .symbol) (args .by .state) the-tree (args .levels) (args .q) (args .left) (args .i) (end-of .result) (if1 .left) (end-of .ensures) in
+    let r = room-as _ _ _ e (pre .1 .1 .room) in
+    let w = behind-writes (write-rule .ensures) u r (write-rules .ensures) in
+    omega (arith, w .count, r, good .1 .1 .1 .1 .1 .1 .1 .1 .1 .0 .0)
 
 write-rules-same-length : (t : ℕ) → write-rules-lts.Need-same-length (write-rules-calls t) (write-rules-at t) write-rules.Post
 write-rules-same-length t c =
@@ -1631,19 +1525,10 @@ write-rules-returns-2 t c =
     let end-of = c .before .before .before .before .end-of in
     let write-rules = c .before .before .write-rules in
     let the-tree = tree (args .f .now) (args .k) in
-    let the-encode = encode (part (args .by .symbol) (args .by .state) the-tree (args .levels) (args .q) (args .i)) in
-    let the-end-at = end-at (args .levels) (args .q) (args .i) in
-    as-text _ _ _ _ _
-    (next-part (args .by .symbol) (args .by .state) the-tree (args .levels) (args .q) (args .left) (args .i) (end-of .result) (if1 .left) (end-of .ensures))
-    (then-writes the-encode (args .out .now) (write-rule .last .1 .1 .1 .1 .1 .1 .1 .1 .0) (write-rule .result) (write-rule .ensures)
-    (omega (
-      arith,
-      pre .1 .1 .room,
-      ap length (next-part (args .by .symbol) (args .by .state) the-tree (args .levels) (args .q) (args .left) (args .i) the-end-at (if1 .left) refl),
-      length-append the-encode (parts-bytes (args .by .symbol) (args .by .state) the-tree (args .levels) (args .q) (args .left - 1) the-end-at),
-    ))
-    (parts-bytes (args .by .symbol) (args .by .state) the-tree (args .levels) (args .q) (args .left - 1) (end-of .result))
-    (write-rules .last .1 .1 .1 .1 .1 .1 .1 .1 .1 .0) (write-rules .result) (write-rules .ensures))
+    let u = parts-bytes (args .by .symbol) (args .by .state) the-tree (args .levels) (args .q) (args .left - 1) (end-of .result) in
+    let e = next-part (args .by .symbol) (args .by .state) the-tree (args .levels) (args .q) (args .left) (args .i) (end-of .result) (if1 .left) (end-of .ensures) in
+    let r = room-as _ _ _ e (pre .1 .1 .room) in
+    as-text _ _ _ _ _ e (behind-writes (write-rule .ensures) u r (write-rules .ensures))
 
 write-sum-end-of-requires : (t : ℕ) → write-sum-lts.Need-end-of-requires (write-sum-calls t) (write-sum-at t) write-sum.Post
 write-sum-end-of-requires t c κs = search needs
@@ -1814,114 +1699,61 @@ write-ties-returns t c =
 write-ties-put-tie-requires : (t : ℕ) → write-ties-lts.Need-put-tie-requires (write-ties-calls t) (write-ties-at t) write-ties.Post
 write-ties-put-tie-requires t c κs =
     let args = c .before .before .before .before .before .args in
-    let pre = c .before .before .before .before .before .pre in
     let the-tree = tree (args .f .now) (args .k) in
-    let the-encode = encode (derived-of (args .by .symbol) (args .by .state) the-tree (args .i)) in
-    let the-tie-bytes = tie-bytes the-tree (args .i) in (
-      pre .1 .1 .known .owned,
-      omega (
-        arith,
-        ap length (next-tie (args .by .symbol) (args .by .state) the-tree (args .i) (args .left) (c .before .if1 .left)),
-        length-append (the-tie-bytes ++ the-encode) (extremum-bytes (args .by .symbol) (args .by .state) the-tree (args .i + 1) (args .left - 1)),
-        length-append the-tie-bytes the-encode,
-        pre .1 .1 .room,
-      ),
-    )
+    let d = encode (derived-of (args .by .symbol) (args .by .state) the-tree (args .i)) in
+    let u = extremum-bytes (args .by .symbol) (args .by .state) the-tree (args .i + 1) (args .left - 1) in
+    let e = next-tie (args .by .symbol) (args .by .state) the-tree (args .i) (args .left) (c .before .if1 .left) in
+    let r = room-as _ _ _ e (c .before .before .before .before .before .pre .1 .1 .room) in
+    let q = front (tie-bytes the-tree (args .i) ++ d) u (args .out .now) r in
+    (c .before .before .before .before .before .pre .1 .1 .known .owned, front (tie-bytes the-tree (args .i)) d (args .out .now) q)
 
 write-ties-sub-write-diff : (t : ℕ) → write-ties-lts.Need-sub-write-diff (write-ties-calls t) (write-ties-at t) write-ties.Post
 write-ties-sub-write-diff t c =
     let args = c .before .before .before .before .before .before .before .before .args in
-    let pre = c .before .before .before .before .before .before .before .before .pre in
-    let if1 = c .before .before .before .before .if1 in
-    let put-tie = c .before .before .put-tie in
     let the-tree = tree (args .f .now) (args .k) in
-    let the-encode = encode (derived-of (args .by .symbol) (args .by .state) the-tree (args .i)) in
-    let the-tie-bytes = tie-bytes the-tree (args .i) in
-    let h =
-    free-start the-tie-bytes (args .out .now) (put-tie .last .1 .1 .1 .1 .0) (put-tie .result) (put-tie .ensures)
-    (omega (
-      arith,
-      ap length (next-tie (args .by .symbol) (args .by .state) the-tree (args .i) (args .left) (if1 .left)),
-      length-append (the-tie-bytes ++ the-encode) (extremum-bytes (args .by .symbol) (args .by .state) the-tree (args .i + 1) (args .left - 1)),
-      length-append the-tie-bytes the-encode,
-      pre .1 .1 .room,
-    )) in
+    let d = encode (derived-of (args .by .symbol) (args .by .state) the-tree (args .i)) in
+    let u = extremum-bytes (args .by .symbol) (args .by .state) the-tree (args .i + 1) (args .left - 1) in
+    let e = next-tie (args .by .symbol) (args .by .state) the-tree (args .i) (args .left) (c .before .before .before .before .if1 .left) in
+    let r = room-as _ _ _ e (c .before .before .before .before .before .before .before .before .pre .1 .1 .room) in
+    let q = front (tie-bytes the-tree (args .i) ++ d) u (args .out .now) r in
+    let h = behind-start (c .before .before .put-tie .ensures) d q in
     omega (arith, h)
 
 write-ties-part-write-diff-start : (t : ℕ) → write-ties-lts.Need-part-write-diff-start (write-ties-calls t) (write-ties-at t) write-ties.Post
 write-ties-part-write-diff-start t c =
     let args = c .before .before .before .before .before .before .before .before .args in
-    let pre = c .before .before .before .before .before .before .before .before .pre in
-    let if1 = c .before .before .before .before .if1 in
-    let put-tie = c .before .before .put-tie in
     let the-tree = tree (args .f .now) (args .k) in
-    let the-encode = encode (derived-of (args .by .symbol) (args .by .state) the-tree (args .i)) in
-    let the-tie-bytes = tie-bytes the-tree (args .i) in
-    let h =
-    free-start the-tie-bytes (args .out .now) (put-tie .last .1 .1 .1 .1 .0) (put-tie .result) (put-tie .ensures)
-    (omega (
-      arith,
-      ap length (next-tie (args .by .symbol) (args .by .state) the-tree (args .i) (args .left) (if1 .left)),
-      length-append (the-tie-bytes ++ the-encode) (extremum-bytes (args .by .symbol) (args .by .state) the-tree (args .i + 1) (args .left - 1)),
-      length-append the-tie-bytes the-encode,
-      pre .1 .1 .room,
-    )) in
+    let d = encode (derived-of (args .by .symbol) (args .by .state) the-tree (args .i)) in
+    let u = extremum-bytes (args .by .symbol) (args .by .state) the-tree (args .i + 1) (args .left - 1) in
+    let e = next-tie (args .by .symbol) (args .by .state) the-tree (args .i) (args .left) (c .before .before .before .before .if1 .left) in
+    let r = room-as _ _ _ e (c .before .before .before .before .before .before .before .before .pre .1 .1 .room) in
+    let q = front (tie-bytes the-tree (args .i) ++ d) u (args .out .now) r in
+    let h = behind-start (c .before .before .put-tie .ensures) d q in
     omega (arith, h)
 
 write-ties-part-write-diff-end : (t : ℕ) → write-ties-lts.Need-part-write-diff-end (write-ties-calls t) (write-ties-at t) write-ties.Post
 write-ties-part-write-diff-end t c =
     let args = c .before .before .before .before .before .before .before .before .args in
-    let pre = c .before .before .before .before .before .before .before .before .pre in
-    let if1 = c .before .before .before .before .if1 in
-    let put-tie = c .before .before .put-tie in
     let the-tree = tree (args .f .now) (args .k) in
-    let the-encode = encode (derived-of (args .by .symbol) (args .by .state) the-tree (args .i)) in
-    let the-tie-bytes = tie-bytes the-tree (args .i) in
-    let h =
-    free-start the-tie-bytes (args .out .now) (put-tie .last .1 .1 .1 .1 .0) (put-tie .result) (put-tie .ensures)
-    (omega (
-      arith,
-      ap length (next-tie (args .by .symbol) (args .by .state) the-tree (args .i) (args .left) (if1 .left)),
-      length-append (the-tie-bytes ++ the-encode) (extremum-bytes (args .by .symbol) (args .by .state) the-tree (args .i + 1) (args .left - 1)),
-      length-append the-tie-bytes the-encode,
-      pre .1 .1 .room,
-    )) in
+    let d = encode (derived-of (args .by .symbol) (args .by .state) the-tree (args .i)) in
+    let u = extremum-bytes (args .by .symbol) (args .by .state) the-tree (args .i + 1) (args .left - 1) in
+    let e = next-tie (args .by .symbol) (args .by .state) the-tree (args .i) (args .left) (c .before .before .before .before .if1 .left) in
+    let r = room-as _ _ _ e (c .before .before .before .before .before .before .before .before .pre .1 .1 .room) in
+    let q = front (tie-bytes the-tree (args .i) ++ d) u (args .out .now) r in
+    let h = behind-start (c .before .before .put-tie .ensures) d q in
     omega (arith, h)
 
 write-ties-write-diff-requires-2 : (t : ℕ) → write-ties-lts.Need-write-diff-requires-2 (write-ties-calls t) (write-ties-at t) write-ties.Post
 write-ties-write-diff-requires-2 t c κs =
     let args = c .before .before .before .before .before .before .before .before .before .args in
-    let pre = c .before .before .before .before .before .before .before .before .before .pre in
-    let if1 = c .before .before .before .before .before .if1 in
-    let put-tie = c .before .before .before .put-tie in
     let the-tree = tree (args .f .now) (args .k) in
-    let the-encode = encode (derived-of (args .by .symbol) (args .by .state) the-tree (args .i)) in
-    let the-tie-bytes = tie-bytes the-tree (args .i) in
-    let the-extremum-bytes = extremum-bytes (args .by .symbol) (args .by .state) the-tree (args .i + 1) (args .left - 1) in
-    let the-next-tie = next-tie (args .by .symbol) (args .by .state) the-tree (args .i) (args .left) (if1 .left) in (
-      omega (arith, pre .0),
-      record {
-        known = pre .1 .1 .known;
-        deep = pre .1 .1 .deep;
-        room =
-            free-room the-tie-bytes (args .out .now) (put-tie .last .1 .1 .1 .1 .0) (put-tie .result) (put-tie .ensures)
-            (omega (
-              arith,
-              ap length the-next-tie,
-              length-append (the-tie-bytes ++ the-encode) the-extremum-bytes,
-              length-append the-tie-bytes the-encode,
-              pre .1 .1 .room,
-            ))
-            the-encode
-            (omega (
-              arith,
-              ap length the-next-tie,
-              length-append (the-tie-bytes ++ the-encode) the-extremum-bytes,
-              length-append the-tie-bytes the-encode,
-              pre .1 .1 .room,
-            ));
-      },
-    )
+    let d = encode (derived-of (args .by .symbol) (args .by .state) the-tree (args .i)) in
+    let u = extremum-bytes (args .by .symbol) (args .by .state) the-tree (args .i + 1) (args .left - 1) in
+    let e = next-tie (args .by .symbol) (args .by .state) the-tree (args .i) (args .left) (c .before .before .before .before .before .if1 .left) in
+    let r = room-as _ _ _ e (c .before .before .before .before .before .before .before .before .before .pre .1 .1 .room) in
+    let q = front (tie-bytes the-tree (args .i) ++ d) u (args .out .now) r in
+    let pre = c .before .before .before .before .before .before .before .before .before .pre in
+    (omega (arith, pre .0), record { known = pre .1 .1 .known; deep = pre .1 .1 .deep; room = behind-room (c .before .before .before .put-tie .ensures) d q })
 
 write-ties-add-m : (t : ℕ) → write-ties-lts.Need-add-m (write-ties-calls t) (write-ties-at t) write-ties.Post
 write-ties-add-m t c =
@@ -1932,18 +1764,13 @@ write-ties-add-m t c =
     let put-tie = c .before .before .before .before .before .before .put-tie in
     let write-diff2 = c .before .before .write-diff2 in
     let the-tree = tree (args .f .now) (args .k) in
-    let the-encode = encode (derived-of (args .by .symbol) (args .by .state) the-tree (args .i)) in
-    let the-tie-bytes = tie-bytes the-tree (args .i) in
-    omega (
-      arith,
-      put-tie .ensures .count,
-      write-diff2 .ensures .count,
-      ap length (next-tie (args .by .symbol) (args .by .state) the-tree (args .i) (args .left) (if1 .left)),
-      length-append (the-tie-bytes ++ the-encode) (extremum-bytes (args .by .symbol) (args .by .state) the-tree (args .i + 1) (args .left - 1)),
-      length-append the-tie-bytes the-encode,
-      pre .1 .1 .room,
-      good .1 .1 .1 .1 .1 .1 .1 .0 .0,
-    )
+    let d = encode (derived-of (args .by .symbol) (args .by .state) the-tree (args .i)) in
+    let u = extremum-bytes (args .by .symbol) (args .by .state) the-tree (args .i + 1) (args .left - 1) in
+    let e = next-tie (args .by .symbol) (args .by .state) the-tree (args .i) (args .left) (if1 .left) in
+    let r = room-as _ _ _ e (pre .1 .1 .room) in
+    let q = front (tie-bytes the-tree (args .i) ++ d) u (args .out .now) r in
+    let w = behind-writes (put-tie .ensures) d q (write-diff2 .ensures) in
+    omega (arith, w .count, q, good .1 .1 .1 .1 .1 .1 .1 .0 .0)
 
 write-ties-add-write-ties : (t : ℕ) → write-ties-lts.Need-add-write-ties (write-ties-calls t) (write-ties-at t) write-ties.Post
 write-ties-add-write-ties t c = omega (arith, c .before .before .before .before .before .before .before .before .before .before .before .before .pre .1 .0)
@@ -1956,31 +1783,13 @@ write-ties-sub-write-ties t c =
     let put-tie = c .before .before .before .before .before .before .put-tie in
     let write-diff2 = c .before .before .write-diff2 in
     let the-tree = tree (args .f .now) (args .k) in
-    let the-encode = encode (derived-of (args .by .symbol) (args .by .state) the-tree (args .i)) in
-    let the-tie-bytes = tie-bytes the-tree (args .i) in
-    let the-extremum-bytes = extremum-bytes (args .by .symbol) (args .by .state) the-tree (args .i + 1) (args .left - 1) in
-    let the-next-tie = next-tie (args .by .symbol) (args .by .state) the-tree (args .i) (args .left) (if1 .left) in
-    let the-put-tie = put-tie .last .1 .1 .1 .1 .0 in
-    let the-write-diff2 = write-diff2 .last .1 .1 .1 .1 .1 .1 .0 in
-    let h =
-    free-start (the-tie-bytes ++ the-encode) (args .out .now)
-    (putMid (put-tie .result) (length the-put-tie - put-tie .result) the-put-tie the-write-diff2) (put-tie .result + write-diff2 .result)
-    (then-writes the-tie-bytes (args .out .now) the-put-tie (put-tie .result) (put-tie .ensures)
-    (omega (
-      arith,
-      ap length the-next-tie,
-      length-append (the-tie-bytes ++ the-encode) the-extremum-bytes,
-      length-append the-tie-bytes the-encode,
-      pre .1 .1 .room,
-    ))
-    the-encode the-write-diff2 (write-diff2 .result) (write-diff2 .ensures))
-    (omega (
-      arith,
-      ap length the-next-tie,
-      length-append (the-tie-bytes ++ the-encode) the-extremum-bytes,
-      length-append the-tie-bytes the-encode,
-      pre .1 .1 .room,
-    )) in
+    let d = encode (derived-of (args .by .symbol) (args .by .state) the-tree (args .i)) in
+    let u = extremum-bytes (args .by .symbol) (args .by .state) the-tree (args .i + 1) (args .left - 1) in
+    let e = next-tie (args .by .symbol) (args .by .state) the-tree (args .i) (args .left) (if1 .left) in
+    let r = room-as _ _ _ e (pre .1 .1 .room) in
+    let q = front (tie-bytes the-tree (args .i) ++ d) u (args .out .now) r in
+    let w = behind-writes (put-tie .ensures) d q (write-diff2 .ensures) in
+    let h = behind-start w u r in
     omega (arith, h, if1 .left)
 
 write-ties-sub-write-ties-2 : (t : ℕ) → write-ties-lts.Need-sub-write-ties-2 (write-ties-calls t) (write-ties-at t) write-ties.Post
@@ -1991,31 +1800,13 @@ write-ties-sub-write-ties-2 t c =
     let put-tie = c .before .before .before .before .before .before .put-tie in
     let write-diff2 = c .before .before .write-diff2 in
     let the-tree = tree (args .f .now) (args .k) in
-    let the-encode = encode (derived-of (args .by .symbol) (args .by .state) the-tree (args .i)) in
-    let the-tie-bytes = tie-bytes the-tree (args .i) in
-    let the-extremum-bytes = extremum-bytes (args .by .symbol) (args .by .state) the-tree (args .i + 1) (args .left - 1) in
-    let the-next-tie = next-tie (args .by .symbol) (args .by .state) the-tree (args .i) (args .left) (if1 .left) in
-    let the-put-tie = put-tie .last .1 .1 .1 .1 .0 in
-    let the-write-diff2 = write-diff2 .last .1 .1 .1 .1 .1 .1 .0 in
-    let h =
-    free-start (the-tie-bytes ++ the-encode) (args .out .now)
-    (putMid (put-tie .result) (length the-put-tie - put-tie .result) the-put-tie the-write-diff2) (put-tie .result + write-diff2 .result)
-    (then-writes the-tie-bytes (args .out .now) the-put-tie (put-tie .result) (put-tie .ensures)
-    (omega (
-      arith,
-      ap length the-next-tie,
-      length-append (the-tie-bytes ++ the-encode) the-extremum-bytes,
-      length-append the-tie-bytes the-encode,
-      pre .1 .1 .room,
-    ))
-    the-encode the-write-diff2 (write-diff2 .result) (write-diff2 .ensures))
-    (omega (
-      arith,
-      ap length the-next-tie,
-      length-append (the-tie-bytes ++ the-encode) the-extremum-bytes,
-      length-append the-tie-bytes the-encode,
-      pre .1 .1 .room,
-    )) in
+    let d = encode (derived-of (args .by .symbol) (args .by .state) the-tree (args .i)) in
+    let u = extremum-bytes (args .by .symbol) (args .by .state) the-tree (args .i + 1) (args .left - 1) in
+    let e = next-tie (args .by .symbol) (args .by .state) the-tree (args .i) (args .left) (if1 .left) in
+    let r = room-as _ _ _ e (pre .1 .1 .room) in
+    let q = front (tie-bytes the-tree (args .i) ++ d) u (args .out .now) r in
+    let w = behind-writes (put-tie .ensures) d q (write-diff2 .ensures) in
+    let h = behind-start w u r in
     omega (arith, h, if1 .left)
 
 write-ties-part-write-ties-start : (t : ℕ) → write-ties-lts.Need-part-write-ties-start (write-ties-calls t) (write-ties-at t) write-ties.Post
@@ -2026,31 +1817,13 @@ write-ties-part-write-ties-start t c =
     let put-tie = c .before .before .before .before .before .before .put-tie in
     let write-diff2 = c .before .before .write-diff2 in
     let the-tree = tree (args .f .now) (args .k) in
-    let the-encode = encode (derived-of (args .by .symbol) (args .by .state) the-tree (args .i)) in
-    let the-tie-bytes = tie-bytes the-tree (args .i) in
-    let the-extremum-bytes = extremum-bytes (args .by .symbol) (args .by .state) the-tree (args .i + 1) (args .left - 1) in
-    let the-next-tie = next-tie (args .by .symbol) (args .by .state) the-tree (args .i) (args .left) (if1 .left) in
-    let the-put-tie = put-tie .last .1 .1 .1 .1 .0 in
-    let the-write-diff2 = write-diff2 .last .1 .1 .1 .1 .1 .1 .0 in
-    let h =
-    free-start (the-tie-bytes ++ the-encode) (args .out .now)
-    (putMid (put-tie .result) (length the-put-tie - put-tie .result) the-put-tie the-write-diff2) (put-tie .result + write-diff2 .result)
-    (then-writes the-tie-bytes (args .out .now) the-put-tie (put-tie .result) (put-tie .ensures)
-    (omega (
-      arith,
-      ap length the-next-tie,
-      length-append (the-tie-bytes ++ the-encode) the-extremum-bytes,
-      length-append the-tie-bytes the-encode,
-      pre .1 .1 .room,
-    ))
-    the-encode the-write-diff2 (write-diff2 .result) (write-diff2 .ensures))
-    (omega (
-      arith,
-      ap length the-next-tie,
-      length-append (the-tie-bytes ++ the-encode) the-extremum-bytes,
-      length-append the-tie-bytes the-encode,
-      pre .1 .1 .room,
-    )) in
+    let d = encode (derived-of (args .by .symbol) (args .by .state) the-tree (args .i)) in
+    let u = extremum-bytes (args .by .symbol) (args .by .state) the-tree (args .i + 1) (args .left - 1) in
+    let e = next-tie (args .by .symbol) (args .by .state) the-tree (args .i) (args .left) (if1 .left) in
+    let r = room-as _ _ _ e (pre .1 .1 .room) in
+    let q = front (tie-bytes the-tree (args .i) ++ d) u (args .out .now) r in
+    let w = behind-writes (put-tie .ensures) d q (write-diff2 .ensures) in
+    let h = behind-start w u r in
     omega (arith, h, if1 .left)
 
 write-ties-part-write-ties-end : (t : ℕ) → write-ties-lts.Need-part-write-ties-end (write-ties-calls t) (write-ties-at t) write-ties.Post
@@ -2061,31 +1834,13 @@ write-ties-part-write-ties-end t c =
     let put-tie = c .before .before .before .before .before .before .put-tie in
     let write-diff2 = c .before .before .write-diff2 in
     let the-tree = tree (args .f .now) (args .k) in
-    let the-encode = encode (derived-of (args .by .symbol) (args .by .state) the-tree (args .i)) in
-    let the-tie-bytes = tie-bytes the-tree (args .i) in
-    let the-extremum-bytes = extremum-bytes (args .by .symbol) (args .by .state) the-tree (args .i + 1) (args .left - 1) in
-    let the-next-tie = next-tie (args .by .symbol) (args .by .state) the-tree (args .i) (args .left) (if1 .left) in
-    let the-put-tie = put-tie .last .1 .1 .1 .1 .0 in
-    let the-write-diff2 = write-diff2 .last .1 .1 .1 .1 .1 .1 .0 in
-    let h =
-    free-start (the-tie-bytes ++ the-encode) (args .out .now)
-    (putMid (put-tie .result) (length the-put-tie - put-tie .result) the-put-tie the-write-diff2) (put-tie .result + write-diff2 .result)
-    (then-writes the-tie-bytes (args .out .now) the-put-tie (put-tie .result) (put-tie .ensures)
-    (omega (
-      arith,
-      ap length the-next-tie,
-      length-append (the-tie-bytes ++ the-encode) the-extremum-bytes,
-      length-append the-tie-bytes the-encode,
-      pre .1 .1 .room,
-    ))
-    the-encode the-write-diff2 (write-diff2 .result) (write-diff2 .ensures))
-    (omega (
-      arith,
-      ap length the-next-tie,
-      length-append (the-tie-bytes ++ the-encode) the-extremum-bytes,
-      length-append the-tie-bytes the-encode,
-      pre .1 .1 .room,
-    )) in
+    let d = encode (derived-of (args .by .symbol) (args .by .state) the-tree (args .i)) in
+    let u = extremum-bytes (args .by .symbol) (args .by .state) the-tree (args .i + 1) (args .left - 1) in
+    let e = next-tie (args .by .symbol) (args .by .state) the-tree (args .i) (args .left) (if1 .left) in
+    let r = room-as _ _ _ e (pre .1 .1 .room) in
+    let q = front (tie-bytes the-tree (args .i) ++ d) u (args .out .now) r in
+    let w = behind-writes (put-tie .ensures) d q (write-diff2 .ensures) in
+    let h = behind-start w u r in
     omega (arith, h, if1 .left)
 
 write-ties-write-ties-requires : (t : ℕ) → write-ties-lts.Need-write-ties-requires (write-ties-calls t) (write-ties-at t) write-ties.Post
@@ -2096,47 +1851,14 @@ write-ties-write-ties-requires t c κs =
     let put-tie = c .before .before .before .before .before .before .before .put-tie in
     let write-diff2 = c .before .before .before .write-diff2 in
     let the-tree = tree (args .f .now) (args .k) in
-    let the-encode = encode (derived-of (args .by .symbol) (args .by .state) the-tree (args .i)) in
-    let the-extremum-bytes = extremum-bytes (args .by .symbol) (args .by .state) the-tree (args .i + 1) (args .left - 1) in
-    let the-tie-bytes = tie-bytes the-tree (args .i) in
-    let the-next-tie = next-tie (args .by .symbol) (args .by .state) the-tree (args .i) (args .left) (if1 .left) in
-    let the-put-tie = put-tie .last .1 .1 .1 .1 .0 in
-    let the-write-diff2 = write-diff2 .last .1 .1 .1 .1 .1 .1 .0 in (
+    let d = encode (derived-of (args .by .symbol) (args .by .state) the-tree (args .i)) in
+    let u = extremum-bytes (args .by .symbol) (args .by .state) the-tree (args .i + 1) (args .left - 1) in
+    let e = next-tie (args .by .symbol) (args .by .state) the-tree (args .i) (args .left) (if1 .left) in
+    let r = room-as _ _ _ e (pre .1 .1 .room) in
+    let q = front (tie-bytes the-tree (args .i) ++ d) u (args .out .now) r in
+    let w = behind-writes (put-tie .ensures) d q (write-diff2 .ensures) in (
       omega (arith, pre .0, if1 .left),
-      (
-        omega (arith, pre .1 .0, if1 .left),
-        record {
-          known = pre .1 .1 .known;
-          deep = pre .1 .1 .deep;
-          room =
-              free-room (the-tie-bytes ++ the-encode) (args .out .now) (putMid (put-tie .result) (length the-put-tie - put-tie .result) the-put-tie the-write-diff2)
-              (put-tie .result + write-diff2 .result)
-              (then-writes the-tie-bytes (args .out .now) the-put-tie (put-tie .result) (put-tie .ensures)
-              (omega (
-                arith,
-                ap length the-next-tie,
-                length-append (the-tie-bytes ++ the-encode) the-extremum-bytes,
-                length-append the-tie-bytes the-encode,
-                pre .1 .1 .room,
-              ))
-              the-encode the-write-diff2 (write-diff2 .result) (write-diff2 .ensures))
-              (omega (
-                arith,
-                ap length the-next-tie,
-                length-append (the-tie-bytes ++ the-encode) the-extremum-bytes,
-                length-append the-tie-bytes the-encode,
-                pre .1 .1 .room,
-              ))
-              the-extremum-bytes
-              (omega (
-                arith,
-                ap length the-next-tie,
-                length-append (the-tie-bytes ++ the-encode) the-extremum-bytes,
-                length-append the-tie-bytes the-encode,
-                pre .1 .1 .room,
-              ));
-        },
-      ),
+      (omega (arith, pre .1 .0, if1 .left), record { known = pre .1 .1 .known; deep = pre .1 .1 .deep; room = behind-room w u r }),
     )
 
 write-ties-add-result : (t : ℕ) → write-ties-lts.Need-add-result (write-ties-calls t) (write-ties-at t) write-ties.Post
@@ -2149,23 +1871,14 @@ write-ties-add-result t c =
     let write-diff2 = c .before .before .before .before .before .before .write-diff2 in
     let write-ties = c .before .before .write-ties in
     let the-tree = tree (args .f .now) (args .k) in
-    let the-encode = encode (derived-of (args .by .symbol) (args .by .state) the-tree (args .i)) in
-    let the-extremum-bytes = extremum-bytes (args .by .symbol) (args .by .state) the-tree (args .i + 1) (args .left - 1) in
-    let the-tie-bytes = tie-bytes the-tree (args .i) in
-    let x : put-tie .result ≡ length the-tie-bytes = put-tie .ensures .count in
-    let y : write-diff2 .result ≡ length the-encode = write-diff2 .ensures .count in
-    let z : write-ties .result ≡ length the-extremum-bytes = write-ties .ensures .count in
-    omega (
-      arith,
-      x,
-      y,
-      z,
-      ap length (next-tie (args .by .symbol) (args .by .state) the-tree (args .i) (args .left) (if1 .left)),
-      length-append (the-tie-bytes ++ the-encode) the-extremum-bytes,
-      length-append the-tie-bytes the-encode,
-      pre .1 .1 .room,
-      good .1 .1 .1 .1 .1 .1 .1 .0 .0,
-    )
+    let d = encode (derived-of (args .by .symbol) (args .by .state) the-tree (args .i)) in
+    let u = extremum-bytes (args .by .symbol) (args .by .state) the-tree (args .i + 1) (args .left - 1) in
+    let e = next-tie (args .by .symbol) (args .by .state) the-tree (args .i) (args .left) (if1 .left) in
+    let r = room-as _ _ _ e (pre .1 .1 .room) in
+    let q = front (tie-bytes the-tree (args .i) ++ d) u (args .out .now) r in
+    let w = behind-writes (put-tie .ensures) d q (write-diff2 .ensures) in
+    let v = behind-writes w u r (write-ties .ensures) in
+    omega (arith, v .count, r, good .1 .1 .1 .1 .1 .1 .1 .0 .0)
 
 write-ties-same-length-2 : (t : ℕ) → write-ties-lts.Need-same-length-2 (write-ties-calls t) (write-ties-at t) write-ties.Post
 write-ties-same-length-2 t c =
@@ -2190,32 +1903,13 @@ write-ties-returns-2 t c =
     let write-diff2 = c .before .before .before .before .before .before .write-diff2 in
     let write-ties = c .before .before .write-ties in
     let the-tree = tree (args .f .now) (args .k) in
-    let the-encode = encode (derived-of (args .by .symbol) (args .by .state) the-tree (args .i)) in
-    let the-extremum-bytes = extremum-bytes (args .by .symbol) (args .by .state) the-tree (args .i + 1) (args .left - 1) in
-    let the-next-tie = next-tie (args .by .symbol) (args .by .state) the-tree (args .i) (args .left) (if1 .left) in
-    let the-tie-bytes = tie-bytes the-tree (args .i) in
-    let the-put-tie = put-tie .last .1 .1 .1 .1 .0 in
-    let the-write-diff2 = write-diff2 .last .1 .1 .1 .1 .1 .1 .0 in
-    as-text _ _ _ _ _ the-next-tie
-    (then-writes (the-tie-bytes ++ the-encode) (args .out .now)
-    (putMid (put-tie .result) (length the-put-tie - put-tie .result) the-put-tie the-write-diff2) (put-tie .result + write-diff2 .result)
-    (then-writes the-tie-bytes (args .out .now) the-put-tie (put-tie .result) (put-tie .ensures)
-    (omega (
-      arith,
-      ap length the-next-tie,
-      length-append (the-tie-bytes ++ the-encode) the-extremum-bytes,
-      length-append the-tie-bytes the-encode,
-      pre .1 .1 .room,
-    ))
-    the-encode the-write-diff2 (write-diff2 .result) (write-diff2 .ensures))
-    (omega (
-      arith,
-      ap length the-next-tie,
-      length-append (the-tie-bytes ++ the-encode) the-extremum-bytes,
-      length-append the-tie-bytes the-encode,
-      pre .1 .1 .room,
-    ))
-    the-extremum-bytes (write-ties .last .1 .1 .1 .1 .1 .1 .1 .0) (write-ties .result) (write-ties .ensures))
+    let d = encode (derived-of (args .by .symbol) (args .by .state) the-tree (args .i)) in
+    let u = extremum-bytes (args .by .symbol) (args .by .state) the-tree (args .i + 1) (args .left - 1) in
+    let e = next-tie (args .by .symbol) (args .by .state) the-tree (args .i) (args .left) (if1 .left) in
+    let r = room-as _ _ _ e (pre .1 .1 .room) in
+    let q = front (tie-bytes the-tree (args .i) ++ d) u (args .out .now) r in
+    let w = behind-writes (put-tie .ensures) d q (write-diff2 .ensures) in
+    as-text _ _ _ _ _ e (behind-writes w u r (write-ties .ensures))
 
 pub +differentiate+write-diff+write-extremum+write-node+write-product+write-rule+write-rules+write-sum+write-ties-spec :
     {M : Type 1} → statement M
@@ -2230,17 +1924,7 @@ pub +differentiate+write-diff+write-extremum+write-node+write-product+write-rule
     μ-write-rules
     μ-write-sum
     μ-write-ties
-    (λ t. differentiate-lts.spec (
-      rule-of-reads.Asked,
-      rule-of-reads.Learnt,
-      code-reads.Asked,
-      code-reads.Learnt,
-      put-literal-reads.Asked,
-      put-literal-reads.Learnt,
-      write-rule-below t,
-      write-rule.Post,
-    )
-    (differentiate-at t)
+    (λ t. differentiate-lts.spec (differentiate-calls t) (differentiate-at t)
     differentiate.Post
     (differentiate-mul-if1 t)
     (differentiate-add-if1 t)
@@ -2257,17 +1941,7 @@ pub +differentiate+write-diff+write-extremum+write-node+write-product+write-rule
     (differentiate-put-literal-requires-2 t)
     (differentiate-same-length-3 t)
     (differentiate-returns-3 t))
-    (λ t. write-diff-lts.spec (
-      half-reads.Asked,
-      half-reads.Learnt,
-      child-reads.Asked,
-      child-reads.Learnt,
-      differentiate-below t,
-      differentiate.Post,
-      put-literal-reads.Asked,
-      put-literal-reads.Learnt,
-    )
-    (write-diff-at t)
+    (λ t. write-diff-lts.spec (write-diff-calls t) (write-diff-at t)
     write-diff.Post
     (write-diff-mul-half t)
     (write-diff-add-half t)
@@ -2280,15 +1954,7 @@ pub +differentiate+write-diff+write-extremum+write-node+write-product+write-rule
     (write-diff-put-literal-requires t)
     (write-diff-same-length-2 t)
     (write-diff-returns-2 t))
-    (λ t. write-extremum-lts.spec (
-      half-reads.Asked,
-      half-reads.Learnt,
-      put-literal-reads.Asked,
-      put-literal-reads.Learnt,
-      write-ties-below t,
-      write-ties.Post,
-    )
-    (write-extremum-at t)
+    (λ t. write-extremum-lts.spec (write-extremum-calls t) (write-extremum-at t)
     write-extremum.Post
     (write-extremum-mul-half t)
     (write-extremum-add-half t)
@@ -2300,13 +1966,7 @@ pub +differentiate+write-diff+write-extremum+write-node+write-product+write-rule
     (write-extremum-write-ties-requires t)
     (write-extremum-same-length-2 t)
     (write-extremum-returns-2 t))
-    (λ t. write-node-lts.spec (
-      put-node-reads.Asked,
-      put-node-reads.Learnt,
-      write-rules-below t,
-      write-rules.Post,
-    )
-    (write-node-at t)
+    (λ t. write-node-lts.spec (write-node-calls t) (write-node-at t)
     write-node.Post
     (write-node-put-node-requires t)
     (write-node-sub-write-rules t)
@@ -2316,23 +1976,7 @@ pub +differentiate+write-diff+write-extremum+write-node+write-product+write-rule
     (write-node-add-result t)
     (write-node-same-length t)
     (write-node-returns t))
-    (λ t. write-product-lts.spec (
-      end-of-reads.Asked,
-      end-of-reads.Learnt,
-      rule-attributes-reads.Asked,
-      rule-attributes-reads.Learnt,
-      is-zero-reads.Asked,
-      is-zero-reads.Learnt,
-      put-literal-reads.Asked,
-      put-literal-reads.Learnt,
-      is-one-reads.Asked,
-      is-one-reads.Learnt,
-      write-rule-below t,
-      write-rule.Post,
-      write-node-below t,
-      write-node.Post,
-    )
-    (write-product-at t)
+    (λ t. write-product-lts.spec (write-product-calls t) (write-product-at t)
     write-product.Post
     (write-product-end-of-requires t)
     (write-product-rule-attributes-requires t)
@@ -2356,39 +2000,7 @@ pub +differentiate+write-diff+write-extremum+write-node+write-product+write-rule
     (write-product-write-node-requires t)
     (write-product-same-length-5 t)
     (write-product-returns-5 t))
-    (λ t. write-rule-lts.spec (
-      put-literal-reads.Asked,
-      put-literal-reads.Learnt,
-      code-reads.Asked,
-      code-reads.Learnt,
-      wide-reads.Asked,
-      wide-reads.Learnt,
-      literal-bits-reads.Asked,
-      literal-bits-reads.Learnt,
-      put-child-reads.Asked,
-      put-child-reads.Learnt,
-      write-diff-below t,
-      write-diff.Post,
-      put-tree-reads.Asked,
-      put-tree-reads.Learnt,
-      diff-attributes-reads.Asked,
-      diff-attributes-reads.Learnt,
-      is-zero-reads.Asked,
-      is-zero-reads.Learnt,
-      write-rule-below t,
-      write-rule.Post,
-      write-sum-below t,
-      write-sum.Post,
-      write-product-below t,
-      write-product.Post,
-      write-extremum-below t,
-      write-extremum.Post,
-      parts-of-reads.Asked,
-      parts-of-reads.Learnt,
-      write-node-below t,
-      write-node.Post,
-    )
-    (write-rule-at t)
+    (λ t. write-rule-lts.spec (write-rule-calls t) (write-rule-at t)
     write-rule.Post
     (write-rule-put-literal-requires t)
     (write-rule-same-length t)
@@ -2440,15 +2052,7 @@ pub +differentiate+write-diff+write-extremum+write-node+write-product+write-rule
     (write-rule-returns-11 t)
     (write-rule-same-length-12 t)
     (write-rule-returns-12 t))
-    (λ t. write-rules-lts.spec (
-      write-rule-below t,
-      write-rule.Post,
-      end-of-reads.Asked,
-      end-of-reads.Learnt,
-      write-rules-below t,
-      write-rules.Post,
-    )
-    (write-rules-at t)
+    (λ t. write-rules-lts.spec (write-rules-calls t) (write-rules-at t)
     write-rules.Post
     (write-rules-returns t)
     (write-rules-write-rule-requires t)
@@ -2461,19 +2065,7 @@ pub +differentiate+write-diff+write-extremum+write-node+write-product+write-rule
     (write-rules-add-result t)
     (write-rules-same-length t)
     (write-rules-returns-2 t))
-    (λ t. write-sum-lts.spec (
-      end-of-reads.Asked,
-      end-of-reads.Learnt,
-      rule-attributes-reads.Asked,
-      rule-attributes-reads.Learnt,
-      is-zero-reads.Asked,
-      is-zero-reads.Learnt,
-      write-rule-below t,
-      write-rule.Post,
-      write-node-below t,
-      write-node.Post,
-    )
-    (write-sum-at t)
+    (λ t. write-sum-lts.spec (write-sum-calls t) (write-sum-at t)
     write-sum.Post
     (write-sum-end-of-requires t)
     (write-sum-rule-attributes-requires t)
@@ -2489,15 +2081,7 @@ pub +differentiate+write-diff+write-extremum+write-node+write-product+write-rule
     (write-sum-write-node-requires t)
     (write-sum-same-length-3 t)
     (write-sum-returns-3 t))
-    λ t. write-ties-lts.spec (
-      write-diff-below t,
-      write-diff.Post,
-      put-tie-reads.Asked,
-      put-tie-reads.Learnt,
-      write-ties-below t,
-      write-ties.Post,
-    )
-    (write-ties-at t)
+    λ t. write-ties-lts.spec (write-ties-calls t) (write-ties-at t)
     write-ties.Post
     (write-ties-write-diff-requires t)
     (write-ties-same-length t)

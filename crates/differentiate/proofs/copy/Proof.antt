@@ -45,7 +45,10 @@ same-length : tie.Need-same-length Inv-loop μ-loop
 same-length c = c .before .loop .inv .1
 
 returns : tie.Need-returns Inv-loop μ-loop
-returns c = copied-all (c .before .before .args .b .now) (c .before .before .args .out .now) (c .before .loop .out) (c .before .loop .i) (omega arith) (c .before .loop .inv .2)
+returns c =
+    let args = c .before .before .args in
+    let loop = c .before .loop in
+    copied-all (args .b .now) (args .out .now) (loop .out) (loop .i) (omega arith) (loop .inv .2)
 
 pub copy-spec : {M : Type 1} → statement M
 copy-spec =

@@ -1,86 +1,52 @@
-use Prim.Native.Nat.{_+_, _-_, _*_}
+use mathlib.Core.List.{List, _++_}
+use Prim.Native.Nat.{ℕ, _≤_}
 use native.Mathlib.Omega.{arith}
-use mathlib.Core.List.{_++_}
-use lib.ListN.{length, length-append}
-use borrow.Rule.Slice.PartMut.{putMid}
+use lib.ListN.{length}
+use borrow.Author.Needs.{needs}
+use Rattle.formula.specs.Formula.{Formula}
 use Rattle.formula.specs.Node.{encode, node-bytes, inner-fields}
 use Rattle.survey.specs.Table.{tree}
-use Rattle.differentiate.specs.Written.{literal-bytes}
-use Rattle.differentiate.proofs.Lists.{free-start, free-room, then-writes}
+use Rattle.differentiate.specs.Written.{literal-bytes, primal-bytes}
+use Rattle.differentiate.proofs.Lists.{front, behind-start, behind-room, behind-writes}
 use Rattle.differentiate.proofs.Leaves.{node-length, literal-length}
-use borrow.Author.Needs.{needs}
 use Rattle.differentiate.proofs.put_primal.Statement.{statement}
 use Rattle.differentiate.proofs.put_primal.Tie as tie
-use Rattle.differentiate.proofs.put_primal.Reads as reads
-use Rattle.differentiate.proofs.put_primal.Lts as lts
-use Rattle.differentiate.proofs.put_literal.Reads as put-literal-reads
-use Rattle.differentiate.proofs.put_node.Reads as put-node-reads
-use Rattle.differentiate.proofs.put_tree.Reads as put-tree-reads
+
+-- the Add and the Multiply
+abbrev a : List ℕ
+a = node-bytes (inner-fields 4 0 2)
+
+abbrev b : List ℕ
+b = node-bytes (inner-fields 4 2 2)
+
+module _ (t : Formula) (out : List ℕ) (h : length (primal-bytes t) ≤ length out) where
+  three : length ((a ++ b) ++ literal-bytes 0) ≤ length out
+  three = front ((a ++ b) ++ literal-bytes 0) (encode t) out h
+
+  two : length (a ++ b) ≤ length out
+  two = front (a ++ b) (literal-bytes 0) out three
 
 put-node-requires : tie.Need-put-node-requires
 put-node-requires c κs =
     let args = c .before .before .before .before .args in
-    let pre = c .before .before .before .before .pre in
-    let the-node-bytes = node-bytes (inner-fields 4 2 2) in
-    let the-node-bytes2 = node-bytes (inner-fields 4 0 2) in
-    let the-text = the-node-bytes2 ++ the-node-bytes in (
-      omega arith,
-      omega arith,
-      omega arith,
-      omega (
-        arith,
-        pre .1,
-        length-append (the-text ++ (literal-bytes 0)) (encode (tree (args .f .now) 0)),
-        length-append the-text (literal-bytes 0),
-        length-append the-node-bytes2 the-node-bytes,
-        node-length (inner-fields 4 0 2),
-        node-length (inner-fields 4 2 2),
-        literal-length 0,
-      ),
-    )
+    let t = tree (args .f .now) 0 in
+    let r = front a b (args .out .now) (two t (args .out .now) (c .before .before .before .before .pre .1)) in
+    (omega arith, omega arith, omega arith, omega (arith, r, node-length (inner-fields 4 0 2)))
 
 sub-put-node : tie.Need-sub-put-node
 sub-put-node c =
     let args = c .before .before .before .before .before .before .before .args in
-    let pre = c .before .before .before .before .before .before .before .pre in
-    let put-node = c .before .before .put-node in
-    let the-node-bytes = node-bytes (inner-fields 4 0 2) in
-    let the-node-bytes2 = node-bytes (inner-fields 4 2 2) in
-    let the-text = the-node-bytes ++ the-node-bytes2 in
-    let h =
-    free-start the-node-bytes (args .out .now) (put-node .last .1 .1 .1 .0) (put-node .result) (put-node .ensures)
-    (omega (
-      arith,
-      pre .1,
-      length-append (the-text ++ (literal-bytes 0)) (encode (tree (args .f .now) 0)),
-      length-append the-text (literal-bytes 0),
-      length-append the-node-bytes the-node-bytes2,
-      node-length (inner-fields 4 0 2),
-      node-length (inner-fields 4 2 2),
-      literal-length 0,
-    )) in
+    let t = tree (args .f .now) 0 in
+    let r = two t (args .out .now) (c .before .before .before .before .before .before .before .pre .1) in
+    let h = behind-start (c .before .before .put-node .ensures) b r in
     omega (arith, h)
 
 part-put-node-start : tie.Need-part-put-node-start
 part-put-node-start c =
     let args = c .before .before .before .before .before .before .before .args in
-    let pre = c .before .before .before .before .before .before .before .pre in
-    let put-node = c .before .before .put-node in
-    let the-node-bytes = node-bytes (inner-fields 4 0 2) in
-    let the-node-bytes2 = node-bytes (inner-fields 4 2 2) in
-    let the-text = the-node-bytes ++ the-node-bytes2 in
-    let h =
-    free-start the-node-bytes (args .out .now) (put-node .last .1 .1 .1 .0) (put-node .result) (put-node .ensures)
-    (omega (
-      arith,
-      pre .1,
-      length-append (the-text ++ (literal-bytes 0)) (encode (tree (args .f .now) 0)),
-      length-append the-text (literal-bytes 0),
-      length-append the-node-bytes the-node-bytes2,
-      node-length (inner-fields 4 0 2),
-      node-length (inner-fields 4 2 2),
-      literal-length 0,
-    )) in
+    let t = tree (args .f .now) 0 in
+    let r = two t (args .out .now) (c .before .before .before .before .before .before .before .pre .1) in
+    let h = behind-start (c .before .before .put-node .ensures) b r in
     omega (arith, h)
 
 part-put-node-end : tie.Need-part-put-node-end
@@ -89,136 +55,37 @@ part-put-node-end c = search needs
 put-node-requires-2 : tie.Need-put-node-requires-2
 put-node-requires-2 c κs =
     let args = c .before .before .before .before .before .before .before .before .args in
-    let pre = c .before .before .before .before .before .before .before .before .pre in
-    let put-node = c .before .before .before .put-node in
-    let the-node-bytes = node-bytes (inner-fields 4 2 2) in
-    let the-node-bytes2 = node-bytes (inner-fields 4 0 2) in
-    let the-text = the-node-bytes2 ++ the-node-bytes in
-    let the-encode = encode (tree (args .f .now) 0) in
-    let the-text2 = the-text ++ (literal-bytes 0) in
-    let h =
-    free-room the-node-bytes2 (args .out .now) (put-node .last .1 .1 .1 .0) (put-node .result) (put-node .ensures)
-    (omega (
-      arith,
-      pre .1,
-      length-append the-text2 the-encode,
-      length-append the-text (literal-bytes 0),
-      length-append the-node-bytes2 the-node-bytes,
-      node-length (inner-fields 4 0 2),
-      node-length (inner-fields 4 2 2),
-      literal-length 0,
-    ))
-    the-node-bytes
-    (omega (
-      arith,
-      pre .1,
-      length-append the-text2 the-encode,
-      length-append the-text (literal-bytes 0),
-      length-append the-node-bytes2 the-node-bytes,
-      node-length (inner-fields 4 0 2),
-      node-length (inner-fields 4 2 2),
-      literal-length 0,
-    )) in
+    let t = tree (args .f .now) 0 in
+    let r = two t (args .out .now) (c .before .before .before .before .before .before .before .before .pre .1) in
+    let h = behind-room (c .before .before .before .put-node .ensures) b r in
     (omega arith, omega arith, omega arith, omega (arith, h, node-length (inner-fields 4 2 2)))
 
 add-b : tie.Need-add-b
 add-b c =
     let args = c .before .before .before .before .before .before .before .before .before .before .before .args in
-    let pre = c .before .before .before .before .before .before .before .before .before .before .before .pre in
-    let put-node = c .before .before .before .before .before .before .put-node in
-    let put-node2 = c .before .before .put-node2 in
-    let the-node-bytes = node-bytes (inner-fields 4 2 2) in
-    let the-node-bytes2 = node-bytes (inner-fields 4 0 2) in
-    let the-text = the-node-bytes2 ++ the-node-bytes in
-    omega (
-      arith,
-      put-node .ensures .count,
-      put-node2 .ensures .count,
-      pre .1,
-      length-append (the-text ++ (literal-bytes 0)) (encode (tree (args .f .now) 0)),
-      length-append the-text (literal-bytes 0),
-      length-append the-node-bytes2 the-node-bytes,
-      node-length (inner-fields 4 0 2),
-      node-length (inner-fields 4 2 2),
-      literal-length 0,
-    )
+    let t = tree (args .f .now) 0 in
+    let r = two t (args .out .now) (c .before .before .before .before .before .before .before .before .before .before .before .pre .1) in
+    let w = behind-writes (c .before .before .before .before .before .before .put-node .ensures) b r (c .before .before .put-node2 .ensures) in
+    omega (arith, w .count, r, c .before .before .before .before .before .before .before .before .before .before .before .good .1 .1 .0 .0)
 
 sub-put-literal : tie.Need-sub-put-literal
 sub-put-literal c =
     let args = c .before .before .before .before .before .before .before .before .before .before .before .args in
-    let pre = c .before .before .before .before .before .before .before .before .before .before .before .pre in
-    let put-node = c .before .before .before .before .before .before .put-node in
-    let put-node2 = c .before .before .put-node2 in
-    let the-node-bytes = node-bytes (inner-fields 4 2 2) in
-    let the-node-bytes2 = node-bytes (inner-fields 4 0 2) in
-    let the-text = the-node-bytes2 ++ the-node-bytes in
-    let the-encode = encode (tree (args .f .now) 0) in
-    let the-text2 = the-text ++ (literal-bytes 0) in
-    let h =
-    free-start the-text (args .out .now)
-    (putMid (put-node .result) (length (put-node .last .1 .1 .1 .0) - put-node .result) (put-node .last .1 .1 .1 .0) (put-node2 .last .1 .1 .1 .0))
-    (put-node .result + put-node2 .result)
-    (then-writes the-node-bytes2 (args .out .now) (put-node .last .1 .1 .1 .0) (put-node .result) (put-node .ensures)
-    (omega (
-      arith,
-      pre .1,
-      length-append the-text2 the-encode,
-      length-append the-text (literal-bytes 0),
-      length-append the-node-bytes2 the-node-bytes,
-      node-length (inner-fields 4 0 2),
-      node-length (inner-fields 4 2 2),
-      literal-length 0,
-    ))
-    the-node-bytes (put-node2 .last .1 .1 .1 .0) (put-node2 .result) (put-node2 .ensures))
-    (omega (
-      arith,
-      pre .1,
-      length-append the-text2 the-encode,
-      length-append the-text (literal-bytes 0),
-      length-append the-node-bytes2 the-node-bytes,
-      node-length (inner-fields 4 0 2),
-      node-length (inner-fields 4 2 2),
-      literal-length 0,
-    )) in
+    let t = tree (args .f .now) 0 in
+    let r = two t (args .out .now) (c .before .before .before .before .before .before .before .before .before .before .before .pre .1) in
+    let w = behind-writes (c .before .before .before .before .before .before .put-node .ensures) b r (c .before .before .put-node2 .ensures) in
+    let s = three t (args .out .now) (c .before .before .before .before .before .before .before .before .before .before .before .pre .1) in
+    let h = behind-start w (literal-bytes 0) s in
     omega (arith, h)
 
 part-put-literal-start : tie.Need-part-put-literal-start
 part-put-literal-start c =
     let args = c .before .before .before .before .before .before .before .before .before .before .before .args in
-    let pre = c .before .before .before .before .before .before .before .before .before .before .before .pre in
-    let put-node = c .before .before .before .before .before .before .put-node in
-    let put-node2 = c .before .before .put-node2 in
-    let the-node-bytes = node-bytes (inner-fields 4 2 2) in
-    let the-node-bytes2 = node-bytes (inner-fields 4 0 2) in
-    let the-text = the-node-bytes2 ++ the-node-bytes in
-    let the-encode = encode (tree (args .f .now) 0) in
-    let the-text2 = the-text ++ (literal-bytes 0) in
-    let h =
-    free-start the-text (args .out .now)
-    (putMid (put-node .result) (length (put-node .last .1 .1 .1 .0) - put-node .result) (put-node .last .1 .1 .1 .0) (put-node2 .last .1 .1 .1 .0))
-    (put-node .result + put-node2 .result)
-    (then-writes the-node-bytes2 (args .out .now) (put-node .last .1 .1 .1 .0) (put-node .result) (put-node .ensures)
-    (omega (
-      arith,
-      pre .1,
-      length-append the-text2 the-encode,
-      length-append the-text (literal-bytes 0),
-      length-append the-node-bytes2 the-node-bytes,
-      node-length (inner-fields 4 0 2),
-      node-length (inner-fields 4 2 2),
-      literal-length 0,
-    ))
-    the-node-bytes (put-node2 .last .1 .1 .1 .0) (put-node2 .result) (put-node2 .ensures))
-    (omega (
-      arith,
-      pre .1,
-      length-append the-text2 the-encode,
-      length-append the-text (literal-bytes 0),
-      length-append the-node-bytes2 the-node-bytes,
-      node-length (inner-fields 4 0 2),
-      node-length (inner-fields 4 2 2),
-      literal-length 0,
-    )) in
+    let t = tree (args .f .now) 0 in
+    let r = two t (args .out .now) (c .before .before .before .before .before .before .before .before .before .before .before .pre .1) in
+    let w = behind-writes (c .before .before .before .before .before .before .put-node .ensures) b r (c .before .before .put-node2 .ensures) in
+    let s = three t (args .out .now) (c .before .before .before .before .before .before .before .before .before .before .before .pre .1) in
+    let h = behind-start w (literal-bytes 0) s in
     omega (arith, h)
 
 part-put-literal-end : tie.Need-part-put-literal-end
@@ -227,76 +94,27 @@ part-put-literal-end c = search needs
 put-literal-requires : tie.Need-put-literal-requires
 put-literal-requires c κs =
     let args = c .before .before .before .before .before .before .before .before .before .before .before .before .args in
-    let pre = c .before .before .before .before .before .before .before .before .before .before .before .before .pre in
-    let put-node = c .before .before .before .before .before .before .before .put-node in
-    let put-node2 = c .before .before .before .put-node2 in
-    let the-node-bytes = node-bytes (inner-fields 4 2 2) in
-    let the-node-bytes2 = node-bytes (inner-fields 4 0 2) in
-    let the-text = the-node-bytes2 ++ the-node-bytes in
-    let the-encode = encode (tree (args .f .now) 0) in
-    let the-text2 = the-text ++ (literal-bytes 0) in
-    let h =
-    free-room the-text (args .out .now)
-    (putMid (put-node .result) (length (put-node .last .1 .1 .1 .0) - put-node .result) (put-node .last .1 .1 .1 .0) (put-node2 .last .1 .1 .1 .0))
-    (put-node .result + put-node2 .result)
-    (then-writes the-node-bytes2 (args .out .now) (put-node .last .1 .1 .1 .0) (put-node .result) (put-node .ensures)
-    (omega (
-      arith,
-      pre .1,
-      length-append the-text2 the-encode,
-      length-append the-text (literal-bytes 0),
-      length-append the-node-bytes2 the-node-bytes,
-      node-length (inner-fields 4 0 2),
-      node-length (inner-fields 4 2 2),
-      literal-length 0,
-    ))
-    the-node-bytes (put-node2 .last .1 .1 .1 .0) (put-node2 .result) (put-node2 .ensures))
-    (omega (
-      arith,
-      pre .1,
-      length-append the-text2 the-encode,
-      length-append the-text (literal-bytes 0),
-      length-append the-node-bytes2 the-node-bytes,
-      node-length (inner-fields 4 0 2),
-      node-length (inner-fields 4 2 2),
-      literal-length 0,
-    ))
-    (literal-bytes 0)
-    (omega (
-      arith,
-      pre .1,
-      length-append the-text2 the-encode,
-      length-append the-text (literal-bytes 0),
-      length-append the-node-bytes2 the-node-bytes,
-      node-length (inner-fields 4 0 2),
-      node-length (inner-fields 4 2 2),
-      literal-length 0,
-    )) in
+    let t = tree (args .f .now) 0 in
+    let r = two t (args .out .now) (c .before .before .before .before .before .before .before .before .before .before .before .before .pre .1) in
+    let w = behind-writes (c .before .before .before .before .before .before .before .put-node .ensures) b r (c .before .before .before .put-node2 .ensures) in
+    let s = three t (args .out .now) (c .before .before .before .before .before .before .before .before .before .before .before .before .pre .1) in
+    let h = behind-room w (literal-bytes 0) s in
     omega (arith, h, literal-length 0)
 
 add-c : tie.Need-add-c
 add-c c =
     let args = c .before .before .before .before .before .before .before .before .before .before .before .before .before .before .before .args in
+    let good = c .before .before .before .before .before .before .before .before .before .before .before .before .before .before .before .good in
     let pre = c .before .before .before .before .before .before .before .before .before .before .before .before .before .before .before .pre in
     let put-node = c .before .before .before .before .before .before .before .before .before .before .put-node in
     let put-node2 = c .before .before .before .before .before .before .put-node2 in
     let put-literal = c .before .before .put-literal in
-    let the-node-bytes = node-bytes (inner-fields 4 2 2) in
-    let the-node-bytes2 = node-bytes (inner-fields 4 0 2) in
-    let the-text = the-node-bytes2 ++ the-node-bytes in
-    omega (
-      arith,
-      put-node .ensures .count,
-      put-node2 .ensures .count,
-      put-literal .ensures .count,
-      pre .1,
-      length-append (the-text ++ (literal-bytes 0)) (encode (tree (args .f .now) 0)),
-      length-append the-text (literal-bytes 0),
-      length-append the-node-bytes2 the-node-bytes,
-      node-length (inner-fields 4 0 2),
-      node-length (inner-fields 4 2 2),
-      literal-length 0,
-    )
+    let t = tree (args .f .now) 0 in
+    let r = two t (args .out .now) (pre .1) in
+    let w = behind-writes (put-node .ensures) b r (put-node2 .ensures) in
+    let s = three t (args .out .now) (pre .1) in
+    let v = behind-writes w (literal-bytes 0) s (put-literal .ensures) in
+    omega (arith, v .count, s, good .1 .1 .0 .0)
 
 sub-put-tree : tie.Need-sub-put-tree
 sub-put-tree c =
@@ -305,50 +123,12 @@ sub-put-tree c =
     let put-node = c .before .before .before .before .before .before .before .before .before .before .put-node in
     let put-node2 = c .before .before .before .before .before .before .put-node2 in
     let put-literal = c .before .before .put-literal in
-    let the-node-bytes = node-bytes (inner-fields 4 2 2) in
-    let the-node-bytes2 = node-bytes (inner-fields 4 0 2) in
-    let the-text = the-node-bytes2 ++ the-node-bytes in
-    let the-putMid = putMid (put-node .result) (length (put-node .last .1 .1 .1 .0) - put-node .result) (put-node .last .1 .1 .1 .0) (put-node2 .last .1 .1 .1 .0) in
-    let the-text2 = the-text ++ (literal-bytes 0) in
-    let the-sum = put-node .result + put-node2 .result in
-    let the-encode = encode (tree (args .f .now) 0) in
-    let h =
-    free-start the-text2 (args .out .now) (putMid the-sum (length the-putMid - the-sum) the-putMid (put-literal .last .1 .0))
-    (put-node .result + put-node2 .result + put-literal .result)
-    (then-writes the-text (args .out .now) the-putMid the-sum
-    (then-writes the-node-bytes2 (args .out .now) (put-node .last .1 .1 .1 .0) (put-node .result) (put-node .ensures)
-    (omega (
-      arith,
-      pre .1,
-      length-append the-text2 the-encode,
-      length-append the-text (literal-bytes 0),
-      length-append the-node-bytes2 the-node-bytes,
-      node-length (inner-fields 4 0 2),
-      node-length (inner-fields 4 2 2),
-      literal-length 0,
-    ))
-    the-node-bytes (put-node2 .last .1 .1 .1 .0) (put-node2 .result) (put-node2 .ensures))
-    (omega (
-      arith,
-      pre .1,
-      length-append the-text2 the-encode,
-      length-append the-text (literal-bytes 0),
-      length-append the-node-bytes2 the-node-bytes,
-      node-length (inner-fields 4 0 2),
-      node-length (inner-fields 4 2 2),
-      literal-length 0,
-    ))
-    (literal-bytes 0) (put-literal .last .1 .0) (put-literal .result) (put-literal .ensures))
-    (omega (
-      arith,
-      pre .1,
-      length-append the-text2 the-encode,
-      length-append the-text (literal-bytes 0),
-      length-append the-node-bytes2 the-node-bytes,
-      node-length (inner-fields 4 0 2),
-      node-length (inner-fields 4 2 2),
-      literal-length 0,
-    )) in
+    let t = tree (args .f .now) 0 in
+    let r = two t (args .out .now) (pre .1) in
+    let w = behind-writes (put-node .ensures) b r (put-node2 .ensures) in
+    let s = three t (args .out .now) (pre .1) in
+    let v = behind-writes w (literal-bytes 0) s (put-literal .ensures) in
+    let h = behind-start v (encode t) (pre .1) in
     omega (arith, h)
 
 part-put-tree-start : tie.Need-part-put-tree-start
@@ -358,50 +138,12 @@ part-put-tree-start c =
     let put-node = c .before .before .before .before .before .before .before .before .before .before .put-node in
     let put-node2 = c .before .before .before .before .before .before .put-node2 in
     let put-literal = c .before .before .put-literal in
-    let the-node-bytes = node-bytes (inner-fields 4 2 2) in
-    let the-node-bytes2 = node-bytes (inner-fields 4 0 2) in
-    let the-text = the-node-bytes2 ++ the-node-bytes in
-    let the-putMid = putMid (put-node .result) (length (put-node .last .1 .1 .1 .0) - put-node .result) (put-node .last .1 .1 .1 .0) (put-node2 .last .1 .1 .1 .0) in
-    let the-text2 = the-text ++ (literal-bytes 0) in
-    let the-sum = put-node .result + put-node2 .result in
-    let the-encode = encode (tree (args .f .now) 0) in
-    let h =
-    free-start the-text2 (args .out .now) (putMid the-sum (length the-putMid - the-sum) the-putMid (put-literal .last .1 .0))
-    (put-node .result + put-node2 .result + put-literal .result)
-    (then-writes the-text (args .out .now) the-putMid the-sum
-    (then-writes the-node-bytes2 (args .out .now) (put-node .last .1 .1 .1 .0) (put-node .result) (put-node .ensures)
-    (omega (
-      arith,
-      pre .1,
-      length-append the-text2 the-encode,
-      length-append the-text (literal-bytes 0),
-      length-append the-node-bytes2 the-node-bytes,
-      node-length (inner-fields 4 0 2),
-      node-length (inner-fields 4 2 2),
-      literal-length 0,
-    ))
-    the-node-bytes (put-node2 .last .1 .1 .1 .0) (put-node2 .result) (put-node2 .ensures))
-    (omega (
-      arith,
-      pre .1,
-      length-append the-text2 the-encode,
-      length-append the-text (literal-bytes 0),
-      length-append the-node-bytes2 the-node-bytes,
-      node-length (inner-fields 4 0 2),
-      node-length (inner-fields 4 2 2),
-      literal-length 0,
-    ))
-    (literal-bytes 0) (put-literal .last .1 .0) (put-literal .result) (put-literal .ensures))
-    (omega (
-      arith,
-      pre .1,
-      length-append the-text2 the-encode,
-      length-append the-text (literal-bytes 0),
-      length-append the-node-bytes2 the-node-bytes,
-      node-length (inner-fields 4 0 2),
-      node-length (inner-fields 4 2 2),
-      literal-length 0,
-    )) in
+    let t = tree (args .f .now) 0 in
+    let r = two t (args .out .now) (pre .1) in
+    let w = behind-writes (put-node .ensures) b r (put-node2 .ensures) in
+    let s = three t (args .out .now) (pre .1) in
+    let v = behind-writes w (literal-bytes 0) s (put-literal .ensures) in
+    let h = behind-start v (encode t) (pre .1) in
     omega (arith, h)
 
 part-put-tree-end : tie.Need-part-put-tree-end
@@ -414,62 +156,12 @@ put-tree-requires c κs =
     let put-node = c .before .before .before .before .before .before .before .before .before .before .before .put-node in
     let put-node2 = c .before .before .before .before .before .before .before .put-node2 in
     let put-literal = c .before .before .before .put-literal in
-    let the-node-bytes = node-bytes (inner-fields 4 2 2) in
-    let the-node-bytes2 = node-bytes (inner-fields 4 0 2) in
-    let the-text = the-node-bytes2 ++ the-node-bytes in
-    let the-putMid = putMid (put-node .result) (length (put-node .last .1 .1 .1 .0) - put-node .result) (put-node .last .1 .1 .1 .0) (put-node2 .last .1 .1 .1 .0) in
-    let the-encode = encode (tree (args .f .now) 0) in
-    let the-text2 = the-text ++ (literal-bytes 0) in
-    let the-sum = put-node .result + put-node2 .result in (
-      pre .0,
-      free-room the-text2 (args .out .now) (putMid the-sum (length the-putMid - the-sum) the-putMid (put-literal .last .1 .0))
-          (put-node .result + put-node2 .result + put-literal .result)
-          (then-writes the-text (args .out .now) the-putMid the-sum
-          (then-writes the-node-bytes2 (args .out .now) (put-node .last .1 .1 .1 .0) (put-node .result) (put-node .ensures)
-          (omega (
-            arith,
-            pre .1,
-            length-append the-text2 the-encode,
-            length-append the-text (literal-bytes 0),
-            length-append the-node-bytes2 the-node-bytes,
-            node-length (inner-fields 4 0 2),
-            node-length (inner-fields 4 2 2),
-            literal-length 0,
-          ))
-          the-node-bytes (put-node2 .last .1 .1 .1 .0) (put-node2 .result) (put-node2 .ensures))
-          (omega (
-            arith,
-            pre .1,
-            length-append the-text2 the-encode,
-            length-append the-text (literal-bytes 0),
-            length-append the-node-bytes2 the-node-bytes,
-            node-length (inner-fields 4 0 2),
-            node-length (inner-fields 4 2 2),
-            literal-length 0,
-          ))
-          (literal-bytes 0) (put-literal .last .1 .0) (put-literal .result) (put-literal .ensures))
-          (omega (
-            arith,
-            pre .1,
-            length-append the-text2 the-encode,
-            length-append the-text (literal-bytes 0),
-            length-append the-node-bytes2 the-node-bytes,
-            node-length (inner-fields 4 0 2),
-            node-length (inner-fields 4 2 2),
-            literal-length 0,
-          ))
-          the-encode
-          (omega (
-            arith,
-            pre .1,
-            length-append the-text2 the-encode,
-            length-append the-text (literal-bytes 0),
-            length-append the-node-bytes2 the-node-bytes,
-            node-length (inner-fields 4 0 2),
-            node-length (inner-fields 4 2 2),
-            literal-length 0,
-          )),
-    )
+    let t = tree (args .f .now) 0 in
+    let r = two t (args .out .now) (pre .1) in
+    let w = behind-writes (put-node .ensures) b r (put-node2 .ensures) in
+    let s = three t (args .out .now) (pre .1) in
+    let v = behind-writes w (literal-bytes 0) s (put-literal .ensures) in
+    (pre .0, behind-room v (encode t) (pre .1))
 
 add-result : tie.Need-add-result
 add-result c =
@@ -480,24 +172,13 @@ add-result c =
     let put-node2 = c .before .before .before .before .before .before .before .before .before .before .put-node2 in
     let put-literal = c .before .before .before .before .before .before .put-literal in
     let put-tree = c .before .before .put-tree in
-    let the-node-bytes = node-bytes (inner-fields 4 2 2) in
-    let the-node-bytes2 = node-bytes (inner-fields 4 0 2) in
-    let the-text = the-node-bytes2 ++ the-node-bytes in
-    omega (
-      arith,
-      put-node .ensures .count,
-      put-node2 .ensures .count,
-      put-literal .ensures .count,
-      put-tree .ensures .count,
-      pre .1,
-      length-append (the-text ++ (literal-bytes 0)) (encode (tree (args .f .now) 0)),
-      length-append the-text (literal-bytes 0),
-      length-append the-node-bytes2 the-node-bytes,
-      node-length (inner-fields 4 0 2),
-      node-length (inner-fields 4 2 2),
-      literal-length 0,
-      good .1 .1 .0 .0,
-    )
+    let t = tree (args .f .now) 0 in
+    let r = two t (args .out .now) (pre .1) in
+    let w = behind-writes (put-node .ensures) b r (put-node2 .ensures) in
+    let s = three t (args .out .now) (pre .1) in
+    let v = behind-writes w (literal-bytes 0) s (put-literal .ensures) in
+    let x = behind-writes v (encode t) (pre .1) (put-tree .ensures) in
+    omega (arith, x .count, pre .1, good .1 .1 .0 .0)
 
 same-length : tie.Need-same-length
 same-length c = search needs
@@ -510,50 +191,12 @@ returns c =
     let put-node2 = c .before .before .before .before .before .before .before .before .before .before .put-node2 in
     let put-literal = c .before .before .before .before .before .before .put-literal in
     let put-tree = c .before .before .put-tree in
-    let the-node-bytes = node-bytes (inner-fields 4 2 2) in
-    let the-node-bytes2 = node-bytes (inner-fields 4 0 2) in
-    let the-text = the-node-bytes2 ++ the-node-bytes in
-    let the-putMid = putMid (put-node .result) (length (put-node .last .1 .1 .1 .0) - put-node .result) (put-node .last .1 .1 .1 .0) (put-node2 .last .1 .1 .1 .0) in
-    let the-encode = encode (tree (args .f .now) 0) in
-    let the-text2 = the-text ++ (literal-bytes 0) in
-    let the-sum = put-node .result + put-node2 .result in
-    then-writes the-text2 (args .out .now) (putMid the-sum (length the-putMid - the-sum) the-putMid (put-literal .last .1 .0))
-    (put-node .result + put-node2 .result + put-literal .result)
-    (then-writes the-text (args .out .now) the-putMid the-sum
-    (then-writes the-node-bytes2 (args .out .now) (put-node .last .1 .1 .1 .0) (put-node .result) (put-node .ensures)
-    (omega (
-      arith,
-      pre .1,
-      length-append the-text2 the-encode,
-      length-append the-text (literal-bytes 0),
-      length-append the-node-bytes2 the-node-bytes,
-      node-length (inner-fields 4 0 2),
-      node-length (inner-fields 4 2 2),
-      literal-length 0,
-    ))
-    the-node-bytes (put-node2 .last .1 .1 .1 .0) (put-node2 .result) (put-node2 .ensures))
-    (omega (
-      arith,
-      pre .1,
-      length-append the-text2 the-encode,
-      length-append the-text (literal-bytes 0),
-      length-append the-node-bytes2 the-node-bytes,
-      node-length (inner-fields 4 0 2),
-      node-length (inner-fields 4 2 2),
-      literal-length 0,
-    ))
-    (literal-bytes 0) (put-literal .last .1 .0) (put-literal .result) (put-literal .ensures))
-    (omega (
-      arith,
-      pre .1,
-      length-append the-text2 the-encode,
-      length-append the-text (literal-bytes 0),
-      length-append the-node-bytes2 the-node-bytes,
-      node-length (inner-fields 4 0 2),
-      node-length (inner-fields 4 2 2),
-      literal-length 0,
-    ))
-    the-encode (put-tree .last .1 .1 .1 .0) (put-tree .result) (put-tree .ensures)
+    let t = tree (args .f .now) 0 in
+    let r = two t (args .out .now) (pre .1) in
+    let w = behind-writes (put-node .ensures) b r (put-node2 .ensures) in
+    let s = three t (args .out .now) (pre .1) in
+    let v = behind-writes w (literal-bytes 0) s (put-literal .ensures) in
+    behind-writes v (encode t) (pre .1) (put-tree .ensures)
 
 pub put-primal-spec : {M : Type 1} → statement M
 put-primal-spec =

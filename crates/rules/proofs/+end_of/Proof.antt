@@ -12,7 +12,7 @@ use Rattle.rules.proofs.end_of.Kinds as end-of-kinds
 use Rattle.rules.proofs.+end_of.Lts-end_of as end-of-lts
 use Rattle.rules.proofs.code.Reads as code-reads
 use Rattle.rules.proofs.parts_of.Reads as parts-of-reads
-use Rattle.rules.proofs.wide.Reads as wide-reads
+use Rattle.reader.proofs.wide.Reads as wide-reads
 use Rattle.rules.proofs.+end_of.{statement}
 use Rattle.rules.proofs.+end_of.Tie.{close}
 
