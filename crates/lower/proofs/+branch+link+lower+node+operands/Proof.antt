@@ -175,10 +175,10 @@ branch-returns t c =
     let pre = c .before .before .before .before .before .before .pre in
     let b = args .b .now in
     let after-yes = past b (args .d) (args .yes) (args .c .node) in
-    choices.unsupported-here (context-of (args .kinds .now) (args .l .generated)) refl
+    let arms = choices.arms (context-of (args .kinds .now) (args .l .generated)) refl
     (arm b (args .d) (args .conjunction) (args .yes) (args .c .node)) (arm b (args .d) (args .conjunction) (args .no) after-yes) (args .v) after-yes
-    (past b (args .d) (args .no) after-yes) (pre .1 .0) (c .before .before .if1 .taken) (c .before .unsupported .result)
-    (c .before .unsupported .ensures) (c .if2 .taken)
+    (past b (args .d) (args .no) after-yes) (pre .1 .0) in
+    choices.unsupported-here arms (c .before .before .if1 .taken) (c .before .unsupported .result) (c .before .unsupported .ensures) (c .if2 .taken)
 
 branch-ahead-requires : (t : ℕ) → branch-lts.Need-ahead-requires (branch-calls t) (branch-at t) branch.Post
 branch-ahead-requires t c κs =
@@ -197,13 +197,14 @@ branch-lower-requires t c κs =
     let b = args .b .now in
     let conjunction = args .conjunction in
     let ensures = c .before .ahead .ensures in
-    let after-yes = past b (args .d) (args .yes) (args .c .node) in (
+    let after-yes = past b (args .d) (args .yes) (args .c .node) in
+    let arms = choices.arms (context-of (args .kinds .now) (args .l .generated)) refl (arm b (args .d) conjunction (args .yes) (args .c .node))
+    (arm b (args .d) conjunction (args .no) after-yes) (args .v) after-yes (past b (args .d) (args .no) after-yes) (pre .1 .0) in
+    let begun = choices.begun arms (c .before .before .before .before .if1 .taken) (unsupported .result) (unsupported .ensures)
+    (c .before .before .if2 .left) in (
       omega (arith, pre .0),
       (
-        ready-to b (args .d) conjunction (args .yes) _ (further (args .c) 1) ensures (choices.ready-first
-            (context-of (args .kinds .now) (args .l .generated)) refl (arm b (args .d) conjunction (args .yes) (args .c .node))
-            (arm b (args .d) conjunction (args .no) after-yes) (args .v) after-yes (past b (args .d) (args .no) after-yes) (pre .1 .0)
-            (c .before .before .before .before .if1 .taken) (unsupported .result) (unsupported .ensures) (c .before .before .if2 .left)),
+        ready-to b (args .d) conjunction (args .yes) _ (further (args .c) 1) ensures (choices.ready-first arms begun),
         (well-to b (args .d) (args .yes) _ (further (args .c) 1) ensures (pre .1 .1 .0), omega arith, pre .1 .1 .2),
       ),
     )
@@ -231,9 +232,10 @@ branch-returns-2 t c =
     let given3 = c .enum-told .given .0 .0 in
     let given2 = c .enum-told .given .0 .1 .0 in
     let after-yes = past b (args .d) (args .yes) (args .c .node) in
-    choices.first-refused (context-of (args .kinds .now) (args .l .generated)) refl (arm b (args .d) conjunction (args .yes) (args .c .node))
-    (arm b (args .d) conjunction (args .no) after-yes) (args .v) after-yes (past b (args .d) (args .no) after-yes) (pre .1 .0) (if1 .taken)
-    (unsupported .result) (unsupported .ensures) (if2 .left) (lower .last .1 .0) (lower .result) given3 given2 (refused _ _ _ _ _ _ given3 given2
+    let arms = choices.arms (context-of (args .kinds .now) (args .l .generated)) refl (arm b (args .d) conjunction (args .yes) (args .c .node))
+    (arm b (args .d) conjunction (args .no) after-yes) (args .v) after-yes (past b (args .d) (args .no) after-yes) (pre .1 .0) in
+    let begun = choices.begun arms (if1 .taken) (unsupported .result) (unsupported .ensures) (if2 .left) in
+    choices.first-refused arms begun (lower .last .1 .0) (lower .result) given3 given2 (refused _ _ _ _ _ _ given3 given2
     (arm-from _ _ b (args .d) conjunction (args .yes) _ _ _ _ _ _ (further (args .c) 1) (ahead .ensures) (lower .ensures)) (c .enum-told .given .1))
     (c .enum-told .given .1)
 
@@ -251,18 +253,13 @@ branch-add-put-row t c =
     let b = args .b .now in
     let conjunction = args .conjunction in
     let after-yes = past b (args .d) (args .yes) (args .c .node) in
-    omega (
-      arith,
-      choices.is-code (context-of (args .kinds .now) (args .l .generated)) refl (arm b (args .d) conjunction (args .yes) (args .c .node))
-          (arm b (args .d) conjunction (args .no) after-yes) (args .v) after-yes (past b (args .d) (args .no) after-yes) (pre .1 .0) (if1 .taken)
-          (unsupported .result) (unsupported .ensures) (if2 .left) (lower .last .1 .0) (a .given .0 .0) (a .given .0 .1 .0) (taken _ _ _ _ _ _
-          (a .given .0 .0) (a .given .0 .1 .0)
-          (arm-from _ _ b (args .d) conjunction (args .yes) _ _ _ _ _ _ (further (args .c) 1) (ahead .ensures) (lower .ensures)) (a .given .1)),
-      good .1 .0 .0,
-      (pre .1 .0) .code,
-      (pre .1 .0) .records,
-      (pre .1 .0) .lists,
-    )
+    let arms = choices.arms (context-of (args .kinds .now) (args .l .generated)) refl (arm b (args .d) conjunction (args .yes) (args .c .node))
+    (arm b (args .d) conjunction (args .no) after-yes) (args .v) after-yes (past b (args .d) (args .no) after-yes) (pre .1 .0) in
+    let begun = choices.begun arms (if1 .taken) (unsupported .result) (unsupported .ensures) (if2 .left) in
+    let first = choices.first arms begun (lower .last .1 .0) (a .given .0 .0) (a .given .0 .1 .0) (taken _ _ _ _ _ _ (a .given .0 .0)
+    (a .given .0 .1 .0) (arm-from _ _ b (args .d) conjunction (args .yes) _ _ _ _ _ _ (further (args .c) 1) (ahead .ensures) (lower .ensures))
+    (a .given .1)) in
+    omega (arith, choices.is-code arms begun first, good .1 .0 .0, (pre .1 .0) .code, (pre .1 .0) .records, (pre .1 .0) .lists)
 
 branch-put-row-requires : (t : ℕ) → branch-lts.Need-put-row-requires (branch-calls t) (branch-at t) branch.Post
 branch-put-row-requires t c κs =
@@ -276,20 +273,14 @@ branch-put-row-requires t c κs =
     let a = c .before .before .before .a in
     let b = args .b .now in
     let conjunction = args .conjunction in
-    let after-yes = past b (args .d) (args .yes) (args .c .node) in (
-      omega (
-        arith,
-        choices.n₁′ (context-of (args .kinds .now) (args .l .generated)) refl (arm b (args .d) conjunction (args .yes) (args .c .node))
-            (arm b (args .d) conjunction (args .no) after-yes) (args .v) after-yes (past b (args .d) (args .no) after-yes) (pre .1 .0) (if1 .taken)
-            (unsupported .result) (unsupported .ensures) (if2 .left) (lower .last .1 .0) (a .given .0 .0) (a .given .0 .1 .0) (taken _ _ _ _ _ _
-            (a .given .0 .0) (a .given .0 .1 .0)
-            (arm-from _ _ b (args .d) conjunction (args .yes) _ _ _ _ _ _ (further (args .c) 1) (ahead .ensures) (lower .ensures)) (a .given .1)),
-        (pre .1 .0) .code,
-        (pre .1 .0) .records,
-        (pre .1 .0) .lists,
-      ),
-      omega arith,
-    )
+    let after-yes = past b (args .d) (args .yes) (args .c .node) in
+    let arms = choices.arms (context-of (args .kinds .now) (args .l .generated)) refl (arm b (args .d) conjunction (args .yes) (args .c .node))
+    (arm b (args .d) conjunction (args .no) after-yes) (args .v) after-yes (past b (args .d) (args .no) after-yes) (pre .1 .0) in
+    let begun = choices.begun arms (if1 .taken) (unsupported .result) (unsupported .ensures) (if2 .left) in
+    let first = choices.first arms begun (lower .last .1 .0) (a .given .0 .0) (a .given .0 .1 .0) (taken _ _ _ _ _ _ (a .given .0 .0)
+    (a .given .0 .1 .0) (arm-from _ _ b (args .d) conjunction (args .yes) _ _ _ _ _ _ (further (args .c) 1) (ahead .ensures) (lower .ensures))
+    (a .given .1)) in
+    (omega (arith, choices.n₁′ arms begun first, (pre .1 .0) .code, (pre .1 .0) .records, (pre .1 .0) .lists), omega arith)
 
 branch-put-row-requires-2 : (t : ℕ) → branch-lts.Need-put-row-requires-2 (branch-calls t) (branch-at t) branch.Post
 branch-put-row-requires-2 t c κs =
@@ -310,15 +301,15 @@ branch-put-row-requires-2 t c κs =
     let after-no = past b (args .d) (args .no) after-yes in
     let no-arm = arm b (args .d) conjunction (args .no) after-yes in
     let is-taken = taken _ _ _ _ _ _ (a .given .0 .0) a-next
-    (arm-from _ _ b (args .d) conjunction (args .yes) _ _ _ _ _ _ (further (args .c) 1) (ahead .ensures) (lower .ensures)) (a .given .1) in (
+    (arm-from _ _ b (args .d) conjunction (args .yes) _ _ _ _ _ _ (further (args .c) 1) (ahead .ensures) (lower .ensures)) (a .given .1) in
+    let arms = choices.arms context refl yes-arm no-arm (args .v) after-yes after-no (pre .1 .0) in
+    let begun = choices.begun arms (if1 .taken) (unsupported .result) (unsupported .ensures) (if2 .left) in
+    let first = choices.first arms begun (lower .last .1 .0) (a .given .0 .0) a-next is-taken in (
       omega (
         arith,
         c .before .before .before .put-row .kept .0,
-        choices.n₁′ context refl yes-arm no-arm (args .v) after-yes after-no (pre .1 .0)
-            (if1 .taken) (unsupported .result) (unsupported .ensures) (if2 .left) (lower .last .1 .0) (a .given .0 .0) a-next is-taken,
-        choices.is-code
-            context refl yes-arm no-arm (args .v) after-yes after-no (pre .1 .0) (if1 .taken) (unsupported .result) (unsupported .ensures) (if2 .left)
-            (lower .last .1 .0) (a .given .0 .0) a-next is-taken,
+        choices.n₁′ arms begun first,
+        choices.is-code arms begun first,
         (pre .1 .0) .code,
         (pre .1 .0) .records,
         (pre .1 .0) .lists,
@@ -351,13 +342,14 @@ branch-ahead-requires-2 t c κs =
     let after-no = past b (args .d) (args .no) after-yes in
     let no-arm = arm b (args .d) conjunction (args .no) after-yes in
     let is-taken = taken _ _ _ _ _ _ a-value a-next
-    (arm-from _ _ b (args .d) conjunction (args .yes) _ _ _ _ _ _ (further (args .c) 1) (ahead .ensures) (lower .ensures)) (a .given .1) in (
+    (arm-from _ _ b (args .d) conjunction (args .yes) _ _ _ _ _ _ (further (args .c) 1) (ahead .ensures) (lower .ensures)) (a .given .1) in
+    let arms = choices.arms context refl yes-arm no-arm (args .v) after-yes after-no ready in
+    let begun = choices.begun arms (if1 .taken) unsupported-gives unsupported-says (if2 .left) in
+    let first = choices.first arms begun lower-bytes a-value a-next is-taken in (
       omega (
         arith,
-        choices.is-code context refl yes-arm no-arm (args .v) after-yes after-no ready (if1 .taken) unsupported-gives unsupported-says
-            (if2 .left) lower-bytes a-value a-next is-taken,
-        choices.is-reg context refl yes-arm no-arm (args .v) after-yes after-no ready (if1 .taken)
-            unsupported-gives unsupported-says (if2 .left) lower-bytes a-value a-next is-taken,
+        choices.is-code arms begun first,
+        choices.is-reg arms begun first,
         fewer-registers yes-arm,
         ready .registers,
         good .1 .0 .0,
@@ -367,10 +359,8 @@ branch-ahead-requires-2 t c κs =
       ),
       omega (
         arith,
-        choices.is-code context refl yes-arm no-arm (args .v) after-yes after-no ready (if1 .taken) unsupported-gives unsupported-says
-            (if2 .left) lower-bytes a-value a-next is-taken,
-        choices.is-reg context refl yes-arm no-arm (args .v) after-yes after-no ready (if1 .taken)
-            unsupported-gives unsupported-says (if2 .left) lower-bytes a-value a-next is-taken,
+        choices.is-code arms begun first,
+        choices.is-reg arms begun first,
         fewer-registers yes-arm,
         ready .registers,
         good .1 .0 .0,
@@ -404,13 +394,15 @@ branch-lower-requires-2 t c κs =
     let no-arm = arm b (args .d) conjunction (args .no) after-yes in
     let is-taken = taken _ _ _ _ _ _ (a .given .0 .0) a-next
     (arm-from _ _ b (args .d) conjunction (args .yes) _ _ _ _ _ _ (further (args .c) 1) (ahead .ensures) (lower .ensures)) (a .given .1) in
-    let sym2 = sym (choices.is-node context refl yes-arm no-arm (args .v) after-yes after-no (pre .1 .0) (if1 .taken) (unsupported .result)
-    (unsupported .ensures) (if2 .left) (lower .last .1 .0) (a .given .0 .0) a-next is-taken) in (
+    let arms = choices.arms context refl yes-arm no-arm (args .v) after-yes after-no (pre .1 .0) in
+    let begun = choices.begun arms (if1 .taken) (unsupported .result) (unsupported .ensures) (if2 .left) in
+    let first = choices.first arms begun (lower .last .1 .0) (a .given .0 .0) a-next is-taken in
+    let sym2 = sym (choices.is-node arms begun first) in
+    let copied = choices.copied arms begun first (put-row .last .0) (put-row2 .last .0) (put-row .ensures) (put-row2 .ensures) in (
       omega (arith, pre .0),
       (
-        ready-to b (args .d) conjunction (args .no) _ further2 ensures (arm-ready b (args .d) conjunction (args .no) _ _ sym2 (choices.ready-arm
-            context refl yes-arm no-arm (args .v) after-yes after-no (pre .1 .0) (if1 .taken) (unsupported .result) (unsupported .ensures) (if2 .left)
-            (lower .last .1 .0) (a .given .0 .0) a-next is-taken (put-row .last .0) (put-row2 .last .0) (put-row .ensures) (put-row2 .ensures))),
+        ready-to b (args .d) conjunction (args .no) _ further2 ensures
+            (arm-ready b (args .d) conjunction (args .no) _ _ sym2 (choices.ready-arm arms begun first copied)),
         (
           well-to b (args .d) (args .no) _ further2 ensures
               (subst (λ (x : ℕ). all-well-formed (kids b (args .d) (args .no) x) ≡ true) sym2 (pre .1 .1 .1)),
@@ -460,11 +452,12 @@ branch-returns-3 t c =
     let no-arm = arm b (args .d) conjunction (args .no) after-yes in
     let is-taken = taken _ _ _ _ _ _ (a .given .0 .0) a-next
     (arm-from _ _ b (args .d) conjunction (args .yes) _ _ _ _ _ _ (further (args .c) 1) (ahead .ensures) (lower .ensures)) (a .given .1) in
-    choices.second-refused context refl yes-arm no-arm (args .v) after-yes after-no (pre .1 .0) (if1 .taken) (unsupported .result)
-    (unsupported .ensures) (if2 .left) (lower .last .1 .0) (a .given .0 .0) a-next is-taken (put-row .last .0) (put-row2 .last .0) (put-row .ensures)
-    (put-row2 .ensures) (lower2 .last .1 .0) (lower2 .result) given3 given2 (refused _ _ _ _ _ _ given3 given2 (arm-at _ _ b (args .d) conjunction
-    (args .no) _ _ _ _ _ _ (a-next .node) after-yes (choices.is-node context refl yes-arm no-arm (args .v) after-yes after-no (pre .1 .0) (if1 .taken)
-    (unsupported .result) (unsupported .ensures) (if2 .left) (lower .last .1 .0) (a .given .0 .0) a-next is-taken)
+    let arms = choices.arms context refl yes-arm no-arm (args .v) after-yes after-no (pre .1 .0) in
+    let begun = choices.begun arms (if1 .taken) (unsupported .result) (unsupported .ensures) (if2 .left) in
+    let first = choices.first arms begun (lower .last .1 .0) (a .given .0 .0) a-next is-taken in
+    let copied = choices.copied arms begun first (put-row .last .0) (put-row2 .last .0) (put-row .ensures) (put-row2 .ensures) in
+    choices.second-refused arms begun first copied (lower2 .last .1 .0) (lower2 .result) given3 given2 (refused _ _ _ _ _ _ given3 given2 (arm-at _ _
+    b (args .d) conjunction (args .no) _ _ _ _ _ _ (a-next .node) after-yes (choices.is-node arms begun first)
     (arm-from _ _ b (args .d) conjunction (args .no) _ _ _ _ _ _ (further a-next 2) (ahead2 .ensures) (lower2 .ensures))) given4) given4
 
 branch-join-requires : (t : ℕ) → branch-lts.Need-join-requires (branch-calls t) (branch-at t) branch.Post
@@ -507,38 +500,28 @@ branch-join-requires t c κs =
     let no-arm = arm b (args .d) conjunction (args .no) after-yes in
     let is-taken2 = taken _ _ _ _ _ _ a-value a-next
     (arm-from _ _ b (args .d) conjunction (args .yes) _ _ _ _ _ _ (further (args .c) 1) (ahead .ensures) (lower .ensures)) (a .given .1) in
+    let arms = choices.arms context refl yes-arm no-arm (args .v) after-yes after-no ready in
+    let begun = choices.begun arms taken2 unsupported-gives unsupported-says left in
+    let first = choices.first arms begun lower-bytes a-value a-next is-taken2 in
     let is-taken = taken _ _ _ _ _ _ o-value o-next (arm-at _ _ b (args .d) conjunction (args .no) _ _ _ _ _ _ (a-next .node) after-yes
-    (choices.is-node context refl yes-arm no-arm (args .v) after-yes after-no ready taken2 unsupported-gives unsupported-says left lower-bytes a-value
-    a-next is-taken2) (arm-from _ _ b (args .d) conjunction (args .no) _ _ _ _ _ _ (further a-next 2) (ahead2 .ensures) (lower2 .ensures)))
-    (o .given .1) in (
+    (choices.is-node arms begun first)
+    (arm-from _ _ b (args .d) conjunction (args .no) _ _ _ _ _ _ (further a-next 2) (ahead2 .ensures) (lower2 .ensures))) (o .given .1) in
+    let copied = choices.copied arms begun first put-row-bytes put-row2-bytes put-row-says put-row2-says in
+    let second = choices.second arms begun first copied lower2-bytes o-value o-next is-taken in (
+      omega (arith, choices.n₄′ arms begun first copied second, choices.is-code arms begun first, ready .code, ready .records, ready .lists),
       omega (
         arith,
-        choices.n₄′ context refl yes-arm no-arm (args .v) after-yes after-no ready taken2 unsupported-gives unsupported-says left
-            lower-bytes a-value a-next is-taken2 put-row-bytes put-row2-bytes put-row-says put-row2-says lower2-bytes o-value o-next is-taken _ refl,
-        choices.is-code context refl yes-arm no-arm (args .v) after-yes after-no ready taken2 unsupported-gives unsupported-says left lower-bytes
-            a-value a-next is-taken2,
+        choices.n₄′ arms begun first copied second,
+        choices.z-code arms begun first copied second,
+        choices.is-code arms begun first,
         ready .code,
         ready .records,
         ready .lists,
       ),
       omega (
         arith,
-        choices.n₄′ context refl yes-arm no-arm (args .v) after-yes after-no ready taken2 unsupported-gives unsupported-says left
-            lower-bytes a-value a-next is-taken2 put-row-bytes put-row2-bytes put-row-says put-row2-says lower2-bytes o-value o-next is-taken _ refl,
-        choices.z-code context refl yes-arm no-arm (args .v) after-yes after-no ready taken2 unsupported-gives unsupported-says left lower-bytes a-value
-            a-next is-taken2 put-row-bytes put-row2-bytes put-row-says put-row2-says lower2-bytes o-value o-next is-taken _ refl,
-        choices.is-code context
-            refl yes-arm no-arm (args .v) after-yes after-no ready taken2 unsupported-gives unsupported-says left lower-bytes a-value a-next is-taken2,
-        ready .code,
-        ready .records,
-        ready .lists,
-      ),
-      omega (
-        arith,
-        choices.is-code context refl yes-arm no-arm (args .v) after-yes after-no ready taken2 unsupported-gives unsupported-says left
-            lower-bytes a-value a-next is-taken2,
-        choices.is-reg context refl yes-arm no-arm (args .v) after-yes after-no ready taken2 unsupported-gives
-            unsupported-says left lower-bytes a-value a-next is-taken2,
+        choices.is-code arms begun first,
+        choices.is-reg arms begun first,
         fewer-registers yes-arm,
         ready .registers,
         good .1 .0 .0,
@@ -582,22 +565,24 @@ branch-returns-4 t c =
     let no-arm = arm b (args .d) conjunction (args .no) after-yes in
     let is-taken = taken _ _ _ _ _ _ (a .given .0 .0) a-next
     (arm-from _ _ b (args .d) conjunction (args .yes) _ _ _ _ _ _ (further (args .c) 1) (ahead .ensures) (lower .ensures)) (a .given .1) in
-    choices.both-joined context refl yes-arm no-arm (args .v) after-yes after-no (pre .1 .0) (if1 .taken) (unsupported .result) (unsupported .ensures)
-    (if2 .left) (lower .last .1 .0) (a .given .0 .0) a-next is-taken (put-row .last .0) (put-row2 .last .0) (put-row .ensures) (put-row2 .ensures)
-    (lower2 .last .1 .0) (o .given .0 .0) (o .given .0 .1 .0) (taken _ _ _ _ _ _ (o .given .0 .0) (o .given .0 .1 .0) (arm-at _ _ b (args .d)
-    conjunction (args .no) _ _ _ _ _ _ (a-next .node) after-yes (choices.is-node context refl yes-arm no-arm (args .v) after-yes after-no (pre .1 .0)
-    (if1 .taken) (unsupported .result) (unsupported .ensures) (if2 .left) (lower .last .1 .0) (a .given .0 .0) a-next is-taken)
-    (arm-from _ _ b (args .d) conjunction (args .no) _ _ _ _ _ _ (further a-next 2) (ahead2 .ensures) (lower2 .ensures))) (o .given .1)) _ refl
-    (join .last .0) _ (join .ensures .0) (join .ensures .1)
+    let arms = choices.arms context refl yes-arm no-arm (args .v) after-yes after-no (pre .1 .0) in
+    let begun = choices.begun arms (if1 .taken) (unsupported .result) (unsupported .ensures) (if2 .left) in
+    let first = choices.first arms begun (lower .last .1 .0) (a .given .0 .0) a-next is-taken in
+    let copied = choices.copied arms begun first (put-row .last .0) (put-row2 .last .0) (put-row .ensures) (put-row2 .ensures) in
+    let second = choices.second arms begun first copied (lower2 .last .1 .0) (o .given .0 .0) (o .given .0 .1 .0) (taken _ _ _ _ _ _ (o .given .0 .0)
+    (o .given .0 .1 .0) (arm-at _ _ b (args .d) conjunction (args .no) _ _ _ _ _ _ (a-next .node) after-yes (choices.is-node arms begun first)
+    (arm-from _ _ b (args .d) conjunction (args .no) _ _ _ _ _ _ (further a-next 2) (ahead2 .ensures) (lower2 .ensures))) (o .given .1)) in
+    choices.both-joined arms begun first copied second (join .last .0) _ (join .ensures .0) (join .ensures .1)
 
 branch-returns-5 : (t : ℕ) → branch-lts.Need-returns-5 (branch-calls t) (branch-at t) branch.Post
 branch-returns-5 t c =
     let args = c .before .before .before .before .args in
     let b = args .b .now in
     let after-yes = past b (args .d) (args .yes) (args .c .node) in
-    choices.not-boolean (context-of (args .kinds .now) (args .l .generated)) refl (arm b (args .d) (args .conjunction) (args .yes) (args .c .node))
-    (arm b (args .d) (args .conjunction) (args .no) after-yes) (args .v) after-yes (past b (args .d) (args .no) after-yes)
-    (c .before .before .before .before .pre .1 .0) (c .if1 .left)
+    let arms = choices.arms (context-of (args .kinds .now) (args .l .generated)) refl
+    (arm b (args .d) (args .conjunction) (args .yes) (args .c .node)) (arm b (args .d) (args .conjunction) (args .no) after-yes) (args .v) after-yes
+    (past b (args .d) (args .no) after-yes) (c .before .before .before .before .pre .1 .0) in
+    choices.not-boolean arms (c .if1 .left)
 
 link-lower-requires : (t : ℕ) → link-lts.Need-lower-requires (link-calls t) (link-at t) link.Post
 link-lower-requires t c κs =
