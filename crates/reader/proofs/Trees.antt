@@ -142,10 +142,6 @@ tree-inside (suc d) b at w =
     let c = children-inside b (λ a. tree-in d b a) (λ x. tree-inside d b x) (fields-at b at .children) (at + 16) (n .headed .inside) (n .children) in
     omega (arith, ap size (n .tree), c)
 
-pub children-end : (b : List ℕ) (k at : ℕ) → at ≤ length b → all-well-formed (children-at (λ a. tree-at b a) k at) ≡ true
-    → at + 16 * sizes (children-at (λ a. tree-at b a) k at) ≤ length b
-children-end b k at l w = children-inside b (λ a. tree-at b a) (λ x. tree-inside (length b) b x) k at l w
-
 -- ---- a tree of few levels is the same with few levels
 
 children-shallow : (t u : ℕ → Formula) (d k at : ℕ) → ((x : ℕ) → well-formed (t x) ≡ true → depth (t x) ≤ d → u x ≡ t x)

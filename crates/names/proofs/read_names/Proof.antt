@@ -55,12 +55,12 @@ returns-3 c =
     let loop = c .before .before .before .before .before .before .before .loop in
     let entry-end = c .before .before .before .before .before .before .entry-end in
     let entry-at = c .before .before .before .before .before .entry-at in
-    let found2 = c .before .before .before .found in
+    let found′ = c .before .before .before .found in
     c .no-names2 .ensures
     ∙ too-many (args .line .now) (loop .starts) (loop .lengths) (loop .kinds) (loop .count) (loop .at) (entry-end .result) (loop .inv .0)
-    (entry-end .ensures) (found2 .given .0 .0) (found2 .given .0 .1 .0)
-    (found (args .line .now) (loop .at) (entry-end .result) (found2 .given .0 .0) (found2 .given .0 .1 .0) (entry-at .result) (entry-end .ensures)
-    (entry-at .ensures) (found2 .given .1))
+    (entry-end .ensures) (found′ .given .0 .0) (found′ .given .0 .1 .0)
+    (found (args .line .now) (loop .at) (entry-end .result) (found′ .given .0 .0) (found′ .given .0 .1 .0) (entry-at .result) (entry-end .ensures)
+    (entry-at .ensures) (found′ .given .1))
     (c .before .if2 .taken)
 
 mark-of-requires : tie.Need-mark-of-requires Inv-loop μ-loop
@@ -69,9 +69,9 @@ mark-of-requires c κs =
     let loop = c .before .before .before .before .before .before .loop in
     let entry-end = c .before .before .before .before .before .entry-end in
     let entry-at = c .before .before .before .before .entry-at in
-    let found2 = c .before .before .found in
-    found (args .line .now) (loop .at) (entry-end .result) (found2 .given .0 .0) (found2 .given .0 .1 .0) (entry-at .result) (entry-end .ensures)
-    (entry-at .ensures) (found2 .given .1) .inside
+    let found′ = c .before .before .found in
+    found (args .line .now) (loop .at) (entry-end .result) (found′ .given .0 .0) (found′ .given .0 .1 .0) (entry-at .result) (entry-end .ensures)
+    (entry-at .ensures) (found′ .given .1) .inside
 
 is-repeated-requires : tie.Need-is-repeated-requires Inv-loop μ-loop
 is-repeated-requires c κs =
@@ -79,11 +79,11 @@ is-repeated-requires c κs =
     let loop = c .before .before .before .before .before .before .before .before .before .before .loop in
     let entry-end = c .before .before .before .before .before .before .before .before .before .entry-end in
     let entry-at = c .before .before .before .before .before .before .before .before .entry-at in
-    let found2 = c .before .before .before .before .before .before .found in
+    let found′ = c .before .before .before .before .before .before .found in
     let mark-of = c .before .before .before .mark-of in (
       loop .inv .0 .few,
-      found (args .line .now) (loop .at) (entry-end .result) (found2 .given .0 .0) (found2 .given .0 .1 .0) (entry-at .result) (entry-end .ensures)
-          (entry-at .ensures) (found2 .given .1) .inside,
+      found (args .line .now) (loop .at) (entry-end .result) (found′ .given .0 .0) (found′ .given .0 .1 .0) (entry-at .result) (entry-end .ensures)
+          (entry-at .ensures) (found′ .given .1) .inside,
       loop .inv .0 .listed,
       loop .inv .2,
       mark-of .ensures,
@@ -98,13 +98,13 @@ returns-4 c =
     let loop = c .before .before .before .before .before .before .before .before .before .before .before .before .before .loop in
     let entry-end = c .before .before .before .before .before .before .before .before .before .before .before .before .entry-end in
     let entry-at = c .before .before .before .before .before .before .before .before .before .before .before .entry-at in
-    let found2 = c .before .before .before .before .before .before .before .before .before .found in
+    let found′ = c .before .before .before .before .before .before .before .before .before .found in
     let is-repeated = c .before .before .is-repeated in
     c .no-names3 .ensures
     ∙ repeated (args .line .now) (loop .starts) (loop .lengths) (loop .kinds) (loop .count) (loop .at) (entry-end .result) (loop .inv .0)
-    (entry-end .ensures) (found2 .given .0 .0) (found2 .given .0 .1 .0)
-    (found (args .line .now) (loop .at) (entry-end .result) (found2 .given .0 .0) (found2 .given .0 .1 .0) (entry-at .result) (entry-end .ensures)
-    (entry-at .ensures) (found2 .given .1))
+    (entry-end .ensures) (found′ .given .0 .0) (found′ .given .0 .1 .0)
+    (found (args .line .now) (loop .at) (entry-end .result) (found′ .given .0 .0) (found′ .given .0 .1 .0) (entry-at .result) (entry-end .ensures)
+    (entry-at .ensures) (found′ .given .1))
     (is-repeated .result) (is-repeated .ensures) (c .before .if3 .taken)
 
 mul-starts : tie.Need-mul-starts Inv-loop μ-loop
@@ -149,13 +149,13 @@ returns-5 c =
     let loop = c .before .before .before .before .before .before .before .before .before .before .before .before .before .loop in
     let entry-end = c .before .before .before .before .before .before .before .before .before .before .before .before .entry-end in
     let entry-at = c .before .before .before .before .before .before .before .before .before .before .before .entry-at in
-    let found2 = c .before .before .before .before .before .before .before .before .before .found in
+    let found′ = c .before .before .before .before .before .before .before .before .before .found in
     let if2 = c .before .before .before .before .before .before .before .if2 in
     let is-repeated = c .before .before .is-repeated in
     listing-done (args .line .now) (loop .starts) (loop .lengths) (loop .kinds) (loop .count) (loop .at) (entry-end .result) (loop .inv .0)
-    (entry-end .ensures) (found2 .given .0 .0) (found2 .given .0 .1 .0)
-    (found (args .line .now) (loop .at) (entry-end .result) (found2 .given .0 .0) (found2 .given .0 .1 .0) (entry-at .result) (entry-end .ensures)
-    (entry-at .ensures) (found2 .given .1))
+    (entry-end .ensures) (found′ .given .0 .0) (found′ .given .0 .1 .0)
+    (found (args .line .now) (loop .at) (entry-end .result) (found′ .given .0 .0) (found′ .given .0 .1 .0) (entry-at .result) (entry-end .ensures)
+    (entry-at .ensures) (found′ .given .1))
     (is-repeated .result) (is-repeated .ensures) (c .before .if3 .left) (if2 .left) (c .if4 .taken)
 
 add-at : tie.Need-add-at Inv-loop μ-loop
@@ -173,20 +173,20 @@ loop-again c =
     let loop = c .before .before .before .before .before .before .before .before .before .before .before .before .before .loop in
     let entry-end = c .before .before .before .before .before .before .before .before .before .before .before .before .entry-end in
     let entry-at = c .before .before .before .before .before .before .before .before .before .before .before .entry-at in
-    let found2 = c .before .before .before .before .before .before .before .before .before .found in
+    let found′ = c .before .before .before .before .before .before .before .before .before .found in
     let if2 = c .before .before .before .before .before .before .before .if2 in
     let mark-of = c .before .before .before .before .before .before .mark-of in
     let is-repeated = c .before .before .is-repeated in
     let if3 = c .before .if3 in
     let the-found =
-    found (args .line .now) (loop .at) (entry-end .result) (found2 .given .0 .0) (found2 .given .0 .1 .0) (entry-at .result) (entry-end .ensures)
-    (entry-at .ensures) (found2 .given .1) in (
+    found (args .line .now) (loop .at) (entry-end .result) (found′ .given .0 .0) (found′ .given .0 .1 .0) (entry-at .result) (entry-end .ensures)
+    (entry-at .ensures) (found′ .given .1) in (
       listing-more (args .line .now) (loop .starts) (loop .lengths) (loop .kinds) (loop .count) (loop .at) (entry-end .result) (loop .inv .0)
-          (entry-end .ensures) (found2 .given .0 .0) (found2 .given .0 .1 .0) the-found (is-repeated .result) (is-repeated .ensures) (if3 .left) (if2 .left)
+          (entry-end .ensures) (found′ .given .0 .0) (found′ .given .0 .1 .0) the-found (is-repeated .result) (is-repeated .ensures) (if3 .left) (if2 .left)
           (c .if4 .left),
       length-set (loop .marks) (loop .count) (mark-of .result) ∙ loop .inv .1,
       marked-more (args .line .now) (loop .starts) (loop .lengths) (loop .kinds) (loop .count) (loop .at) (entry-end .result) (loop .inv .0)
-          (entry-end .ensures) (found2 .given .0 .0) (found2 .given .0 .1 .0) the-found (is-repeated .result) (is-repeated .ensures) (if3 .left) (if2 .left)
+          (entry-end .ensures) (found′ .given .0 .0) (found′ .given .0 .1 .0) the-found (is-repeated .result) (is-repeated .ensures) (if3 .left) (if2 .left)
           (loop .marks) (mark-of .result) (loop .inv .1) (loop .inv .2) (mark-of .ensures),
     )
 

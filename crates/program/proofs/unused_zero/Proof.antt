@@ -33,15 +33,15 @@ unfolding unused-zero
 returns c =
     let args = c .before .before .before .before .before .before .before .before .before .before .args in
     let lists = c .before .before .before .before .before .before .before .before .before .lists in
-    let zero-unless2 = c .before .before .before .before .before .before .before .before .zero-unless in
+    let zero-unless′ = c .before .before .before .before .before .before .before .before .zero-unless in
     let if1 = c .before .before .before .before .before .before .before .if1 in
-    let zero-unless22 = c .before .before .before .before .before .before .zero-unless2 in
+    let zero-unless2′ = c .before .before .before .before .before .before .zero-unless2 in
     let if2 = c .before .before .before .before .before .if2 in
     let reads-b = c .before .before .before .before .reads-b in
     let zero-unless3 = c .before .before .before .zero-unless3 in
     let if3 = c .before .before .if3 in
-    both (zero-unless2 .ensures ∙ ap (λ (x : Bool). zero-unless x (args .r .count)) (lists .ensures)) (if1 .taken)
-    (both (zero-unless22 .ensures) (if2 .taken)
+    both (zero-unless′ .ensures ∙ ap (λ (x : Bool). zero-unless x (args .r .count)) (lists .ensures)) (if1 .taken)
+    (both (zero-unless2′ .ensures) (if2 .taken)
     (both (zero-unless3 .ensures ∙ ap (λ (x : Bool). zero-unless x (args .r .b)) (reads-b .ensures)) (if3 .taken)
     (c .zero-unless4 .ensures ∙ ap (λ (x : Bool). zero-unless x (args .r .c)) (c .before .reads-c .ensures))))
 
@@ -50,13 +50,13 @@ unfolding unused-zero
 returns-2 c =
     let args = c .before .before .before .before .before .before .before .before .args in
     let lists = c .before .before .before .before .before .before .before .lists in
-    let zero-unless2 = c .before .before .before .before .before .before .zero-unless in
+    let zero-unless′ = c .before .before .before .before .before .before .zero-unless in
     let if1 = c .before .before .before .before .before .if1 in
-    let zero-unless22 = c .before .before .before .before .zero-unless2 in
+    let zero-unless2′ = c .before .before .before .before .zero-unless2 in
     let if2 = c .before .before .before .if2 in
     let reads-b = c .before .before .reads-b in
-    both (zero-unless2 .ensures ∙ ap (λ (x : Bool). zero-unless x (args .r .count)) (lists .ensures)) (if1 .taken)
-    (both (zero-unless22 .ensures) (if2 .taken)
+    both (zero-unless′ .ensures ∙ ap (λ (x : Bool). zero-unless x (args .r .count)) (lists .ensures)) (if1 .taken)
+    (both (zero-unless2′ .ensures) (if2 .taken)
     (stop _ (c .before .zero-unless3 .ensures ∙ ap (λ (x : Bool). zero-unless x (args .r .b)) (reads-b .ensures)) (c .if3 .left)))
 
 returns-3 : tie.Need-returns-3
@@ -64,9 +64,9 @@ unfolding unused-zero
 returns-3 c =
     let args = c .before .before .before .before .before .args in
     let lists = c .before .before .before .before .lists in
-    let zero-unless2 = c .before .before .before .zero-unless in
+    let zero-unless′ = c .before .before .before .zero-unless in
     let if1 = c .before .before .if1 in
-    both (zero-unless2 .ensures ∙ ap (λ (x : Bool). zero-unless x (args .r .count)) (lists .ensures)) (if1 .taken)
+    both (zero-unless′ .ensures ∙ ap (λ (x : Bool). zero-unless x (args .r .count)) (lists .ensures)) (if1 .taken)
     (stop _ (c .before .zero-unless2 .ensures) (c .if2 .left))
 
 returns-4 : tie.Need-returns-4
