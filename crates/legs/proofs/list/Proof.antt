@@ -12,7 +12,7 @@ slice-reshare-prefix-write-all : tie.Need-slice-reshare-prefix-write-all
 slice-reshare-prefix-write-all c = search needs
 
 slice-aggregate-write-all : tie.Need-slice-aggregate-write-all
-slice-aggregate-write-all c = sym (length-take-le (c .before .before .before .start .result .length) (c .before .before .before .start .last .1 .1 .0) (omega (arith, c .before .before .before .start .ensures .1, c .before .before .before .start .kept .1 .1 .0)))
+slice-aggregate-write-all c = sym (length-take-le (@start .result .length) (@start .last .1 .1 .0) (omega (arith, @start .ensures .1, @start .kept .1 .1 .0)))
 
 write-all-requires : tie.Need-write-all-requires
 write-all-requires c κs = search needs
@@ -63,7 +63,7 @@ slice-reshare-prefix-write-all-2 : tie.Need-slice-reshare-prefix-write-all-2
 slice-reshare-prefix-write-all-2 c = search needs
 
 slice-aggregate-write-all-2 : tie.Need-slice-aggregate-write-all-2
-slice-aggregate-write-all-2 c = sym (length-take-le (c .before .before .before .before .before .before .before .before .before .before .before .finish .result) (c .before .before .before .before .before .before .before .before .before .before .before .finish .last .1 .1 .1 .1 .1 .1 .1 .0) (omega (arith, c .before .before .before .before .before .before .before .before .before .before .before .finish .ensures .1, c .before .before .before .before .before .before .before .before .before .before .before .finish .kept .1 .1 .1 .1 .1 .1 .1 .0)))
+slice-aggregate-write-all-2 c = sym (length-take-le (@finish .result) (@finish .last .1 .1 .1 .1 .1 .1 .1 .0) (omega (arith, @finish .ensures .1, @finish .kept .1 .1 .1 .1 .1 .1 .1 .0)))
 
 write-all-requires-2 : tie.Need-write-all-requires-2
 write-all-requires-2 c κs = search needs
@@ -87,7 +87,7 @@ same-length-14 : tie.Need-same-length-14
 same-length-14 c = search needs
 
 same-length-15 : tie.Need-same-length-15
-same-length-15 c = c .before .before .before .before .before .before .before .before .before .before .before .before .finish .kept .1 .1 .1 .1 .1 .1 .1 .0 ∙ (c .before .before .before .before .before .before .before .before .before .before .before .before .before .before .before .before .before .before .before .before .before .before .before .before .before .before .before .before .before .before .before .before .before .before .before .before .feed-all .kept .1 .1 .1 .1 .1 .1 .1 .1 .0 ∙ c .before .before .before .before .before .before .before .before .before .before .before .before .before .before .before .before .before .before .before .before .before .before .before .before .before .before .before .before .before .before .before .before .before .before .before .before .before .before .before .before .before .before .before .before .before .before .before .before .before .start .kept .1 .1 .0)
+same-length-15 c = @finish .kept .1 .1 .1 .1 .1 .1 .1 .0 ∙ (@feed-all .kept .1 .1 .1 .1 .1 .1 .1 .1 .0 ∙ @start .kept .1 .1 .0)
 
 returns-3 : tie.Need-returns-3
 returns-3 c = search needs

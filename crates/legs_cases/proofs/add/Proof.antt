@@ -20,16 +20,16 @@ returns-3 : tie.Need-returns-3
 returns-3 c = search needs
 
 slice-aggregate-put-bytes : tie.Need-slice-aggregate-put-bytes
-slice-aggregate-put-bytes c = sym (length-take-le (c .before .before .before .before .before .before .before .args .n) (c .before .before .before .before .before .before .before .args .out .now) (c .before .before .before .before .if1 .left))
+slice-aggregate-put-bytes c = sym (length-take-le (@args .n) (@args .out .now) (@if1 .left))
 
 put-bytes-requires : tie.Need-put-bytes-requires
-put-bytes-requires c κs = omega (arith, length-take-le (c .before .before .before .before .before .before .before .args .n) (c .before .before .before .before .before .before .before .args .out .now) (c .before .before .before .before .if1 .left), c .before .before .before .if2 .left, c .before .before .if3 .left)
+put-bytes-requires c κs = omega (arith, length-take-le (@args .n) (@args .out .now) (@if1 .left), @if2 .left, @if3 .left)
 
 same-length : tie.Need-same-length
 same-length c = search needs
 
 returns-4 : tie.Need-returns-4
-returns-4 c = (wrote (c .before .before .before .before .before .before .before .before .before .before .args .all .now) (c .before .before .before .before .before .before .before .before .before .before .args .at) (take (c .before .before .before .before .before .before .before .before .before .before .args .n) (c .before .before .before .before .before .before .before .before .before .before .args .out .now)) (c .before .before .put-bytes .last .0) (c .before .before .put-bytes .result) (c .before .before .put-bytes .ensures), omega (arith, c .before .before .put-bytes .ensures .0, length-take-le (c .before .before .before .before .before .before .before .before .before .before .args .n) (c .before .before .before .before .before .before .before .before .before .before .args .out .now) (c .before .before .before .before .before .before .before .if1 .left), c .before .before .before .before .before .before .if2 .left, c .before .before .before .before .before .if3 .left))
+returns-4 c = (wrote (@args .all .now) (@args .at) (take (@args .n) (@args .out .now)) (@put-bytes .last .0) (@put-bytes .result) (@put-bytes .ensures), omega (arith, @put-bytes .ensures .0, length-take-le (@args .n) (@args .out .now) (@if1 .left), @if2 .left, @if3 .left))
 
 pub add-spec : {M : Type 1} → statement M
 add-spec =

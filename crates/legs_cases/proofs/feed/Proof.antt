@@ -17,13 +17,13 @@ abbrev μ-loop : tie.MeasureT-loop
 μ-loop formula input block names₀ path₀ program₀ values₀ regs₀ out₀ all₀ from stage₀ at₀ length₀ names path program values regs out all stage at length = lib.ListN.length input - at
 
 loop-holds : tie.Need-loop-holds Inv-loop μ-loop
-loop-holds c = feeding-start (c .before .before .before .before .before .before .before .before .before .args .formula .now) (c .before .before .before .before .before .before .before .before .before .args .input .now) (memory (c .before .before .before .before .before .before .before .before .before .args .names .now) (c .before .before .before .before .before .before .before .before .before .args .path .now) (c .before .before .before .before .before .before .before .before .before .args .program .now) (c .before .before .before .before .before .before .before .before .before .args .values .now) (c .before .before .before .before .before .before .before .before .before .args .regs .now)) (c .before .before .before .before .before .before .before .before .before .args .start) (c .before .before .before .before .before .before .before .before .before .args .out .now) (c .before .before .before .before .before .before .before .before .before .args .all .now) (c .before .before .before .before .before .before .before .before .before .args .from)
+loop-holds c = feeding-start (@args .formula .now) (@args .input .now) (memory (@args .names .now) (@args .path .now) (@args .program .now) (@args .values .now) (@args .regs .now)) (@args .start) (@args .out .now) (@args .all .now) (@args .from)
 
 block-end-requires : tie.Need-block-end-requires Inv-loop μ-loop
-block-end-requires c κs = c .before .loop .inv .inside
+block-end-requires c κs = @loop .inv .inside
 
 sub-advance : tie.Need-sub-advance Inv-loop μ-loop
-sub-advance c = c .block-end .ensures .0
+sub-advance c = @block-end .ensures .0
 
 part-advance-start : tie.Need-part-advance-start Inv-loop μ-loop
 part-advance-start c = search needs
@@ -44,85 +44,85 @@ enum-told : tie.Need-enum-told Inv-loop μ-loop
 enum-told c = search needs
 
 same-length : tie.Need-same-length Inv-loop μ-loop
-same-length c = c .before .before .before .before .before .before .before .before .before .before .before .before .before .before .before .before .before .before .before .advance .kept .1 .1 .1 .0 ∙ c .before .before .before .before .before .before .before .before .before .before .before .before .before .before .before .before .before .before .before .before .before .before .before .before .before .before .before .before .before .loop .inv .names
+same-length c = @advance .kept .1 .1 .1 .0 ∙ @loop .inv .names
 
 same-length-2 : tie.Need-same-length-2 Inv-loop μ-loop
-same-length-2 c = c .before .before .before .before .before .before .before .before .before .before .before .before .before .before .before .before .before .before .before .advance .kept .1 .1 .1 .1 .0 ∙ c .before .before .before .before .before .before .before .before .before .before .before .before .before .before .before .before .before .before .before .before .before .before .before .before .before .before .before .before .before .loop .inv .path
+same-length-2 c = @advance .kept .1 .1 .1 .1 .0 ∙ @loop .inv .path
 
 same-length-3 : tie.Need-same-length-3 Inv-loop μ-loop
-same-length-3 c = c .before .before .before .before .before .before .before .before .before .before .before .before .before .before .before .before .before .before .before .advance .kept .1 .1 .1 .1 .1 .0 ∙ c .before .before .before .before .before .before .before .before .before .before .before .before .before .before .before .before .before .before .before .before .before .before .before .before .before .before .before .before .before .loop .inv .program
+same-length-3 c = @advance .kept .1 .1 .1 .1 .1 .0 ∙ @loop .inv .program
 
 same-length-4 : tie.Need-same-length-4 Inv-loop μ-loop
-same-length-4 c = c .before .before .before .before .before .before .before .before .before .before .before .before .before .before .before .before .before .before .before .advance .kept .1 .1 .1 .1 .1 .1 .0 ∙ c .before .before .before .before .before .before .before .before .before .before .before .before .before .before .before .before .before .before .before .before .before .before .before .before .before .before .before .before .before .loop .inv .values
+same-length-4 c = @advance .kept .1 .1 .1 .1 .1 .1 .0 ∙ @loop .inv .values
 
 same-length-5 : tie.Need-same-length-5 Inv-loop μ-loop
-same-length-5 c = c .before .before .before .before .before .before .before .before .before .before .before .before .before .before .before .before .before .before .before .advance .kept .1 .1 .1 .1 .1 .1 .1 .0 ∙ c .before .before .before .before .before .before .before .before .before .before .before .before .before .before .before .before .before .before .before .before .before .before .before .before .before .before .before .before .before .loop .inv .regs
+same-length-5 c = @advance .kept .1 .1 .1 .1 .1 .1 .1 .0 ∙ @loop .inv .regs
 
 same-length-6 : tie.Need-same-length-6 Inv-loop μ-loop
-same-length-6 c = c .before .before .before .before .before .before .before .before .before .before .before .before .before .before .before .before .before .before .before .advance .kept .1 .1 .1 .1 .1 .1 .1 .1 .0 ∙ c .before .before .before .before .before .before .before .before .before .before .before .before .before .before .before .before .before .before .before .before .before .before .before .before .before .before .before .before .before .loop .inv .output
+same-length-6 c = @advance .kept .1 .1 .1 .1 .1 .1 .1 .1 .0 ∙ @loop .inv .output
 
 same-length-7 : tie.Need-same-length-7 Inv-loop μ-loop
-same-length-7 c = c .before .before .before .before .add .kept .0 ∙ c .before .before .before .before .before .before .before .before .before .before .before .before .before .before .before .before .before .before .before .before .before .before .before .before .before .before .before .before .before .loop .inv .whole
+same-length-7 c = @add .kept .0 ∙ @loop .inv .whole
 
 returns : tie.Need-returns Inv-loop μ-loop
 returns c = tt
 
 same-length-8 : tie.Need-same-length-8 Inv-loop μ-loop
-same-length-8 c = c .before .before .before .before .before .before .before .before .before .before .before .before .before .before .before .before .before .before .before .before .before .advance .kept .1 .1 .1 .0 ∙ c .before .before .before .before .before .before .before .before .before .before .before .before .before .before .before .before .before .before .before .before .before .before .before .before .before .before .before .before .before .before .before .loop .inv .names
+same-length-8 c = @advance .kept .1 .1 .1 .0 ∙ @loop .inv .names
 
 same-length-9 : tie.Need-same-length-9 Inv-loop μ-loop
-same-length-9 c = c .before .before .before .before .before .before .before .before .before .before .before .before .before .before .before .before .before .before .before .before .before .advance .kept .1 .1 .1 .1 .0 ∙ c .before .before .before .before .before .before .before .before .before .before .before .before .before .before .before .before .before .before .before .before .before .before .before .before .before .before .before .before .before .before .before .loop .inv .path
+same-length-9 c = @advance .kept .1 .1 .1 .1 .0 ∙ @loop .inv .path
 
 same-length-10 : tie.Need-same-length-10 Inv-loop μ-loop
-same-length-10 c = c .before .before .before .before .before .before .before .before .before .before .before .before .before .before .before .before .before .before .before .before .before .advance .kept .1 .1 .1 .1 .1 .0 ∙ c .before .before .before .before .before .before .before .before .before .before .before .before .before .before .before .before .before .before .before .before .before .before .before .before .before .before .before .before .before .before .before .loop .inv .program
+same-length-10 c = @advance .kept .1 .1 .1 .1 .1 .0 ∙ @loop .inv .program
 
 same-length-11 : tie.Need-same-length-11 Inv-loop μ-loop
-same-length-11 c = c .before .before .before .before .before .before .before .before .before .before .before .before .before .before .before .before .before .before .before .before .before .advance .kept .1 .1 .1 .1 .1 .1 .0 ∙ c .before .before .before .before .before .before .before .before .before .before .before .before .before .before .before .before .before .before .before .before .before .before .before .before .before .before .before .before .before .before .before .loop .inv .values
+same-length-11 c = @advance .kept .1 .1 .1 .1 .1 .1 .0 ∙ @loop .inv .values
 
 same-length-12 : tie.Need-same-length-12 Inv-loop μ-loop
-same-length-12 c = c .before .before .before .before .before .before .before .before .before .before .before .before .before .before .before .before .before .before .before .before .before .advance .kept .1 .1 .1 .1 .1 .1 .1 .0 ∙ c .before .before .before .before .before .before .before .before .before .before .before .before .before .before .before .before .before .before .before .before .before .before .before .before .before .before .before .before .before .before .before .loop .inv .regs
+same-length-12 c = @advance .kept .1 .1 .1 .1 .1 .1 .1 .0 ∙ @loop .inv .regs
 
 same-length-13 : tie.Need-same-length-13 Inv-loop μ-loop
-same-length-13 c = c .before .before .before .before .before .before .before .before .before .before .before .before .before .before .before .before .before .before .before .before .before .advance .kept .1 .1 .1 .1 .1 .1 .1 .1 .0 ∙ c .before .before .before .before .before .before .before .before .before .before .before .before .before .before .before .before .before .before .before .before .before .before .before .before .before .before .before .before .before .before .before .loop .inv .output
+same-length-13 c = @advance .kept .1 .1 .1 .1 .1 .1 .1 .1 .0 ∙ @loop .inv .output
 
 same-length-14 : tie.Need-same-length-14 Inv-loop μ-loop
-same-length-14 c = c .before .before .before .before .before .before .add .kept .0 ∙ c .before .before .before .before .before .before .before .before .before .before .before .before .before .before .before .before .before .before .before .before .before .before .before .before .before .before .before .before .before .before .before .loop .inv .whole
+same-length-14 c = @add .kept .0 ∙ @loop .inv .whole
 
 returns-2 : tie.Need-returns-2 Inv-loop μ-loop
 returns-2 c = tt
 
 add-at : tie.Need-add-at Inv-loop μ-loop
-add-at c = record { fits = omega (arith, c .before .before .before .before .before .before .before .before .before .before .before .before .before .before .before .before .before .before .before .before .before .advance .ensures .1 .0, block-long (c .before .before .before .before .before .before .before .before .before .before .before .before .before .before .before .before .before .before .before .before .before .before .before .before .before .before .before .before .before .before .before .loop .at) (c .before .before .before .before .before .before .before .before .before .before .before .before .before .before .before .before .before .before .before .before .before .before .before .before .before .before .before .before .before .block-end .result) (c .before .before .before .before .before .before .before .before .before .before .before .before .before .before .before .before .before .before .before .before .before .before .before .before .before .before .before .before .before .before .before .before .before .before .before .before .before .before .before .before .before .args .input .now), c .before .before .before .before .before .before .before .before .before .before .before .before .before .before .before .before .before .before .before .before .before .before .before .before .before .before .before .before .before .block-end .ensures .1, c .before .before .before .before .before .before .before .before .before .before .before .before .before .before .before .before .before .before .before .before .before .before .before .before .before .before .before .before .before .block-end .ensures .0, c .before .before .before .before .before .before .before .before .before .before .before .before .before .before .before .before .before .before .before .before .before .before .before .before .before .before .before .before .before .before .before .before .before .before .before .before .before .before .before .before .before .good .1 .0 .0) }
+add-at c = record { fits = omega (arith, @advance .ensures .1 .0, block-long (@loop .at) (@block-end .result) (@args .input .now), @block-end .ensures .1, @block-end .ensures .0, @good .1 .0 .0) }
 
 loop-less : tie.Need-loop-less Inv-loop μ-loop
-loop-less c = omega (arith, c .if1 .left, c .before .before .before .before .before .before .before .before .before .before .before .before .before .before .before .before .before .before .before .before .before .advance .ensures .1 .0, block-long (c .before .before .before .before .before .before .before .before .before .before .before .before .before .before .before .before .before .before .before .before .before .before .before .before .before .before .before .before .before .before .before .loop .at) (c .before .before .before .before .before .before .before .before .before .before .before .before .before .before .before .before .before .before .before .before .before .before .before .before .before .before .before .before .before .block-end .result) (c .before .before .before .before .before .before .before .before .before .before .before .before .before .before .before .before .before .before .before .before .before .before .before .before .before .before .before .before .before .before .before .before .before .before .before .before .before .before .before .before .before .args .input .now), c .before .before .before .before .before .before .before .before .before .before .before .before .before .before .before .before .before .before .before .before .before .before .before .before .before .before .before .before .before .block-end .ensures .1, c .before .before .before .before .before .before .before .before .before .before .before .before .before .before .before .before .before .before .before .before .before .before .before .before .before .before .before .before .before .block-end .ensures .0, c .before .before .before .before .before .before .before .before .before .before .before .before .before .before .before .before .before .before .before .before .before .before .before .before .before .before .before .before .before .before .before .loop .inv .inside)
+loop-less c = omega (arith, @if1 .left, @advance .ensures .1 .0, block-long (@loop .at) (@block-end .result) (@args .input .now), @block-end .ensures .1, @block-end .ensures .0, @loop .inv .inside)
 
 loop-again : tie.Need-loop-again Inv-loop μ-loop
-loop-again c = feeding-step (c .before .before .before .before .before .before .before .before .before .before .before .before .before .before .before .before .before .before .before .before .before .before .before .before .before .before .before .before .before .before .before .before .before .before .before .before .before .before .before .before .before .args .formula .now) (c .before .before .before .before .before .before .before .before .before .before .before .before .before .before .before .before .before .before .before .before .before .before .before .before .before .before .before .before .before .before .before .before .before .before .before .before .before .before .before .before .before .args .input .now) (memory (c .before .before .before .before .before .before .before .before .before .before .before .before .before .before .before .before .before .before .before .before .before .before .before .before .before .before .before .before .before .before .before .before .before .before .before .before .before .before .before .before .before .args .names .now) (c .before .before .before .before .before .before .before .before .before .before .before .before .before .before .before .before .before .before .before .before .before .before .before .before .before .before .before .before .before .before .before .before .before .before .before .before .before .before .before .before .before .args .path .now) (c .before .before .before .before .before .before .before .before .before .before .before .before .before .before .before .before .before .before .before .before .before .before .before .before .before .before .before .before .before .before .before .before .before .before .before .before .before .before .before .before .before .args .program .now) (c .before .before .before .before .before .before .before .before .before .before .before .before .before .before .before .before .before .before .before .before .before .before .before .before .before .before .before .before .before .before .before .before .before .before .before .before .before .before .before .before .before .args .values .now) (c .before .before .before .before .before .before .before .before .before .before .before .before .before .before .before .before .before .before .before .before .before .before .before .before .before .before .before .before .before .before .before .before .before .before .before .before .before .before .before .before .before .args .regs .now)) (c .before .before .before .before .before .before .before .before .before .before .before .before .before .before .before .before .before .before .before .before .before .before .before .before .before .before .before .before .before .before .before .before .before .before .before .before .before .before .before .before .before .args .start) (c .before .before .before .before .before .before .before .before .before .before .before .before .before .before .before .before .before .before .before .before .before .before .before .before .before .before .before .before .before .before .before .before .before .before .before .before .before .before .before .before .before .args .out .now) (c .before .before .before .before .before .before .before .before .before .before .before .before .before .before .before .before .before .before .before .before .before .before .before .before .before .before .before .before .before .before .before .before .before .before .before .before .before .before .before .before .before .args .all .now) (c .before .before .before .before .before .before .before .before .before .before .before .before .before .before .before .before .before .before .before .before .before .before .before .before .before .before .before .before .before .before .before .before .before .before .before .before .before .before .before .before .before .args .from) (c .before .before .before .before .before .before .before .before .before .before .before .before .before .before .before .before .before .before .before .before .before .before .before .before .before .before .before .before .before .before .before .loop .at) (memory (c .before .before .before .before .before .before .before .before .before .before .before .before .before .before .before .before .before .before .before .before .before .before .before .before .before .before .before .before .before .before .before .loop .names) (c .before .before .before .before .before .before .before .before .before .before .before .before .before .before .before .before .before .before .before .before .before .before .before .before .before .before .before .before .before .before .before .loop .path) (c .before .before .before .before .before .before .before .before .before .before .before .before .before .before .before .before .before .before .before .before .before .before .before .before .before .before .before .before .before .before .before .loop .program) (c .before .before .before .before .before .before .before .before .before .before .before .before .before .before .before .before .before .before .before .before .before .before .before .before .before .before .before .before .before .before .before .loop .values) (c .before .before .before .before .before .before .before .before .before .before .before .before .before .before .before .before .before .before .before .before .before .before .before .before .before .before .before .before .before .before .before .loop .regs)) (c .before .before .before .before .before .before .before .before .before .before .before .before .before .before .before .before .before .before .before .before .before .before .before .before .before .before .before .before .before .before .before .loop .stage) (c .before .before .before .before .before .before .before .before .before .before .before .before .before .before .before .before .before .before .before .before .before .before .before .before .before .before .before .before .before .before .before .loop .out) (c .before .before .before .before .before .before .before .before .before .before .before .before .before .before .before .before .before .before .before .before .before .before .before .before .before .before .before .before .before .before .before .loop .all) (c .before .before .before .before .before .before .before .before .before .before .before .before .before .before .before .before .before .before .before .before .before .before .before .before .before .before .before .before .before .before .before .loop .length) (c .before .before .before .before .before .before .before .before .before .before .before .before .before .before .before .before .before .before .before .before .before .before .before .before .before .before .before .before .before .before .before .loop .inv) (c .before .before .before .before .before .before .before .before .before .before .before .before .before .before .before .before .before .before .before .before .before .before .before .before .before .before .before .before .before .block-end .result) (c .before .before .before .before .before .before .before .before .before .before .before .before .before .before .before .before .before .before .before .before .before .advance .result .used) (memory (c .before .before .before .before .before .before .before .before .before .before .before .before .before .before .before .before .before .before .before .before .before .advance .last .1 .1 .1 .0) (c .before .before .before .before .before .before .before .before .before .before .before .before .before .before .before .before .before .before .before .before .before .advance .last .1 .1 .1 .1 .0) (c .before .before .before .before .before .before .before .before .before .before .before .before .before .before .before .before .before .before .before .before .before .advance .last .1 .1 .1 .1 .1 .0) (c .before .before .before .before .before .before .before .before .before .before .before .before .before .before .before .before .before .before .before .before .before .advance .last .1 .1 .1 .1 .1 .1 .0) (c .before .before .before .before .before .before .before .before .before .before .before .before .before .before .before .before .before .before .before .before .before .advance .last .1 .1 .1 .1 .1 .1 .1 .0)) (c .before .before .before .before .before .before .before .before .before .before .before .before .before .before .before .before .before .before .before .before .before .advance .result .stage) (c .before .before .before .before .before .before .before .before .before .before .before .before .before .before .before .before .before .before .before .before .before .advance .last .1 .1 .1 .1 .1 .1 .1 .1 .0) (c .before .before .before .before .before .before .add .last .0) (c .before .before .added .given .0 .0) (c .before .before .before .before .before .before .before .before .before .before .before .before .before .before .before .before .before .before .before .before .before .advance .result .length) (c .before .before .before .before .before .before .before .before .before .before .before .before .before .before .before .before .before .before .before .before .before .before .before .before .before .before .before .before .before .block-end .ensures .1) (c .before .before .before .before .before .before .before .before .before .before .before .before .before .before .before .before .before .before .before .before .before .advance .ensures .1 .0) (c .before .before .before .before .before .before .before .before .before .before .before .before .before .before .before .before .before .before .before .before .before .advance .kept .1 .1 .1 .0) (c .before .before .before .before .before .before .before .before .before .before .before .before .before .before .before .before .before .before .before .before .before .advance .kept .1 .1 .1 .1 .0) (c .before .before .before .before .before .before .before .before .before .before .before .before .before .before .before .before .before .before .before .before .before .advance .kept .1 .1 .1 .1 .1 .0) (c .before .before .before .before .before .before .before .before .before .before .before .before .before .before .before .before .before .before .before .before .before .advance .kept .1 .1 .1 .1 .1 .1 .0) (c .before .before .before .before .before .before .before .before .before .before .before .before .before .before .before .before .before .before .before .before .before .advance .kept .1 .1 .1 .1 .1 .1 .1 .0) (c .before .before .before .before .before .before .before .before .before .before .before .before .before .before .before .before .before .before .before .before .before .advance .kept .1 .1 .1 .1 .1 .1 .1 .1 .0) (c .before .before .before .before .before .before .add .kept .0) (c .before .before .before .before .before .before .before .before .before .before .before .before .before .before .before .before .before .before .before .before .before .advance .ensures .0) (subst (λ (x : Listing). Copies (c .before .before .before .before .before .before .before .before .before .before .before .before .before .before .before .before .before .before .before .before .before .before .before .before .before .before .before .before .before .before .before .loop .all) (c .before .before .before .before .before .before .before .before .before .before .before .before .before .before .before .before .before .before .before .before .before .before .before .before .before .before .before .before .before .before .before .loop .length) (c .before .before .before .before .before .before .before .before .before .before .before .before .before .before .before .before .before .before .before .before .before .advance .last .1 .1 .1 .1 .1 .1 .1 .1 .0) (c .before .before .before .before .before .before .before .before .before .before .before .before .before .before .before .before .before .before .before .before .before .advance .result .length) x (c .before .before .before .before .before .before .add .last .0)) (c .before .before .added .given .1) (c .before .before .before .before .before .before .add .ensures))
+loop-again c = feeding-step (@args .formula .now) (@args .input .now) (memory (@args .names .now) (@args .path .now) (@args .program .now) (@args .values .now) (@args .regs .now)) (@args .start) (@args .out .now) (@args .all .now) (@args .from) (@loop .at) (memory (@loop .names) (@loop .path) (@loop .program) (@loop .values) (@loop .regs)) (@loop .stage) (@loop .out) (@loop .all) (@loop .length) (@loop .inv) (@block-end .result) (@advance .result .used) (memory (@advance .last .1 .1 .1 .0) (@advance .last .1 .1 .1 .1 .0) (@advance .last .1 .1 .1 .1 .1 .0) (@advance .last .1 .1 .1 .1 .1 .1 .0) (@advance .last .1 .1 .1 .1 .1 .1 .1 .0)) (@advance .result .stage) (@advance .last .1 .1 .1 .1 .1 .1 .1 .1 .0) (@add .last .0) (@added .given .0 .0) (@advance .result .length) (@block-end .ensures .1) (@advance .ensures .1 .0) (@advance .kept .1 .1 .1 .0) (@advance .kept .1 .1 .1 .1 .0) (@advance .kept .1 .1 .1 .1 .1 .0) (@advance .kept .1 .1 .1 .1 .1 .1 .0) (@advance .kept .1 .1 .1 .1 .1 .1 .1 .0) (@advance .kept .1 .1 .1 .1 .1 .1 .1 .1 .0) (@add .kept .0) (@advance .ensures .0) (subst (λ (x : Listing). Copies (@loop .all) (@loop .length) (@advance .last .1 .1 .1 .1 .1 .1 .1 .1 .0) (@advance .result .length) x (@add .last .0)) (@added .given .1) (@add .ensures))
 
 same-length-15 : tie.Need-same-length-15 Inv-loop μ-loop
-same-length-15 c = c .before .loop .inv .names
+same-length-15 c = @loop .inv .names
 
 same-length-16 : tie.Need-same-length-16 Inv-loop μ-loop
-same-length-16 c = c .before .loop .inv .path
+same-length-16 c = @loop .inv .path
 
 same-length-17 : tie.Need-same-length-17 Inv-loop μ-loop
-same-length-17 c = c .before .loop .inv .program
+same-length-17 c = @loop .inv .program
 
 same-length-18 : tie.Need-same-length-18 Inv-loop μ-loop
-same-length-18 c = c .before .loop .inv .values
+same-length-18 c = @loop .inv .values
 
 same-length-19 : tie.Need-same-length-19 Inv-loop μ-loop
-same-length-19 c = c .before .loop .inv .regs
+same-length-19 c = @loop .inv .regs
 
 same-length-20 : tie.Need-same-length-20 Inv-loop μ-loop
-same-length-20 c = c .before .loop .inv .output
+same-length-20 c = @loop .inv .output
 
 same-length-21 : tie.Need-same-length-21 Inv-loop μ-loop
-same-length-21 c = c .before .loop .inv .whole
+same-length-21 c = @loop .inv .whole
 
 returns-3 : tie.Need-returns-3 Inv-loop μ-loop
-returns-3 c = feeding-end (c .before .before .before .before .before .before .before .before .before .before .before .args .formula .now) (c .before .before .before .before .before .before .before .before .before .before .before .args .input .now) (memory (c .before .before .before .before .before .before .before .before .before .before .before .args .names .now) (c .before .before .before .before .before .before .before .before .before .before .before .args .path .now) (c .before .before .before .before .before .before .before .before .before .before .before .args .program .now) (c .before .before .before .before .before .before .before .before .before .before .before .args .values .now) (c .before .before .before .before .before .before .before .before .before .before .before .args .regs .now)) (c .before .before .before .before .before .before .before .before .before .before .before .args .start) (c .before .before .before .before .before .before .before .before .before .before .before .args .out .now) (c .before .before .before .before .before .before .before .before .before .before .before .args .all .now) (c .before .before .before .before .before .before .before .before .before .before .before .args .from) (c .before .loop .at) (memory (c .before .loop .names) (c .before .loop .path) (c .before .loop .program) (c .before .loop .values) (c .before .loop .regs)) (c .before .loop .stage) (c .before .loop .out) (c .before .loop .all) (c .before .loop .length) (c .before .loop .inv) (c .loop-test .left)
+returns-3 c = feeding-end (@args .formula .now) (@args .input .now) (memory (@args .names .now) (@args .path .now) (@args .program .now) (@args .values .now) (@args .regs .now)) (@args .start) (@args .out .now) (@args .all .now) (@args .from) (@loop .at) (memory (@loop .names) (@loop .path) (@loop .program) (@loop .values) (@loop .regs)) (@loop .stage) (@loop .out) (@loop .all) (@loop .length) (@loop .inv) (@loop-test .left)
 
 pub feed-spec : {M : Type 1} → statement M
 feed-spec =

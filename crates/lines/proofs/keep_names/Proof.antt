@@ -21,7 +21,7 @@ same-length : tie.Need-same-length Inv-loop μ-loop
 same-length c = c .before .before .before .loop .inv .same-length
 
 returns : tie.Need-returns Inv-loop μ-loop
-returns c = ((c .before .before .before .loop .inv .inside, c .before .before .before .loop .inv .no-newline, λ l. c .if1 .taken), c .before .before .before .loop .inv .on)
+returns c = let i = c .before .before .before .loop .inv in ((i .inside, i .no-newline, λ l. c .if1 .taken), (i .on, i .holds))
 
 keep-byte-requires : tie.Need-keep-byte-requires Inv-loop μ-loop
 keep-byte-requires c κs = tt
@@ -39,7 +39,7 @@ same-length-2 : tie.Need-same-length-2 Inv-loop μ-loop
 same-length-2 c = c .before .loop .inv .same-length
 
 returns-2 : tie.Need-returns-2 Inv-loop μ-loop
-returns-2 c = ((c .before .loop .inv .inside, c .before .loop .inv .no-newline, λ l. absurd (omega (arith, c .loop-test .left))), c .before .loop .inv .on)
+returns-2 c = let i = c .before .loop .inv in ((i .inside, i .no-newline, λ l. absurd (omega (arith, c .loop-test .left))), (i .on, i .holds))
 
 pub keep-names-spec : {M : Type 1} → statement M
 keep-names-spec =

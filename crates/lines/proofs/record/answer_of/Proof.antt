@@ -2,7 +2,6 @@ use Rattle.lines.proofs.Runs.{found-malformed, found-many, found-run}
 use Rattle.lines.specs.declared.record.Outcome.{Outcome}
 use Rattle.run.specs.Views.{Writable}
 use lib.Seq.{length-take-le}
-use lib.ListN.{length}
 use mathlib.Core.Path.{sym, subst}
 use native.Mathlib.Omega.{arith}
 use borrow.Author.Needs.{needs}
@@ -22,7 +21,7 @@ refused-requires-2 : tie.Need-refused-requires-2
 refused-requires-2 c κs = search needs
 
 returns : tie.Need-returns
-returns c = (found-many (c .before .before .before .before .before .before .before .before .args .p .now) (c .before .before .before .before .before .before .before .before .args .found) (c .before .before .before .before .before .before .before .before .args .values .now) (length (c .before .before .before .before .before .before .before .before .args .regs .now)) (c .before .before .before .before .before .before .before .before .pre) (c .before .before .before .found .given .0 .0) (c .refused2 .result) (c .before .before .before .found .given .1) (c .before .if1 .taken) (c .refused2 .ensures), subst (λ (o : Outcome). Writable (c .before .before .before .before .before .before .before .before .args .p .now) 8192 (o .answer)) (sym (c .refused2 .ensures)) (λ z. omega arith))
+returns c = (found-many (c .before .before .before .before .before .before .before .before .args .p .now) (c .before .before .before .before .before .before .before .before .args .found) (c .before .before .before .before .before .before .before .before .args .values .now) (c .before .before .before .found .given .0 .0) (c .refused2 .result) (c .before .before .before .found .given .1) (c .before .if1 .taken) (c .refused2 .ensures), subst (λ (o : Outcome). Writable (c .before .before .before .before .before .before .before .before .args .p .now) 8192 (o .answer)) (sym (c .refused2 .ensures)) (λ z. omega arith))
 
 slice-aggregate-run-values : tie.Need-slice-aggregate-run-values
 slice-aggregate-run-values c = sym (length-take-le (c .before .before .before .found .given .0 .0) (c .before .before .before .before .before .before .before .before .args .values .now) (c .before .if1 .left))
