@@ -1,95 +1,28 @@
--- Blocks of input, each used part by part.
-use mathlib.Core.Path.{_≡_, refl, sym, ap, _∙_, subst}
+-- All blocks of standard input, one after another.
+use mathlib.Core.Path.{_≡_, refl, _∙_}
 use mathlib.Core.List.{List, [], _++_}
 use Prim.Native.Nat.{ℕ, _+_, _-_, _*_, _≤_, _<_}
 use native.Mathlib.Omega.{arith}
-use lib.ListN.{length, take, drop, length-drop, length-take}
-use lib.Seq.{take-add, take-all}
+use lib.ListN.{length, take, length-take}
 use borrow.Rule.Slice.PartMut.{midOf}
-use Rattle.lines.specs.declared.Advanced.{Advanced}
 use Rattle.lines.specs.declared.Stage.{Stage}
-use Rattle.lines.specs.Owed.{Advances, Memory, line-number}
-use Rattle.lines.specs.Calls.{Advancing}
+use Rattle.lines.specs.Owed.{Memory, line-number}
+use Rattle.lines.specs.Calls.{Feedable}
 use Rattle.lines.proofs.Compose.{advances-none, advances-then, stands-after}
+use Rattle.lines.proofs.Feeding.{Feeding, Same-lengths, feeding-end, part-long, same-start, same-then}
 use Rattle.legs.specs.declared.Fed.the-variants.{On}
-use Rattle.legs.specs.Fed.{Feedable, Feedable-all, Feeds, Feeds-all}
+use Rattle.legs.specs.Fed.{Feedable-all, Feeds, Feeds-all}
 
-rest-is : (at : ℕ) (xs : List ℕ) → midOf at (length xs - at) xs ≡ drop at xs
-rest-is at xs = take-all (length xs - at) (drop at xs) (omega (arith, length-drop at xs))
+pub mid-long : (at : ℕ) (xs : List ℕ) → length (midOf at (length xs - at) xs) ≡ length xs - at
+mid-long at xs = part-long at (length xs) xs (omega arith)
 
-pub mid-long : {A : Type 0} (at : ℕ) (xs : List A) → length (midOf at (length xs - at) xs) ≡ length xs - at
-mid-long at xs = ap length (take-all (length xs - at) (drop at xs) (omega (arith, length-drop at xs))) ∙ length-drop at xs
+-- a whole block was used
+pub feeds : (formula input : List ℕ) (m : Memory) (s : Stage) (out : List ℕ) (at : ℕ) (m′ : Memory) (s′ : Stage) (out′ text : List ℕ) → Feeding formula input m s out at m′ s′ out′ text
+    → length input ≤ at → Feeds formula m s input m′ (On s′)
+feeds formula input m s out at m′ s′ out′ text g h =
+    (text, feeding-end formula input m s out at m′ s′ out′ text g h, let n = g .numbered in let i = g .inside in omega arith)
 
--- slices keep their lengths
-pub record Same-lengths (m : Memory) (out : List ℕ) (m′ : Memory) (out′ : List ℕ) : Type 0 where
-  pub names : length (m′ .names) ≡ length (m .names)
-  pub path : length (m′ .path) ≡ length (m .path)
-  pub program : length (m′ .program) ≡ length (m .program)
-  pub values : length (m′ .values) ≡ length (m .values)
-  pub regs : length (m′ .regs) ≡ length (m .regs)
-  pub output : length out′ ≡ length out
-
-same-start : (m : Memory) (out : List ℕ) → Same-lengths m out m out
-same-start m out = record { names = refl; path = refl; program = refl; values = refl; regs = refl; output = refl }
-
-pub same-then : (m : Memory) (out : List ℕ) (m′ : Memory) (out′ : List ℕ) (m″ : Memory) (out″ : List ℕ) → Same-lengths m out m′ out′ → Same-lengths m′ out′ m″ out″ → Same-lengths m out m″ out″
-same-then m out m′ out′ m″ out″ a b =
-    record {
-      names = b .names ∙ a .names;
-      path = b .path ∙ a .path;
-      program = b .program ∙ a .program;
-      values = b .values ∙ a .values;
-      regs = b .regs ∙ a .regs;
-      output = b .output ∙ a .output;
-    }
-
--- ---- one block
-
-pub record Feeding (formula input : List ℕ) (m : Memory) (s : Stage) (out : List ℕ) (at : ℕ) (m′ : Memory) (s′ : Stage) (out′ : List ℕ) : Type 0 where
-  pub inside : at ≤ length input
-  pub same : Same-lengths m out m′ out′
-  pub text : List ℕ
-  pub advances : Advances formula m s (take at input) m′ s′ text
-  pub numbered : line-number s′ ≤ line-number s + at
-
-pub feeding-start : (formula input : List ℕ) (m : Memory) (s : Stage) (out : List ℕ) → Feeding formula input m s out 0 m s out
-feeding-start formula input m s out =
-    record { inside = omega arith; same = same-start m out; text = []; advances = advances-none formula m s; numbered = omega arith }
-
-module _ (formula input : List ℕ) (m : Memory) (s : Stage) (out : List ℕ) (at : ℕ) (m′ : Memory) (s′ : Stage) (out′ : List ℕ) (g : Feeding formula input m s out at m′ s′ out′) where
-  module _ (r : Advanced) (m″ : Memory) (out″ : List ℕ) (a : Advancing formula (midOf at (length input - at) input) m′ s′ out′ r m″ out″) where
-    -- "used" is never 0: the loop ends
-    pub feeding-used : Feedable formula input m s out → at < length input → 1 ≤ r .used
-    feeding-used f h =
-        let n = g .numbered in
-        let k = f .numbers in
-        a .goes-on (stands-after formula m m′ s s′ (take at input) (g .text) (f .stands) (g .advances)) (let o = g .same .output in let p = f .room in omega arith) (omega arith)
-        (omega (arith, mid-long at input))
-
-    pub feeding-step : Same-lengths m′ out′ m″ out″ → Feeding formula input m s out (at + r .used) m″ (r .stage) out″
-    feeding-step l =
-        let q = rest-is at input in
-        let text = take (r .length) out″ in
-        record {
-          inside = let i = g .inside in let u = a .inside in omega (arith, mid-long at input);
-          same = same-then m out m′ out′ m″ out″ (g .same) l;
-          text = g .text ++ text;
-          advances = subst (λ (xs : List ℕ). Advances formula m s xs m″ (r .stage) (g .text ++ text)) (sym (take-add at (r .used) input))
-              (advances-then formula m m′ m″ s s′ (r .stage) (take at input) (take (r .used) (drop at input)) (g .text) text (g .advances)
-              (subst (λ (xs : List ℕ). Advances formula m′ s′ (take (r .used) xs) m″ (r .stage) text) q (a .advances)));
-          numbered = let n = g .numbered in let k = a .numbered in omega arith;
-        }
-
-  -- the whole block was used
-  pub feeding-end : length input ≤ at → Feeds formula m s input m′ (On s′)
-  feeding-end h = (
-    g .text,
-    subst (λ (xs : List ℕ). Advances formula m s xs m′ s′ (g .text)) (take-all at input h) (g .advances),
-    let n = g .numbered in let i = g .inside in omega arith,
-  )
-
--- ---- all blocks
-
+-- the loop's invariant: there are numbers for the lines of all blocks that may still be read
 pub record Feeding-all (formula block : List ℕ) (m : Memory) (s : Stage) (out : List ℕ) (block′ : List ℕ) (m′ : Memory) (s′ : Stage) (out′ : List ℕ) (turns : ℕ) : Type 0 where
   pub same-block : length block′ ≡ length block
   pub same : Same-lengths m out m′ out′
@@ -106,7 +39,6 @@ module _ (formula block : List ℕ) (m : Memory) (s : Stage) (out : List ℕ) (f
     few : length (take n read) ≤ 65536
     few = let b = f .small in omega (arith, length-take n read)
 
-    -- what `feed` asks
     pub all-feedable : Feedable formula (take n read) m′ s′ out′
     all-feedable =
         let x = g .fed in

@@ -4,7 +4,7 @@ use mathlib.Core.List.{List}
 use Prim.Native.Nat.{ℕ, _+_, _≤_}
 use lib.ListN.{length}
 use Rattle.lines.specs.declared.Stage.{Stage}
-use Rattle.lines.specs.Owed.{Advances, Memory, Roomy, Stands, last-number, line-number, output-room}
+use Rattle.lines.specs.Owed.{Advances, Memory, Roomy, Stands, line-number, output-room}
 use Rattle.legs.specs.declared.Fed.{Fed}
 use Rattle.legs.specs.declared.Fed.the-variants.{Closed, On, TooLong}
 
@@ -24,12 +24,6 @@ pub record Feedable-all (formula block : List ℕ) (m : Memory) (s : Stage) (out
   pub room : output-room ≤ length out
   pub some : 1 ≤ length block
   pub small : length block ≤ 65536
-
--- a stage that stands, and numbers for the lines that may end in the input
-pub record Feedable (formula input : List ℕ) (m : Memory) (s : Stage) (out : List ℕ) : Type 0 where
-  pub stands : Stands formula m s
-  pub room : output-room ≤ length out
-  pub numbers : line-number s + length input ≤ last-number
 
 -- ---- what comes of it
 

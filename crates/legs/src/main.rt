@@ -2,8 +2,9 @@
 // input, a line for each on standard output. What is printed is what `lines` gives; here it is only read and written.
 ghost use Prim.Native.Nat.{_≤_};
 ghost use lib.ListN.{length};
+ghost use Rattle.lines.specs.Calls.{Feedable};
 ghost use Rattle.lines.specs.Owed.{memory};
-ghost use Rattle.legs.specs.Fed.{Feedable, Feedable-all, Feeds, Feeds-all, Lent};
+ghost use Rattle.legs.specs.Fed.{Feedable-all, Feeds, Feeds-all, Lent};
 ghost use Rattle.legs.specs.File.{Within};
 use libc::STDIN_FILENO;
 use libc::STDOUT_FILENO;

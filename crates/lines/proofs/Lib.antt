@@ -13,3 +13,4 @@ pub mod NameLines
 pub mod Stages
 pub mod Calls
 pub mod Compose
+pub mod Feeding

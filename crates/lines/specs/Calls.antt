@@ -109,6 +109,12 @@ pub record Advancing (formula input : List ℕ) (m : Memory) (s : Stage) (out : 
   pub leaves : output-room ≤ length out → Leaves formula input m s r m′
   pub idle : length out < output-room → (r ≡ record { stage = s; used = 0; length = 0 }) × (m′ ≡ m) × (out′ ≡ out)
 
+-- what it takes to hand all of an input on, part by part: a stage that stands, room in the output, and numbers for the lines that may end in the input
+pub record Feedable (formula input : List ℕ) (m : Memory) (s : Stage) (out : List ℕ) : Type 0 where
+  pub stands : Stands formula m s
+  pub room : output-room ≤ length out
+  pub numbers : line-number s + length input ≤ last-number
+
 pub record Finishing (formula : List ℕ) (m : Memory) (s : Stage) (out : List ℕ) (r : ℕ) (m′ : Memory) (out′ : List ℕ) : Type 0 where
   pub ends : output-room ≤ length out → Ends formula m s (take r out′)
   pub room : r ≤ length out
