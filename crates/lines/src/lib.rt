@@ -233,7 +233,8 @@ fn opened(readable: bool, formula: &[u8], out: &mut [u8], at: usize) -> Begun
 pub fn start(readable: bool, formula: &[u8], out: &mut [u8]) -> Begun
     ensures { λ r. ⌜ Starting readable (now (formula .entry)) (now (out .entry)) r (now (out .exit)) ⌝ }
 {
-    if out.len() < 8242 {
+    let room = out.len();
+    if room < 8242 {
         return Begun {
             stage: Stage::Finished,
             length: 0,
@@ -331,7 +332,8 @@ pub fn advance(
 ) -> Advanced
     ensures { λ r. ⌜ Advancing (now (formula .entry)) (now (input .entry)) (memory (now (names .entry)) (now (path .entry)) (now (program .entry)) (now (values .entry)) (now (regs .entry))) stage (now (out .entry)) r (memory (now (names .exit)) (now (path .exit)) (now (program .exit)) (now (values .exit)) (now (regs .exit))) (now (out .exit)) ⌝ }
 {
-    if out.len() < 8242 {
+    let places = out.len();
+    if places < 8242 {
         return stuck(stage);
     }
     match stage {

@@ -70,7 +70,7 @@ loop-less c = let a = c .before .before .before .before .before .before .before 
 
 loop-again : tie.Need-loop-again Inv-loop μ-loop
 loop-again c = let a = c .before .before .before .before .before .before .before .before .before .before .before .before .before .before .before .before .before .before .before .before .before .before .before .before .before .before .before .before .before .before .before .before .before .before .args in let l = c .before .before .before .before .before .before .before .before .before .before .before .before .before .before .before .before .before .before .before .before .before .before .before .before .before .loop in let r = c .before .before .before .before .before .before .before .before .before .before .before .before .before .before .before .before .advance in
-    (l .inv .0 ++ take (r .result .length) (r .last .1 .1 .1 .1 .1 .1 .1 .1 .0), feeding-step (a .formula .now) (a .input .now) (memory (a .names .now) (a .path .now) (a .program .now) (a .values .now) (a .regs .now)) (a .start) (a .out .now) (l .at) (memory (l .names) (l .path) (l .program) (l .values) (l .regs)) (l .stage) (l .out) (l .inv .0) (l .inv .1) (length (a .input .now)) (omega arith) (r .result) (memory (r .last .1 .1 .1 .0) (r .last .1 .1 .1 .1 .0) (r .last .1 .1 .1 .1 .1 .0) (r .last .1 .1 .1 .1 .1 .1 .0) (r .last .1 .1 .1 .1 .1 .1 .1 .0)) (r .last .1 .1 .1 .1 .1 .1 .1 .1 .0) (r .ensures) (l .inv .1 .inside) (record { names = r .kept .1 .1 .1 .0; path = r .kept .1 .1 .1 .1 .0; program = r .kept .1 .1 .1 .1 .1 .0; values = r .kept .1 .1 .1 .1 .1 .1 .0; regs = r .kept .1 .1 .1 .1 .1 .1 .1 .0; output = r .kept .1 .1 .1 .1 .1 .1 .1 .1 .0; }))
+    (l .inv .0 ++ take (r .result .length) (r .last .1 .1 .1 .1 .1 .1 .1 .1 .0), feeding-step (a .formula .now) (a .input .now) (memory (a .names .now) (a .path .now) (a .program .now) (a .values .now) (a .regs .now)) (a .start) (a .out .now) (l .at) (memory (l .names) (l .path) (l .program) (l .values) (l .regs)) (l .stage) (l .out) (l .inv .0) (l .inv .1) (length (a .input .now)) (omega arith) (r .result) (memory (r .last .1 .1 .1 .0) (r .last .1 .1 .1 .1 .0) (r .last .1 .1 .1 .1 .1 .0) (r .last .1 .1 .1 .1 .1 .1 .0) (r .last .1 .1 .1 .1 .1 .1 .1 .0)) (r .last .1 .1 .1 .1 .1 .1 .1 .1 .0) (r .ensures) (l .inv .1 .inside) (record { names = r .kept .1 .1 .1 .0; path = r .kept .1 .1 .1 .1 .0; program = r .kept .1 .1 .1 .1 .1 .0; values = r .kept .1 .1 .1 .1 .1 .1 .0; regs = r .kept .1 .1 .1 .1 .1 .1 .1 .0; output = r .kept .1 .1 .1 .1 .1 .1 .1 .1 .0 }))
 
 same-length-7 : tie.Need-same-length-7 Inv-loop μ-loop
 same-length-7 c = c .before .loop .inv .1 .same .names

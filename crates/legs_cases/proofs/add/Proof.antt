@@ -24,9 +24,9 @@ same-length c = search needs
 
 returns-2 : tie.Need-returns-2
 returns-2 c = let a = c .before .before .before .before .before .before .before .before .args in let w = c .before .before .put-bytes in record {
-      wrote = wrote (a .all .now) (a .at) (take (a .n) (a .out .now)) (w .last .0) (w .result) (w .ensures);
-      room = omega (arith, w .ensures .0, length-take-le (a .n) (a .out .now) (c .before .before .before .before .before .before .before .before .pre .0), c .before .before .before .before .before .before .before .before .pre .1, c .before .before .before .before .before .if1 .left);
-    }
+  wrote = wrote (a .all .now) (a .at) (take (a .n) (a .out .now)) (w .last .0) (w .result) (w .ensures);
+  room = omega (arith, w .ensures .0, length-take-le (a .n) (a .out .now) (c .before .before .before .before .before .before .before .before .pre .0), c .before .before .before .before .before .before .before .before .pre .1, c .before .before .before .before .before .if1 .left);
+}
 
 pub add-spec : {M : Type 1} → statement M
 add-spec =

@@ -66,7 +66,7 @@ same-length-7 : tie.Need-same-length-7 Inv-loop μ-loop
 same-length-7 c = c .before .before .before .before .add .kept .0 ∙ c .before .before .before .before .before .before .before .before .before .before .before .before .before .before .before .before .before .before .before .before .before .before .before .before .before .before .before .before .before .loop .inv .whole
 
 returns : tie.Need-returns Inv-loop μ-loop
-returns c = let a = c .before .before .before .before .before .before .before .before .before .before .before .before .before .before .before .before .before .before .before .before .before .before .before .before .before .before .before .before .before .before .before .before .before .before .before .before .before .before .before .args in let l = c .before .before .before .before .before .before .before .before .before .before .before .before .before .before .before .before .before .before .before .before .before .before .before .before .before .before .before .before .before .loop in let r = c .before .before .before .before .before .before .before .before .before .before .before .before .before .before .before .before .before .before .before .advance in gathering-full (a .formula .now) (a .input .now) (memory (a .names .now) (a .path .now) (a .program .now) (a .values .now) (a .regs .now)) (a .start) (a .out .now) (a .all .now) (a .from) (l .at) (memory (l .names) (l .path) (l .program) (l .values) (l .regs)) (l .stage) (l .out) (l .all) (l .length) (l .inv) (c .before .before .before .before .before .before .before .before .before .before .before .before .before .before .before .before .before .before .before .before .before .before .before .before .before .before .before .block-end .result) (c .before .before .before .before .before .before .before .before .before .before .before .before .before .before .before .before .before .before .before .before .before .before .before .before .before .before .before .block-end .ensures .1) (r .result) (memory (r .last .1 .1 .1 .0) (r .last .1 .1 .1 .1 .0) (r .last .1 .1 .1 .1 .1 .0) (r .last .1 .1 .1 .1 .1 .1 .0) (r .last .1 .1 .1 .1 .1 .1 .1 .0)) (r .last .1 .1 .1 .1 .1 .1 .1 .1 .0) (c .before .before .before .before .add .last .0) (r .ensures) (record { names = r .kept .1 .1 .1 .0; path = r .kept .1 .1 .1 .1 .0; program = r .kept .1 .1 .1 .1 .1 .0; values = r .kept .1 .1 .1 .1 .1 .1 .0; regs = r .kept .1 .1 .1 .1 .1 .1 .1 .0; output = r .kept .1 .1 .1 .1 .1 .1 .1 .1 .0; })
+returns c = let a = c .before .before .before .before .before .before .before .before .before .before .before .before .before .before .before .before .before .before .before .before .before .before .before .before .before .before .before .before .before .before .before .before .before .before .before .before .before .before .before .args in let l = c .before .before .before .before .before .before .before .before .before .before .before .before .before .before .before .before .before .before .before .before .before .before .before .before .before .before .before .before .before .loop in let r = c .before .before .before .before .before .before .before .before .before .before .before .before .before .before .before .before .before .before .before .advance in gathering-full (a .formula .now) (a .input .now) (memory (a .names .now) (a .path .now) (a .program .now) (a .values .now) (a .regs .now)) (a .start) (a .out .now) (a .all .now) (a .from) (l .at) (memory (l .names) (l .path) (l .program) (l .values) (l .regs)) (l .stage) (l .out) (l .all) (l .length) (l .inv) (c .before .before .before .before .before .before .before .before .before .before .before .before .before .before .before .before .before .before .before .before .before .before .before .before .before .before .before .block-end .result) (c .before .before .before .before .before .before .before .before .before .before .before .before .before .before .before .before .before .before .before .before .before .before .before .before .before .before .before .block-end .ensures .1) (r .result) (memory (r .last .1 .1 .1 .0) (r .last .1 .1 .1 .1 .0) (r .last .1 .1 .1 .1 .1 .0) (r .last .1 .1 .1 .1 .1 .1 .0) (r .last .1 .1 .1 .1 .1 .1 .1 .0)) (r .last .1 .1 .1 .1 .1 .1 .1 .1 .0) (c .before .before .before .before .add .last .0) (r .ensures) (record { names = r .kept .1 .1 .1 .0; path = r .kept .1 .1 .1 .1 .0; program = r .kept .1 .1 .1 .1 .1 .0; values = r .kept .1 .1 .1 .1 .1 .1 .0; regs = r .kept .1 .1 .1 .1 .1 .1 .1 .0; output = r .kept .1 .1 .1 .1 .1 .1 .1 .1 .0 })
     (subst (λ (x : Listing). Copies (l .all) (l .length) (r .last .1 .1 .1 .1 .1 .1 .1 .1 .0) (r .result .length) x (c .before .before .before .before .add .last .0)) (c .enum-told .given .1) (c .before .before .before .before .add .ensures))
 
 add-at : tie.Need-add-at Inv-loop μ-loop
@@ -76,7 +76,7 @@ loop-less : tie.Need-loop-less Inv-loop μ-loop
 loop-less c = let a = c .before .before .before .before .before .before .before .before .before .before .before .before .before .before .before .before .before .before .before .before .before .before .before .before .before .before .before .before .before .before .before .before .before .before .before .before .before .before .before .before .before .args in let l = c .before .before .before .before .before .before .before .before .before .before .before .before .before .before .before .before .before .before .before .before .before .before .before .before .before .before .before .before .before .before .before .loop in let r = c .before .before .before .before .before .before .before .before .before .before .before .before .before .before .before .before .before .before .before .before .before .advance in omega (arith, feeding-used (a .formula .now) (a .input .now) (memory (a .names .now) (a .path .now) (a .program .now) (a .values .now) (a .regs .now)) (a .start) (a .out .now) (l .at) (memory (l .names) (l .path) (l .program) (l .values) (l .regs)) (l .stage) (l .out) (l .inv .text) (l .inv .fed) (c .before .before .before .before .before .before .before .before .before .before .before .before .before .before .before .before .before .before .before .before .before .before .before .before .before .before .before .before .before .block-end .result) (c .before .before .before .before .before .before .before .before .before .before .before .before .before .before .before .before .before .before .before .before .before .before .before .before .before .before .before .before .before .block-end .ensures .1) (r .result) (memory (r .last .1 .1 .1 .0) (r .last .1 .1 .1 .1 .0) (r .last .1 .1 .1 .1 .1 .0) (r .last .1 .1 .1 .1 .1 .1 .0) (r .last .1 .1 .1 .1 .1 .1 .1 .0)) (r .last .1 .1 .1 .1 .1 .1 .1 .1 .0) (r .ensures) (c .before .before .before .before .before .before .before .before .before .before .before .before .before .before .before .before .before .before .before .before .before .before .before .before .before .before .before .before .before .before .before .before .before .before .before .before .before .before .before .before .before .pre .0) (c .before .before .before .before .before .before .before .before .before .before .before .before .before .before .before .before .before .before .before .before .before .before .before .before .before .before .before .before .before .block-end .ensures .0), c .before .before .before .before .before .before .before .before .before .before .before .before .before .before .before .before .before .before .before .before .before .before .before .before .before .before .before .before .before .before .loop-test .taken)
 
 loop-again : tie.Need-loop-again Inv-loop μ-loop
-loop-again c = let a = c .before .before .before .before .before .before .before .before .before .before .before .before .before .before .before .before .before .before .before .before .before .before .before .before .before .before .before .before .before .before .before .before .before .before .before .before .before .before .before .before .before .args in let l = c .before .before .before .before .before .before .before .before .before .before .before .before .before .before .before .before .before .before .before .before .before .before .before .before .before .before .before .before .before .before .before .loop in let r = c .before .before .before .before .before .before .before .before .before .before .before .before .before .before .before .before .before .before .before .before .before .advance in gathering-step (a .formula .now) (a .input .now) (memory (a .names .now) (a .path .now) (a .program .now) (a .values .now) (a .regs .now)) (a .start) (a .out .now) (a .all .now) (a .from) (l .at) (memory (l .names) (l .path) (l .program) (l .values) (l .regs)) (l .stage) (l .out) (l .all) (l .length) (l .inv) (c .before .before .before .before .before .before .before .before .before .before .before .before .before .before .before .before .before .before .before .before .before .before .before .before .before .before .before .before .before .block-end .result) (c .before .before .before .before .before .before .before .before .before .before .before .before .before .before .before .before .before .before .before .before .before .before .before .before .before .before .before .before .before .block-end .ensures .1) (r .result) (memory (r .last .1 .1 .1 .0) (r .last .1 .1 .1 .1 .0) (r .last .1 .1 .1 .1 .1 .0) (r .last .1 .1 .1 .1 .1 .1 .0) (r .last .1 .1 .1 .1 .1 .1 .1 .0)) (r .last .1 .1 .1 .1 .1 .1 .1 .1 .0) (c .before .before .before .before .before .before .add .last .0) (r .ensures) (record { names = r .kept .1 .1 .1 .0; path = r .kept .1 .1 .1 .1 .0; program = r .kept .1 .1 .1 .1 .1 .0; values = r .kept .1 .1 .1 .1 .1 .1 .0; regs = r .kept .1 .1 .1 .1 .1 .1 .1 .0; output = r .kept .1 .1 .1 .1 .1 .1 .1 .1 .0; }) (omega (arith, c .before .before .before .before .before .before .before .before .before .before .before .before .before .before .before .before .before .before .before .before .before .before .before .before .before .before .before .before .before .block-end .ensures .0)) (c .before .before .before .before .before .before .add .kept .0) (c .before .before .added .given .0 .0)
+loop-again c = let a = c .before .before .before .before .before .before .before .before .before .before .before .before .before .before .before .before .before .before .before .before .before .before .before .before .before .before .before .before .before .before .before .before .before .before .before .before .before .before .before .before .before .args in let l = c .before .before .before .before .before .before .before .before .before .before .before .before .before .before .before .before .before .before .before .before .before .before .before .before .before .before .before .before .before .before .before .loop in let r = c .before .before .before .before .before .before .before .before .before .before .before .before .before .before .before .before .before .before .before .before .before .advance in gathering-step (a .formula .now) (a .input .now) (memory (a .names .now) (a .path .now) (a .program .now) (a .values .now) (a .regs .now)) (a .start) (a .out .now) (a .all .now) (a .from) (l .at) (memory (l .names) (l .path) (l .program) (l .values) (l .regs)) (l .stage) (l .out) (l .all) (l .length) (l .inv) (c .before .before .before .before .before .before .before .before .before .before .before .before .before .before .before .before .before .before .before .before .before .before .before .before .before .before .before .before .before .block-end .result) (c .before .before .before .before .before .before .before .before .before .before .before .before .before .before .before .before .before .before .before .before .before .before .before .before .before .before .before .before .before .block-end .ensures .1) (r .result) (memory (r .last .1 .1 .1 .0) (r .last .1 .1 .1 .1 .0) (r .last .1 .1 .1 .1 .1 .0) (r .last .1 .1 .1 .1 .1 .1 .0) (r .last .1 .1 .1 .1 .1 .1 .1 .0)) (r .last .1 .1 .1 .1 .1 .1 .1 .1 .0) (c .before .before .before .before .before .before .add .last .0) (r .ensures) (record { names = r .kept .1 .1 .1 .0; path = r .kept .1 .1 .1 .1 .0; program = r .kept .1 .1 .1 .1 .1 .0; values = r .kept .1 .1 .1 .1 .1 .1 .0; regs = r .kept .1 .1 .1 .1 .1 .1 .1 .0; output = r .kept .1 .1 .1 .1 .1 .1 .1 .1 .0 }) (omega (arith, c .before .before .before .before .before .before .before .before .before .before .before .before .before .before .before .before .before .before .before .before .before .before .before .before .before .before .before .before .before .block-end .ensures .0)) (c .before .before .before .before .before .before .add .kept .0) (c .before .before .added .given .0 .0)
     (subst (λ (x : Listing). Copies (l .all) (l .length) (r .last .1 .1 .1 .1 .1 .1 .1 .1 .0) (r .result .length) x (c .before .before .before .before .before .before .add .last .0)) (c .before .before .added .given .1) (c .before .before .before .before .before .before .add .ensures))
 
 same-length-8 : tie.Need-same-length-8 Inv-loop μ-loop

@@ -33,12 +33,14 @@ returns : tie.Need-returns
 returns c = let a = c .before .before .before .before .before .before .before .before .before .before .before .before .before .before .before .before .before .before .before .before .args in let b = c .before .before .before .before .before .before .before .before .before .start in listed-none (a .readable) (a .formula .now) (a .input .now) (memory (a .names .now) (a .path .now) (a .program .now) (a .values .now) (a .regs .now)) (b .result .stage) (a .all .now) (b .last .1 .1 .0) (b .result .length) (c .before .before .before .before .add .last .0) (c .before .before .before .before .before .before .before .before .before .before .before .before .before .before .before .before .before .before .before .before .pre .0) (b .ensures .begins (c .before .before .before .before .before .before .before .before .before .before .before .before .before .before .before .before .before .before .before .before .pre .1)) (omega (arith, b .ensures .room, b .kept .1 .1 .0)) (subst (λ (x : Listing). Copies (a .all .now) 0 (b .last .1 .1 .0) (b .result .length) x (c .before .before .before .before .add .last .0)) (c .enum-told .given .1) (c .before .before .before .before .add .ensures))
 
 feed-requires : tie.Need-feed-requires
-feed-requires c κs = let a = c .before .before .before .before .before .before .before .before .before .before .before .before .before .before .before .before .before .before .before .before .before .before .before .before .before .before .before .before .args in let b = c .before .before .before .before .before .before .before .before .before .before .before .before .before .before .before .before .before .start in let m = memory (a .names .now) (a .path .now) (a .program .now) (a .values .now) (a .regs .now) in
-    (record {
-      stands = stands-first (a .readable) (a .formula .now) m (b .result .stage) (take (b .result .length) (b .last .1 .1 .0)) (c .before .before .before .before .before .before .before .before .before .before .before .before .before .before .before .before .before .before .before .before .before .before .before .before .before .before .before .before .pre .0) (b .ensures .begins (c .before .before .before .before .before .before .before .before .before .before .before .before .before .before .before .before .before .before .before .before .before .before .before .before .before .before .before .before .pre .1));
-      room = omega (arith, b .kept .1 .1 .0, c .before .before .before .before .before .before .before .before .before .before .before .before .before .before .before .before .before .before .before .before .before .before .before .before .before .before .before .before .pre .1);
-      numbers = omega (arith, b .ensures .unnumbered, c .before .before .before .before .before .before .before .before .before .before .before .before .before .before .before .before .before .before .before .before .before .before .before .before .before .before .before .before .good .1 .1 .0 .0);
-    }, omega (arith, subst (λ (x : Listing). Copies (a .all .now) 0 (b .last .1 .1 .0) (b .result .length) x (c .before .before .before .before .before .before .before .before .before .before .before .before .add .last .0)) (c .before .before .before .before .before .before .before .before .first .given .1) (c .before .before .before .before .before .before .before .before .before .before .before .before .add .ensures) .room, c .before .before .before .before .before .before .before .before .before .before .before .before .add .kept .0))
+feed-requires c κs = let a = c .before .before .before .before .before .before .before .before .before .before .before .before .before .before .before .before .before .before .before .before .before .before .before .before .before .before .before .before .args in let b = c .before .before .before .before .before .before .before .before .before .before .before .before .before .before .before .before .before .start in let m = memory (a .names .now) (a .path .now) (a .program .now) (a .values .now) (a .regs .now) in (
+  record {
+    stands = stands-first (a .readable) (a .formula .now) m (b .result .stage) (take (b .result .length) (b .last .1 .1 .0)) (c .before .before .before .before .before .before .before .before .before .before .before .before .before .before .before .before .before .before .before .before .before .before .before .before .before .before .before .before .pre .0) (b .ensures .begins (c .before .before .before .before .before .before .before .before .before .before .before .before .before .before .before .before .before .before .before .before .before .before .before .before .before .before .before .before .pre .1));
+    room = omega (arith, b .kept .1 .1 .0, c .before .before .before .before .before .before .before .before .before .before .before .before .before .before .before .before .before .before .before .before .before .before .before .before .before .before .before .before .pre .1);
+    numbers = omega (arith, b .ensures .unnumbered, c .before .before .before .before .before .before .before .before .before .before .before .before .before .before .before .before .before .before .before .before .before .before .before .before .before .before .before .before .good .1 .1 .0 .0);
+  },
+  omega (arith, subst (λ (x : Listing). Copies (a .all .now) 0 (b .last .1 .1 .0) (b .result .length) x (c .before .before .before .before .before .before .before .before .before .before .before .before .add .last .0)) (c .before .before .before .before .before .before .before .before .first .given .1) (c .before .before .before .before .before .before .before .before .before .before .before .before .add .ensures) .room, c .before .before .before .before .before .before .before .before .before .before .before .before .add .kept .0),
+)
 
 enum-known-fed : tie.Need-enum-known-fed
 enum-known-fed c = search needs

@@ -14,7 +14,11 @@ stuck-requires : tie.Need-stuck-requires
 stuck-requires c κs = search needs
 
 returns : tie.Need-returns
-returns c = let a = c .before .before .before .before .before .before .before .before .before .before .args in advance-idle (a .formula .now) (a .input .now) (memory (a .names .now) (a .path .now) (a .program .now) (a .values .now) (a .regs .now)) (a .stage) (a .out .now) (c .before .if1 .taken) (c .stuck .result) (c .stuck .ensures)
+returns c =
+    let a = c .before .before .before .before .before .before .before .before .before .before .args in
+    let at-stuck = c .stuck in
+    advance-idle (a .formula .now) (a .input .now) (memory (a .names .now) (a .path .now) (a .program .now) (a .values .now) (a .regs .now)) (a .stage) (a .out .now)
+    (c .before .if1 .taken) (at-stuck .result) (at-stuck .ensures)
 
 enum-known-stage : tie.Need-enum-known-stage
 enum-known-stage c = search needs
@@ -44,7 +48,12 @@ same-length-4 : tie.Need-same-length-4
 same-length-4 c = search needs
 
 returns-2 : tie.Need-returns-2
-returns-2 c = let a = c .before .before .before .before .before .before .before .before .before .before .before .before .before .before .before .before .before .before .before .before .before .before .before .before .before .args in let n = c .before .before .before .before .before .before .before .before .advance-names in subst (λ (s : Stage). Advancing (a .formula .now) (a .input .now) (memory (a .names .now) (a .path .now) (a .program .now) (a .values .now) (a .regs .now)) s (a .out .now) (n .result) (memory (n .last .1 .1 .1 .0) (n .last .1 .1 .1 .1 .0) (n .last .1 .1 .1 .1 .1 .0) (a .values .now) (a .regs .now)) (n .last .1 .1 .1 .1 .1 .1 .0)) (sym (c .before .before .before .before .before .before .before .before .before .before .before .before .before .before .stage .given .1)) (n .ensures (a .values .now) (a .regs .now))
+returns-2 c =
+    let a = c .before .before .before .before .before .before .before .before .before .before .before .before .before .before .before .before .before .before .before .before .before .before .before .before .before .args in
+    let n = c .before .before .before .before .before .before .before .before .advance-names in
+    subst (λ (s : Stage). Advancing (a .formula .now) (a .input .now) (memory (a .names .now) (a .path .now) (a .program .now) (a .values .now) (a .regs .now)) s
+    (a .out .now) (n .result) (memory (n .last .1 .1 .1 .0) (n .last .1 .1 .1 .1 .0) (n .last .1 .1 .1 .1 .1 .0) (a .values .now) (a .regs .now))
+    (n .last .1 .1 .1 .1 .1 .1 .0)) (sym (c .before .before .before .before .before .before .before .before .before .before .before .before .before .before .stage .given .1)) (n .ensures (a .values .now) (a .regs .now))
 
 same-length-5 : tie.Need-same-length-5
 same-length-5 c = search needs
@@ -59,10 +68,19 @@ same-length-8 : tie.Need-same-length-8
 same-length-8 c = search needs
 
 returns-3 : tie.Need-returns-3
-returns-3 c = let a = c .before .before .before .before .before .before .before .before .before .before .before .before .before .before .before .before .before .before .before .before .before .before .before .args in let v = c .before .before .before .before .before .before .advance-values in subst (λ (s : Stage). Advancing (a .formula .now) (a .input .now) (memory (a .names .now) (a .path .now) (a .program .now) (a .values .now) (a .regs .now)) s (a .out .now) (v .result) (memory (a .names .now) (a .path .now) (a .program .now) (v .last .1 .1 .1 .1 .0) (v .last .1 .1 .1 .1 .1 .0)) (v .last .1 .1 .1 .1 .1 .1 .0)) (sym (c .before .before .before .before .before .before .before .before .before .before .before .before .stage2 .given .1)) (v .ensures (a .formula .now) (a .names .now) (a .path .now))
+returns-3 c =
+    let a = c .before .before .before .before .before .before .before .before .before .before .before .before .before .before .before .before .before .before .before .before .before .before .before .args in
+    let v = c .before .before .before .before .before .before .advance-values in
+    subst (λ (s : Stage). Advancing (a .formula .now) (a .input .now) (memory (a .names .now) (a .path .now) (a .program .now) (a .values .now) (a .regs .now)) s
+    (a .out .now) (v .result) (memory (a .names .now) (a .path .now) (a .program .now) (v .last .1 .1 .1 .1 .0) (v .last .1 .1 .1 .1 .1 .0))
+    (v .last .1 .1 .1 .1 .1 .1 .0)) (sym (c .before .before .before .before .before .before .before .before .before .before .before .before .stage2 .given .1)) (v .ensures (a .formula .now) (a .names .now) (a .path .now))
 
 returns-4 : tie.Need-returns-4
-returns-4 c = let a = c .before .before .before .before .before .before .before .before .before .before .before .args in let m = memory (a .names .now) (a .path .now) (a .program .now) (a .values .now) (a .regs .now) in subst (λ (s : Stage). Advancing (a .formula .now) (a .input .now) m s (a .out .now) (record { stage = Variants.Finished; used = length (a .input .now); length = 0 }) m (a .out .now)) (sym (c .enum-told .given .1)) (advance-finished (a .formula .now) (a .input .now) m (a .out .now) (omega (arith, c .before .before .if1 .left)))
+returns-4 c =
+    let a = c .before .before .before .before .before .before .before .before .before .before .before .args in
+    let m = memory (a .names .now) (a .path .now) (a .program .now) (a .values .now) (a .regs .now) in subst (λ (s : Stage). Advancing (a .formula .now) (a .input .now) m s
+    (a .out .now) (record { stage = Variants.Finished; used = length (a .input .now); length = 0 }) m (a .out .now)) (sym (c .enum-told .given .1)) (advance-finished
+    (a .formula .now) (a .input .now) m (a .out .now) (omega (arith, c .before .before .if1 .left)))
 
 pub advance-spec : {M : Type 1} → statement M
 advance-spec =

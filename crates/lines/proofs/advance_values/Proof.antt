@@ -19,13 +19,22 @@ same-length-3 : tie.Need-same-length-3
 same-length-3 c = search needs
 
 returns : tie.Need-returns
-returns c = let a = c .before .before .before .before .before .before .before .before .before .before .before .before .before .before .before .before .before .before .args in let l = c .before .before .before .before .before .before .before .list-values in λ formula names path. values-advance (a .number) (a .s) (a .program .now) (a .values .now) (a .regs .now) (a .out .now) (c .before .before .before .before .before .before .before .before .before .before .before .before .before .before .before .before .before .before .pre) formula names path (a .input .now) (l .last .1 .1 .1 .1 .0) (l .last .1 .1 .1 .1 .1 .0) (l .last .1 .1 .1 .1 .1 .1 .0) (l .result) (c .before .before .before .before .before .before .before .before .before .before .before .before .is-ready .ensures .0 (c .before .before .before .before .before .before .before .before .before .before .before .if1 .taken)) (l .kept .1 .1 .1 .1 .0) (l .kept .1 .1 .1 .1 .1 .0) (l .ensures)
+returns c =
+    let a = c .before .before .before .before .before .before .before .before .before .before .before .before .before .before .before .before .before .before .args in
+    let l = c .before .before .before .before .before .before .before .list-values in
+    λ formula names path. values-advance (a .number) (a .s) (a .program .now) (a .values .now) (a .regs .now) (a .out .now) (c .before .before .before .before .before .before .before .before .before .before .before .before .before .before .before .before .before .before .pre) formula names path (a .input .now)
+    (l .last .1 .1 .1 .1 .0) (l .last .1 .1 .1 .1 .1 .0) (l .last .1 .1 .1 .1 .1 .1 .0) (l .result) (c .before .before .before .before .before .before .before .before .before .before .before .before .is-ready .ensures .0 (c .before .before .before .before .before .before .before .before .before .before .before .if1 .taken)) (l .kept .1 .1 .1 .1 .0)
+    (l .kept .1 .1 .1 .1 .1 .0) (l .ensures)
 
 stuck-requires : tie.Need-stuck-requires
 stuck-requires c κs = search needs
 
 returns-2 : tie.Need-returns-2
-returns-2 c = let a = c .before .before .before .before .before .before .before .before .args in λ formula names path. values-unfit (a .number) (a .s) (a .program .now) (a .values .now) (a .regs .now) (a .out .now) (c .before .before .before .before .before .before .before .before .pre) formula names path (a .input .now) (c .before .before .is-ready .ensures .1 (c .before .if1 .left)) (c .stuck .result) (c .stuck .ensures)
+returns-2 c =
+    let a = c .before .before .before .before .before .before .before .before .args in
+    let at-stuck = c .stuck in
+    λ formula names path. values-unfit (a .number) (a .s) (a .program .now) (a .values .now) (a .regs .now) (a .out .now) (c .before .before .before .before .before .before .before .before .pre) formula names path (a .input .now)
+    (c .before .before .is-ready .ensures .1 (c .before .if1 .left)) (at-stuck .result) (at-stuck .ensures)
 
 pub advance-values-spec : {M : Type 1} → statement M
 advance-values-spec =

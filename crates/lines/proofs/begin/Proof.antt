@@ -31,7 +31,9 @@ slice-aggregate-put-refusal : tie.Need-slice-aggregate-put-refusal
 slice-aggregate-put-refusal c = sym (length-take-le (c .before .before .text-length .result) (c .before .before .before .before .before .before .before .before .before .before .before .compile .last .1 .1 .0) (c .before .before .text-length .ensures .0))
 
 put-refusal-requires : tie.Need-put-refusal-requires
-put-refusal-requires c κs = (c .before .before .before .before .before .before .before .before .before .before .before .before .before .before .before .before .before .before .before .pre, omega (arith, length-take-le (c .before .before .text-length .result) (c .before .before .before .before .before .before .before .before .before .before .before .compile .last .1 .1 .0) (c .before .before .text-length .ensures .0), c .before .before .text-length .ensures .1))
+put-refusal-requires c κs =
+    let at-text-length = c .before .before .text-length in
+    (c .before .before .before .before .before .before .before .before .before .before .before .before .before .before .before .before .before .before .before .pre, omega (arith, length-take-le (at-text-length .result) (c .before .before .before .before .before .before .before .before .before .before .before .compile .last .1 .1 .0) (at-text-length .ensures .0), at-text-length .ensures .1))
 
 same-length : tie.Need-same-length
 same-length c = search needs
@@ -59,14 +61,18 @@ same-length-5 : tie.Need-same-length-5
 same-length-5 c = search needs
 
 returns-2 : tie.Need-returns-2
-returns-2 c = let a = c .before .before .before .before .before .before .before .before .before .before .before .before .before .before .before .before .before .before .before .before .before .before .args in let k = c .before .before .before .before .before .before .before .before .before .before .before .before .before .before .compile in let w = c .before .before .put-refusal in let h : w .result ≤ length (a .out .now) = omega (arith, w .ensures .1, c .before .before .before .before .before .before .before .before .before .before .before .before .before .before .before .before .before .before .before .before .before .before .pre) in record {
-  built = begins-refused (a .formula .now) (a .names .now) (a .path .now) (a .program .now) (k .last .1 .1 .0) (k .last .1 .1 .1 .0) (a .out .now) (w .last .0) _ (k .result) (k .ensures .0) (c .before .before .before .before .before .before .before .before .a .given .0 .0) (c .before .before .before .before .before .text-length .result) (w .result) (c .before .before .before .before .before .before .before .before .a .given .1) (k .ensures .1) (k .kept .1 .1 .0) (c .before .before .before .before .before .text-length .ensures) (w .ensures .0) refl;
-  numbered = omega arith;
-  room = h;
-  beyond = drop-wrote (a .out .now) 0 _ (w .last .0) (w .result) (w .ensures .0) h;
-  path-is = k .ensures .1;
-  program-is = k .ensures .2;
-}
+returns-2 c =
+    let a = c .before .before .before .before .before .before .before .before .before .before .before .before .before .before .before .before .before .before .before .before .before .before .args in
+    let k = c .before .before .before .before .before .before .before .before .before .before .before .before .before .before .compile in
+    let w = c .before .before .put-refusal in
+    let h : w .result ≤ length (a .out .now) = omega (arith, w .ensures .1, c .before .before .before .before .before .before .before .before .before .before .before .before .before .before .before .before .before .before .before .before .before .before .pre) in record {
+      built = begins-refused (a .formula .now) (a .names .now) (a .path .now) (a .program .now) (k .last .1 .1 .0) (k .last .1 .1 .1 .0) (a .out .now) (w .last .0) _ (k .result) (k .ensures .0) (c .before .before .before .before .before .before .before .before .a .given .0 .0) (c .before .before .before .before .before .text-length .result) (w .result) (c .before .before .before .before .before .before .before .before .a .given .1) (k .ensures .1) (k .kept .1 .1 .0) (c .before .before .before .before .before .text-length .ensures) (w .ensures .0) refl;
+      numbered = omega arith;
+      room = h;
+      beyond = drop-wrote (a .out .now) 0 _ (w .last .0) (w .result) (w .ensures .0) h;
+      path-is = k .ensures .1;
+      program-is = k .ensures .2;
+    }
 
 pub begin-spec : {M : Type 1} → statement M
 begin-spec =

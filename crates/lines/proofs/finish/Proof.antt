@@ -35,7 +35,12 @@ same-length-3 : tie.Need-same-length-3
 same-length-3 c = search needs
 
 returns-2 : tie.Need-returns-2
-returns-2 c = let a = c .before .before .before .before .before .before .before .before .before .before .before .before .before .before .before .before .before .before .before .before .before .args in let n = c .before .before .before .before .before .before .finish-names in subst (λ (s : Stage). Finishing (a .formula .now) (memory (a .names .now) (a .path .now) (a .program .now) (a .values .now) (a .regs .now)) s (a .out .now) (n .result) (memory (a .names .now) (n .last .1 .1 .1 .0) (n .last .1 .1 .1 .1 .0) (a .values .now) (a .regs .now)) (n .last .1 .1 .1 .1 .1 .0)) (sym (c .before .before .before .before .before .before .before .before .before .before .before .stage .given .1)) (n .ensures (a .values .now) (a .regs .now))
+returns-2 c =
+    let a = c .before .before .before .before .before .before .before .before .before .before .before .before .before .before .before .before .before .before .before .before .before .args in
+    let n = c .before .before .before .before .before .before .finish-names in
+    subst (λ (s : Stage). Finishing (a .formula .now) (memory (a .names .now) (a .path .now) (a .program .now) (a .values .now) (a .regs .now)) s (a .out .now) (n .result)
+    (memory (a .names .now) (n .last .1 .1 .1 .0) (n .last .1 .1 .1 .1 .0) (a .values .now) (a .regs .now)) (n .last .1 .1 .1 .1 .1 .0)) (sym (c .before .before .before .before .before .before .before .before .before .before .before .stage .given .1))
+    (n .ensures (a .values .now) (a .regs .now))
 
 same-length-4 : tie.Need-same-length-4
 same-length-4 c = search needs
@@ -50,10 +55,18 @@ same-length-7 : tie.Need-same-length-7
 same-length-7 c = search needs
 
 returns-3 : tie.Need-returns-3
-returns-3 c = let a = c .before .before .before .before .before .before .before .before .before .before .before .before .before .before .before .before .before .before .before .before .before .before .args in let v = c .before .before .before .before .before .before .finish-values in subst (λ (s : Stage). Finishing (a .formula .now) (memory (a .names .now) (a .path .now) (a .program .now) (a .values .now) (a .regs .now)) s (a .out .now) (v .result) (memory (a .names .now) (a .path .now) (a .program .now) (v .last .1 .1 .1 .0) (v .last .1 .1 .1 .1 .0)) (v .last .1 .1 .1 .1 .1 .0)) (sym (c .before .before .before .before .before .before .before .before .before .before .before .before .stage2 .given .1)) (v .ensures (a .formula .now) (a .names .now) (a .path .now))
+returns-3 c =
+    let a = c .before .before .before .before .before .before .before .before .before .before .before .before .before .before .before .before .before .before .before .before .before .before .args in
+    let v = c .before .before .before .before .before .before .finish-values in
+    subst (λ (s : Stage). Finishing (a .formula .now) (memory (a .names .now) (a .path .now) (a .program .now) (a .values .now) (a .regs .now)) s (a .out .now) (v .result)
+    (memory (a .names .now) (a .path .now) (a .program .now) (v .last .1 .1 .1 .0) (v .last .1 .1 .1 .1 .0)) (v .last .1 .1 .1 .1 .1 .0)) (sym (c .before .before .before .before .before .before .before .before .before .before .before .before .stage2 .given .1))
+    (v .ensures (a .formula .now) (a .names .now) (a .path .now))
 
 returns-4 : tie.Need-returns-4
-returns-4 c = let a = c .before .before .before .before .before .before .before .before .before .before .args in let m = memory (a .names .now) (a .path .now) (a .program .now) (a .values .now) (a .regs .now) in subst (λ (s : Stage). Finishing (a .formula .now) m s (a .out .now) 0 m (a .out .now)) (sym (c .enum-told .given .1)) (finish-finished (a .formula .now) m (a .out .now) (c .before .before .if1 .left))
+returns-4 c =
+    let a = c .before .before .before .before .before .before .before .before .before .before .args in
+    let m = memory (a .names .now) (a .path .now) (a .program .now) (a .values .now) (a .regs .now) in subst (λ (s : Stage). Finishing (a .formula .now) m s (a .out .now) 0 m
+    (a .out .now)) (sym (c .enum-told .given .1)) (finish-finished (a .formula .now) m (a .out .now) (c .before .before .if1 .left))
 
 pub finish-spec : {M : Type 1} → statement M
 finish-spec =

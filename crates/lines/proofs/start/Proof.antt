@@ -22,8 +22,14 @@ same-length : tie.Need-same-length
 same-length c = search needs
 
 returns-2 : tie.Need-returns-2
-returns-2 c = let a = c .before .before .before .before .before .before .before .before .before .before .before .before .args in let w = c .before .before .before .before .before .before .put-bytes in let o = c .before .before .opened in let s = o .ensures .1 .0 in
-    starting (a .readable) (a .formula .now) (a .out .now) (w .last .0) (w .result) (o .result) (o .last .1 .1 .0) (c .before .before .before .before .before .before .before .before .before .if1 .left) (omega (arith, w .ensures .0, c .before .before .before .before .before .before .before .before .before .if1 .left)) (omega (arith, w .kept .0)) (wrote (a .out .now) 0 header (w .last .0) (w .result) (w .ensures)) (o .ensures .0) (o .ensures .1 .1)
+returns-2 c =
+    let a = c .before .before .before .before .before .before .before .before .before .before .before .before .args in
+    let w = c .before .before .before .before .before .before .put-bytes in
+    let o = c .before .before .opened in
+    let at-if1 = c .before .before .before .before .before .before .before .before .before .if1 in
+    let s = o .ensures .1 .0 in starting (a .readable) (a .formula .now) (a .out .now) (w .last .0) (w .result) (o .result) (o .last .1 .1 .0) (at-if1 .left) (omega
+    (arith, w .ensures .0, at-if1 .left)) (omega (arith, w .kept .0)) (wrote (a .out .now) 0 header (w .last .0) (w .result) (w .ensures)) (o .ensures .0)
+    (o .ensures .1 .1)
 
 pub start-spec : {M : Type 1} → statement M
 start-spec =
