@@ -18,7 +18,7 @@ returns c =
     let a = c .before .before .before .before .before .before .before .before .before .before .args in
     let at-stuck = c .stuck in
     advance-idle (a .formula .now) (a .input .now) (memory (a .names .now) (a .path .now) (a .program .now) (a .values .now) (a .regs .now)) (a .stage) (a .out .now)
-    (c .before .if1 .taken) (at-stuck .result) (at-stuck .ensures)
+    (omega (arith, c .before .if1 .taken)) (at-stuck .result) (at-stuck .ensures)
 
 enum-known-stage : tie.Need-enum-known-stage
 enum-known-stage c = search needs
