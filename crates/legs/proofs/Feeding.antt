@@ -1,68 +1,62 @@
--- A block of input, used part by part.
-use mathlib.Core.Path.{_≡_, refl, sym, ap, _∙_, subst}
+-- All blocks of standard input, one after another.
+use mathlib.Core.Path.{_≡_, refl, _∙_}
 use mathlib.Core.List.{List, [], _++_}
-use Prim.Native.Nat.{ℕ, _+_, _-_, _≤_}
+use Prim.Native.Nat.{ℕ, _+_, _-_, _*_, _≤_, _<_}
 use native.Mathlib.Omega.{arith}
-use lib.ListN.{length, take, drop, length-drop}
-use lib.Seq.{take-add, take-all, take-length}
+use lib.ListN.{length, take, length-take}
 use borrow.Rule.Slice.PartMut.{midOf}
 use Rattle.lines.specs.declared.Stage.{Stage}
-use Rattle.lines.specs.Owed.{Advances, Memory}
-use Rattle.lines.proofs.Compose.{advances-none, advances-then}
+use Rattle.lines.specs.Owed.{Memory, line-number}
+use Rattle.lines.specs.Calls.{Feedable}
+use Rattle.lines.proofs.Compose.{advances-none, advances-then, stands-after}
+use Rattle.lines.proofs.Feeding.{Feeding, Same-lengths, feeding-end, part-long, same-start, same-then}
+use Rattle.legs.specs.declared.Fed.the-variants.{On}
+use Rattle.legs.specs.Fed.{Feedable-all, Feeds, Feeds-all}
 
-pub rest-is : (at : ℕ) (xs : List ℕ) → midOf at (length xs - at) xs ≡ drop at xs
-rest-is at xs = take-all (length xs - at) (drop at xs) (omega (arith, length-drop at xs))
+pub mid-long : (at : ℕ) (xs : List ℕ) → length (midOf at (length xs - at) xs) ≡ length xs - at
+mid-long at xs = part-long at (length xs) xs (omega arith)
 
-pub mid-long : {A : Type 0} (at : ℕ) (xs : List A) → length (midOf at (length xs - at) xs) ≡ length xs - at
-mid-long at xs = ap length (take-all (length xs - at) (drop at xs) (omega (arith, length-drop at xs))) ∙ length-drop at xs
+-- a whole block was used
+pub feeds : (formula input : List ℕ) (m : Memory) (s : Stage) (out : List ℕ) (at : ℕ) (m′ : Memory) (s′ : Stage) (out′ text : List ℕ) → Feeding formula input m s out at m′ s′ out′ text
+    → length input ≤ at → Feeds formula m s input m′ (On s′)
+feeds formula input m s out at m′ s′ out′ text g h =
+    (text, feeding-end formula input m s out at m′ s′ out′ text g h, let n = g .numbered in let i = g .inside in omega arith)
 
-pub record Feeding (formula input : List ℕ) (m : Memory) (s : Stage) (out : List ℕ) (at : ℕ) (m′ : Memory) (s′ : Stage) (out′ : List ℕ) : Type 0 where
-  pub inside : at ≤ length input
-  pub names : length (m′ .names) ≡ length (m .names)
-  pub path : length (m′ .path) ≡ length (m .path)
-  pub program : length (m′ .program) ≡ length (m .program)
-  pub values : length (m′ .values) ≡ length (m .values)
-  pub regs : length (m′ .regs) ≡ length (m .regs)
-  pub output : length out′ ≡ length out
-  pub text : List ℕ
-  pub advances : Advances formula m s (take at input) m′ s′ text
+-- the loop's invariant: there are numbers for the lines of all blocks that may still be read
+pub record Feeding-all (formula block : List ℕ) (m : Memory) (s : Stage) (out : List ℕ) (block′ : List ℕ) (m′ : Memory) (s′ : Stage) (out′ : List ℕ) (turns : ℕ) : Type 0 where
+  pub same-block : length block′ ≡ length block
+  pub same : Same-lengths m out m′ out′
+  pub fed : Feeds-all formula m s m′ (On s′)
+  pub numbered : line-number s′ + 65536 * turns ≤ 18446744073709486080
 
-pub feeding-start : (formula input : List ℕ) (m : Memory) (s : Stage) (out : List ℕ) → Feeding formula input m s out 0 m s out
-feeding-start formula input m s out =
-    record {
-      inside = omega arith;
-      names = refl;
-      path = refl;
-      program = refl;
-      values = refl;
-      regs = refl;
-      output = refl;
-      text = [];
-      advances = advances-none formula m s;
-    }
+module _ (formula block : List ℕ) (m : Memory) (s : Stage) (out : List ℕ) (f : Feedable-all formula block m s out) where
+  pub all-start : Feeding-all formula block m s out block m s out 281474976710655
+  all-start =
+      record { same-block = refl; same = same-start m out; fed = ([], [], advances-none formula m s); numbered = let n = f .unnumbered in omega arith }
 
-pub feeding-step : (formula input : List ℕ) (m : Memory) (s : Stage) (out : List ℕ) (at : ℕ) (m′ : Memory) (s′ : Stage) (out′ : List ℕ) → Feeding formula input m s out at m′ s′ out′
-    → (used : ℕ) (m″ : Memory) (s″ : Stage) (out″ text : List ℕ) → used ≤ length (midOf at (length input - at) input) → length (m″ .names) ≡ length (m′ .names) → length (m″ .path) ≡ length (m′ .path)
-    → length (m″ .program) ≡ length (m′ .program) → length (m″ .values) ≡ length (m′ .values) → length (m″ .regs) ≡ length (m′ .regs) → length out″ ≡ length out′
-    → Advances formula m′ s′ (take used (midOf at (length input - at) input)) m″ s″ text → Feeding formula input m s out (at + used) m″ s″ out″
-feeding-step formula input m s out at m′ s′ out′ g used m″ s″ out″ text u a b c d e f h =
-    let r = rest-is at input in
-    record {
-      inside = let i = g .inside in omega (arith, ap length r, length-drop at input);
-      names = a ∙ g .names;
-      path = b ∙ g .path;
-      program = c ∙ g .program;
-      values = d ∙ g .values;
-      regs = e ∙ g .regs;
-      output = f ∙ g .output;
-      text = g .text ++ text;
-      advances = subst (λ (xs : List ℕ). Advances formula m s xs m″ s″ (g .text ++ text)) (sym (take-add at used input))
-          (advances-then formula m m′ m″ s s′ s″ (take at input) (take used (drop at input)) (g .text) text (g .advances)
-          (subst (λ (xs : List ℕ). Advances formula m′ s′ (take used xs) m″ s″ text) r h));
-    }
+  module _ (block′ : List ℕ) (m′ : Memory) (s′ : Stage) (out′ : List ℕ) (turns : ℕ) (g : Feeding-all formula block m s out block′ m′ s′ out′ turns) (read : List ℕ) (n : ℕ)
+      (h : n ≤ length block) (t : 0 < turns) where
+    few : length (take n read) ≤ 65536
+    few = let b = f .small in omega (arith, length-take n read)
 
--- the whole block was used
-pub feeding-end : (formula input : List ℕ) (m : Memory) (s : Stage) (out : List ℕ) (at : ℕ) (m′ : Memory) (s′ : Stage) (out′ : List ℕ) (g : Feeding formula input m s out at m′ s′ out′)
-    → length input ≤ at → Advances formula m s input m′ s′ (g .text)
-feeding-end formula input m s out at m′ s′ out′ g h =
-    subst (λ (xs : List ℕ). Advances formula m s xs m′ s′ (g .text)) (take-all at input h) (g .advances)
+    pub all-feedable : Feedable formula (take n read) m′ s′ out′
+    all-feedable =
+        let x = g .fed in
+        let w = few in
+        record {
+          stands = stands-after formula m m′ s s′ (x .0) (x .1) (f .stands) (x .2);
+          room = let o = g .same .output in let p = f .room in omega arith;
+          numbers = let k = g .numbered in omega arith;
+        }
+
+    pub all-step : (m″ : Memory) (s″ : Stage) (out″ : List ℕ) → length read ≡ length block′ → Same-lengths m′ out′ m″ out″ → Feeds formula m′ s′ (take n read) m″ (On s″)
+        → Feeding-all formula block m s out read m″ s″ out″ (turns - 1)
+    all-step m″ s″ out″ l e y =
+        let x = g .fed in
+        let w = few in
+        record {
+          same-block = l ∙ g .same-block;
+          same = same-then m out m′ out′ m″ out″ (g .same) e;
+          fed = (x .0 ++ take n read, x .1 ++ y .0, advances-then formula m m′ m″ s s′ s″ (x .0) (take n read) (x .1) (y .0) (x .2) (y .1));
+          numbered = let k = g .numbered in let j = y .2 in omega arith;
+        }

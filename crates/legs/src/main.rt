@@ -2,8 +2,9 @@
 // input, a line for each on standard output. What is printed is what `lines` gives; here it is only read and written.
 ghost use Prim.Native.Nat.{_≤_};
 ghost use lib.ListN.{length};
+ghost use Rattle.lines.specs.Calls.{Feedable};
 ghost use Rattle.lines.specs.Owed.{memory};
-ghost use Rattle.legs.specs.Fed.{Feeds};
+ghost use Rattle.legs.specs.Fed.{Feedable-all, Feeds, Feeds-all, Lent};
 ghost use Rattle.legs.specs.File.{Within};
 use libc::STDIN_FILENO;
 use libc::STDOUT_FILENO;
@@ -43,7 +44,9 @@ fn read_all(fd: i32, buf: &mut [u8]) -> File
     File::Bytes(at)
 }
 
+// The slice has a byte more than a formula file may have, so that a longer file is told from it.
 fn read_file(path: &[u8], buf: &mut [u8]) -> File
+    requires { ⌜ 4097 ≤ length (now buf) ⌝ }
     ensures { λ r. ⌜ Within r (length (now (buf .entry))) ⌝ }
 {
     let fd = os::open_read(path);
@@ -55,13 +58,14 @@ fn read_file(path: &[u8], buf: &mut [u8]) -> File
     f
 }
 
-// The stage after a block, or an end of all: the output is closed, or the lines can't be counted on.
+// The stage after a part of the input; or a write failed; or 2^48 - 1 blocks were read and the input has not ended.
 enum Fed {
     On(Stage),
-    Stop,
+    Closed,
+    TooLong,
 }
 
-// Hands a block of input on, part by part, and prints what came of each.
+// Hands a block of input on, part by part, and prints what came of each. All of it is used, unless a write fails.
 fn feed(
     formula: &[u8],
     input: &[u8],
@@ -73,6 +77,7 @@ fn feed(
     regs: &mut [f64],
     out: &mut [u8],
 ) -> Fed
+    requires { ⌜ Feedable (now formula) (now input) (memory (now names) (now path) (now program) (now values) (now regs)) start (now out) ⌝ }
     ensures { λ r. ⌜ Feeds (now (formula .entry)) (memory (now (names .entry)) (now (path .entry)) (now (program .entry)) (now (values .entry)) (now (regs .entry))) start (now (input .entry)) (memory (now (names .exit)) (now (path .exit)) (now (program .exit)) (now (values .exit)) (now (regs .exit))) r ⌝ }
 {
     let mut stage = start;
@@ -92,19 +97,16 @@ fn feed(
         let length = r.length;
         let written = io::write_all(STDOUT_FILENO, &out[..length]);
         if !written {
-            return Fed::Stop;
+            return Fed::Closed;
         }
-        let used = r.used;
-        if used == 0 {
-            return Fed::Stop;
-        }
-        at += used;
+        at += r.used;
         stage = r.stage;
     }
     Fed::On(stage)
 }
 
-// Hands on all of standard input. A proved loop has to end, so it counts its turns down from a number that no run uses up.
+// Hands on all of standard input. A proved loop has to end, so it counts its turns down from a number that no run uses up, and
+// with which the lines of all blocks can be counted. That the bytes come from `read` and go to `write` no contract can say.
 fn feed_all(
     formula: &[u8],
     block: &mut [u8],
@@ -115,9 +117,12 @@ fn feed_all(
     values: &mut [f64],
     regs: &mut [f64],
     out: &mut [u8],
-) -> Fed {
+) -> Fed
+    requires { ⌜ Feedable-all (now formula) (now block) (memory (now names) (now path) (now program) (now values) (now regs)) start (now out) ⌝ }
+    ensures { λ r. ⌜ Feeds-all (now (formula .entry)) (memory (now (names .entry)) (now (path .entry)) (now (program .entry)) (now (values .entry)) (now (regs .entry))) start (memory (now (names .exit)) (now (path .exit)) (now (program .exit)) (now (values .exit)) (now (regs .exit))) r ⌝ }
+{
     let mut stage = start;
-    let mut turns = u64::MAX;
+    let mut turns: u64 = 0xffff_ffff_ffff;
     while turns > 0 {
         let read = read_once(STDIN_FILENO, block);
         let File::Bytes(n) = read else {
@@ -138,14 +143,15 @@ fn feed_all(
             out,
         );
         let Fed::On(next) = fed else {
-            return Fed::Stop;
+            return Fed::Closed;
         };
         stage = next;
         turns -= 1;
     }
-    Fed::Stop
+    Fed::TooLong
 }
 
+// Prints the listing. The memory that it is lent is as large as the output needs it to be.
 fn list(
     readable: bool,
     formula: &[u8],
@@ -156,7 +162,9 @@ fn list(
     values: &mut [f64],
     regs: &mut [f64],
     out: &mut [u8],
-) {
+)
+    requires { ⌜ Lent (now block) (memory (now names) (now path) (now program) (now values) (now regs)) (now out) ⌝ }
+{
     let b = lines::start(readable, formula, out);
     let n = b.length;
     let stage = b.stage;

@@ -3,15 +3,16 @@
 //
 // Standard input is the number of cases, then the cases. A case has five numbers: whether the formula file can be read, the
 // length of a block, and the lengths of file, input and output. Then come these bytes. Numbers have 4 bytes, the least first.
-ghost use Prim.Native.Nat.{_+_, _≤_};
+ghost use Prim.Native.Nat.{_+_, _≤_, _<_};
 ghost use lib.ListN.{length};
-ghost use Rattle.legs_cases.specs.Listed.{Copies, Feeds-all, Lists-all, Lists-fresh};
-ghost use Rattle.lines.specs.Owed.{memory};
+ghost use Rattle.legs_cases.specs.Listed.{Copies, Feeds-all, Lists};
+ghost use Rattle.lines.specs.Calls.{Feedable};
+ghost use Rattle.lines.specs.Owed.{Roomy, memory};
 use lines::Stage;
 use std::num;
 use steps::put_bytes;
 
-// The length of the whole output, or there was no room for it.
+// The length of the whole output; or it is longer than the slice for it.
 enum Listing {
     Length(usize),
     NoRoom,
@@ -19,14 +20,9 @@ enum Listing {
 
 // Adds the first bytes of the output to the whole.
 fn add(all: &mut [u8], at: usize, out: &[u8], n: usize) -> Listing
+    requires { ⌜ (n ≤ length (now out)) × (at ≤ length (now all)) ⌝ }
     ensures { λ r. ⌜ Copies (now (all .entry)) at (now (out .entry)) n r (now (all .exit)) ⌝ }
 {
-    if out.len() < n {
-        return Listing::NoRoom;
-    }
-    if all.len() < at {
-        return Listing::NoRoom;
-    }
     if all.len() - at < n {
         return Listing::NoRoom;
     }
@@ -39,11 +35,14 @@ enum Fed {
     NoRoom,
 }
 
-// The end of the block that begins at a byte.
+// The end of the block that begins at a byte. A block has one byte at least.
 fn block_end(at: usize, block: usize, length: usize) -> usize
-    requires { ⌜ at ≤ length ⌝ }
-    ensures { λ r. ⌜ (at ≤ r) × (r ≤ length) ⌝ }
+    requires { ⌜ at < length ⌝ }
+    ensures { λ r. ⌜ (at < r) × (r ≤ length) ⌝ }
 {
+    if block == 0 {
+        return at + 1;
+    }
     if length - at < block {
         return length;
     }
@@ -65,6 +64,7 @@ fn feed(
     all: &mut [u8],
     from: usize,
 ) -> Fed
+    requires { ⌜ Feedable (now formula) (now input) (memory (now names) (now path) (now program) (now values) (now regs)) start (now out) × (from ≤ length (now all)) ⌝ }
     ensures { λ r. ⌜ Feeds-all (now (formula .entry)) (memory (now (names .entry)) (now (path .entry)) (now (program .entry)) (now (values .entry)) (now (regs .entry))) start (now (input .entry)) (memory (now (names .exit)) (now (path .exit)) (now (program .exit)) (now (values .exit)) (now (regs .exit))) (now (all .entry)) from r (now (all .exit)) ⌝ }
 {
     let mut stage = start;
@@ -87,12 +87,8 @@ fn feed(
         let Listing::Length(n) = added else {
             return Fed::NoRoom;
         };
-        let used = r.used;
-        if used == 0 {
-            return Fed::NoRoom;
-        }
         length = n;
-        at += used;
+        at += r.used;
         stage = r.stage;
     }
     Fed::On(stage, length)
@@ -112,7 +108,8 @@ fn list_in(
     out: &mut [u8],
     all: &mut [u8],
 ) -> Listing
-    ensures { λ r. ⌜ Lists-all readable (now (formula .entry)) (now (input .entry)) (memory (now (names .entry)) (now (path .entry)) (now (program .entry)) (now (values .entry)) (now (regs .entry))) (length (now (out .entry))) r (now (all .exit)) ⌝ }
+    requires { ⌜ Roomy (memory (now names) (now path) (now program) (now values) (now regs)) × (8242 ≤ length (now out)) ⌝ }
+    ensures { λ r. ⌜ Lists readable (now (formula .entry)) (now (input .entry)) (now (all .entry)) r (now (all .exit)) ⌝ }
 {
     let b = lines::start(readable, formula, out);
     let first = add(all, 0, out, b.length);
@@ -141,9 +138,10 @@ fn list_in(
     add(all, m, out, length)
 }
 
-// The same with memory of its own: what it gives is the definition's whole output, for any input and any length of block.
+// The same with memory of its own: what it gives is the definition's whole output, for any input and any length of block, just
+// where it fits.
 fn list(readable: bool, formula: &[u8], input: &[u8], block: usize, all: &mut [u8]) -> Listing
-    ensures { λ r. ⌜ Lists-fresh readable (now (formula .entry)) (now (input .entry)) r (now (all .exit)) ⌝ }
+    ensures { λ r. ⌜ Lists readable (now (formula .entry)) (now (input .entry)) (now (all .entry)) r (now (all .exit)) ⌝ }
 {
     let mut names = [0u8; 17152];
     let mut path = [0u8; 8192];

@@ -3,7 +3,7 @@ use mathlib.Core.Path.{_≡_, refl, sym, ap, _∙_}
 use mathlib.Core.List.{List, [], _++_, append-assoc, append-nil}
 use Prim.Native.Nat.{ℕ}
 use Rattle.lines.specs.declared.Stage.{Stage}
-use Rattle.lines.specs.Owed.{Advances, Begins, Ends, Memory, Roomy, file-of}
+use Rattle.lines.specs.Owed.{Advances, Begins, Ends, Memory, Roomy, Stands, file-of}
 use Rattle.listing.specs.Legs.{legs}
 use mathlib.Core.Bool.{Bool}
 
@@ -23,6 +23,13 @@ advances-then formula m₁ m₂ m₃ s₁ s₂ s₃ a b t u f h g o =
           ∙ ap (λ (xs : List ℕ). t ++ xs) (y .2 rest)
           ∙ sym (append-assoc t u (y .0 rest)),
     )
+
+-- a stage stands after `start`, and after each call of `advance`
+pub stands-first : (readable : Bool) (formula : List ℕ) (m : Memory) (s : Stage) (text : List ℕ) → Roomy m → Begins readable formula s text → Stands formula m s
+stands-first readable formula m s text roomy b = let x = b m roomy in (x .0, x .1)
+
+pub stands-after : (formula : List ℕ) (m m′ : Memory) (s s′ : Stage) (fed text : List ℕ) → Stands formula m s → Advances formula m s fed m′ s′ text → Stands formula m′ s′
+stands-after formula m m′ s s′ fed text st a = let x = a (st .0) (st .1) in (x .0, x .1)
 
 -- The whole output: what `start` wrote, what `advance` wrote for the blocks of an input, and what `finish` wrote.
 pub whole-output : (readable : Bool) (formula : List ℕ) (m m′ : Memory) (s s′ : Stage) (input first middle last : List ℕ) → Roomy m → Begins readable formula s first

@@ -11,4 +11,6 @@ pub mod Places
 pub mod Begins
 pub mod NameLines
 pub mod Stages
+pub mod Calls
 pub mod Compose
+pub mod Feeding

@@ -2,9 +2,9 @@
 use mathlib.Core.Path.{_≡_, refl, sym, ap, _∙_, subst}
 use mathlib.Core.Bool.{Bool, true, false}
 use mathlib.Core.List.{List, [], _∷_, _++_, append-assoc}
-use Prim.Native.Nat.{ℕ, suc, _+_, _≤_, _<_}
+use Prim.Native.Nat.{ℕ, zero, suc, _+_, _-_, _≤_, _<_}
 use native.Mathlib.Omega.{arith}
-use lib.ListN.{length, getD, take}
+use lib.ListN.{length, getD, take, drop}
 use lib.Dec.{ltb}
 use lib.Ieee.{Float}
 use borrow.Author.Tests.{ltb-true, ltb-false}
@@ -18,8 +18,10 @@ use Rattle.lines.specs.declared.Listed.{Listed}
 use Rattle.lines.specs.declared.values.Reading.{Reading}
 use Rattle.lines.specs.Reading.{Reads, Reads-on, Starts}
 use Rattle.lines.specs.Record.{Records}
+use Rattle.lines.specs.Text.{Wrote-some}
 use Rattle.lines.specs.Owed.{Lists}
-use Rattle.lines.proofs.Newlines.{lines-next, take-byte, take-part, take-wrote}
+use Rattle.lines.specs.Calls.{Goes-on, Listing-block}
+use Rattle.lines.proofs.Newlines.{drop-later, lines-next, take-byte, take-part, take-wrote}
 use Rattle.lines.proofs.Parts.{free-append}
 
 pub lists-start : (P : Program) (n : ℕ) (s : Reading) (values : List Float) (fed text : List ℕ) → fed ≡ [] → text ≡ [] → Lists P n s values fed text n s values
@@ -87,22 +89,24 @@ lt-of e n h k = lt-by (ltb e n) refl
     lt-by false q = let l = ltb-false e n q in absurd (k (omega arith))
 
 -- what a call gives back
-pub so-far-is : (P : Program) (input : List ℕ) (n₀ : ℕ) (s₀ : Reading) (values₀ values : List Float) (out₀ out : List ℕ) (r : Listed) (n : ℕ) (t : Reading) (used len : ℕ)
-    → r ≡ record { number = n; reading = t; used = used; length = len } → used ≤ length input → len ≤ length out → length out ≡ length out₀
-    → Lists P n₀ s₀ values₀ (take used input) (take len out) n t values
-    → Lists P n₀ s₀ values₀ (take (r .used) input) (take (r .length) out) (r .number) (r .reading) values × ((r .used ≤ length input) × (r .length ≤ length out₀))
-so-far-is P input n₀ s₀ values₀ values out₀ out r n t used len e h k l g =
-    subst
-    (λ (x : Listed). Lists P n₀ s₀ values₀ (take (x .used) input) (take (x .length) out) (x .number) (x .reading) values × ((x .used ≤ length input) × (x .length ≤ length out₀)))
-    (sym e) (g, (h, omega arith))
+module _ (P : Program) (input : List ℕ) (n₀ : ℕ) (s₀ : Reading) (values₀ values : List Float) (out₀ out : List ℕ) (n : ℕ) (t : Reading) (used len : ℕ) where
+  pub so-far-is : used ≤ length input → len ≤ length out → length out ≡ length out₀ → Lists P n₀ s₀ values₀ (take used input) (take len out) n t values
+      → n ≤ n₀ + used → drop len out ≡ drop len out₀ → Goes-on n₀ input out₀ used
+      → (r : Listed) → r ≡ record { number = n; reading = t; used = used; length = len } → Listing-block P n₀ s₀ values₀ input out₀ r values out
+  so-far-is h k l g m d z r e =
+      subst (λ (x : Listed). Listing-block P n₀ s₀ values₀ input out₀ x values out) (sym e)
+      (record { lists = g; goes-on = z; numbered = m; inside = h; room = omega arith; beyond = d })
 
 pub record Listing-on (p input : List ℕ) (n₀ : ℕ) (s₀ : Reading) (values₀ regs₀ : List Float) (out₀ : List ℕ) (values regs : List Float) (out : List ℕ) (at length′ n : ℕ) (s : Reading) : Type 0 where
   pub inside : at ≤ length input
   pub short : length′ ≤ length out
   pub fits : n < 18446744073709551616
+  pub numbered : n ≤ n₀ + at
+  pub first : at ≡ 0 → (n ≡ n₀) × (length′ ≡ 0)
   pub same-values : length values ≡ length values₀
   pub same-regs : length regs ≡ length regs₀
   pub same-out : length out ≡ length out₀
+  pub beyond : drop length′ out ≡ drop length′ out₀
   pub lists : Lists (program-at p) n₀ s₀ values₀ (take at input) (take length′ out) n s values
 
 pub on-start : (p input : List ℕ) (n : ℕ) (s : Reading) (values regs : List Float) (out : List ℕ) → n < 18446744073709551616 → Listing-on p input n s values regs out values regs out 0 0 n s
@@ -111,34 +115,70 @@ on-start p input n s values regs out h =
       inside = omega arith;
       short = omega arith;
       fits = h;
+      numbered = omega arith;
+      first = λ e. (refl, refl);
       same-values = refl;
       same-regs = refl;
       same-out = refl;
+      beyond = refl;
       lists = lists-start (program-at p) n s values (take 0 input) (take 0 out) refl refl;
     }
 
+-- a call that has done nothing yet can't stop
+some-used : (at end len n n₀ : ℕ) → at ≤ end → (at ≡ 0 → (n ≡ n₀) × (len ≡ 0)) → (n ≡ n₀ → len ≡ 0 → ⊥) → 1 ≤ end
+some-used zero end len n n₀ h f x = absurd (x (f refl .0) (f refl .1))
+some-used (suc at) end len n n₀ h f x = omega arith
+
 module _ (p input : List ℕ) (n₀ : ℕ) (s₀ : Reading) (values₀ regs₀ : List Float) (out₀ : List ℕ) (values regs : List Float) (out : List ℕ) (at len n : ℕ) (s : Reading)
     (g : Listing-on p input n₀ s₀ values₀ regs₀ out₀ values regs out at len n s) where
+  -- the input is used up
+  pub on-done : length input ≤ at → (r : Listed) → r ≡ record { number = n; reading = s; used = at; length = len }
+      → Listing-block (program-at p) n₀ s₀ values₀ input out₀ r values out
+  on-done h r e =
+      so-far-is (program-at p) input n₀ s₀ values₀ values out₀ out n s at len (g .inside) (g .short) (g .same-out) (g .lists) (g .numbered) (g .beyond)
+      (λ x y z. omega arith) r e
+
   module _ (end : ℕ) (t : Reading) (values′ : List Float) (from : at ≤ end) (f : free 10 (part input at end) ≡ true) (r : Reads-on s values (part input at end) t values′) where
     -- what was read when a call stops
-    pub on-read : Lists (program-at p) n₀ s₀ values₀ (take end input) (take len out) n t values′
+    on-read : Lists (program-at p) n₀ s₀ values₀ (take end input) (take len out) n t values′
     on-read =
         subst (λ (xs : List ℕ). Lists (program-at p) n₀ s₀ values₀ xs (take len out) n t values′) (sym (take-part input at end from))
         (lists-read (program-at p) n₀ s₀ values₀ (take at input) (take len out) n s values (g .lists) (part input at end) t values′ f r)
 
+    module _ (inside : end ≤ length input) (l : Listed) (e : l ≡ record { number = n; reading = t; used = end; length = len }) where
+      on-stop : Goes-on n₀ input out₀ end → Listing-block (program-at p) n₀ s₀ values₀ input out₀ l values′ out
+      on-stop z =
+          so-far-is (program-at p) input n₀ s₀ values₀ values′ out₀ out n t end len inside (g .short) (g .same-out) on-read
+          (let m = g .numbered in omega arith) (g .beyond) z l e
+
+      -- the input ends in the line
+      pub on-end : end ≡ length input → Listing-block (program-at p) n₀ s₀ values₀ input out₀ l values′ out
+      on-end h = on-stop (λ x y z. omega arith)
+
+      -- a record might not fit
+      pub on-full : length out - len < 8242 → Listing-block (program-at p) n₀ s₀ values₀ input out₀ l values′ out
+      on-full h = on-stop (λ x y z. some-used at end len n n₀ from (g .first) (λ u v. let w = g .same-out in omega arith))
+
+      -- there is no next number
+      pub on-last : n ≡ 18446744073709551615 → Listing-block (program-at p) n₀ s₀ values₀ input out₀ l values′ out
+      on-last h = on-stop (λ x y z. some-used at end len n n₀ from (g .first) (λ u v. omega arith))
+
     -- the next line
     pub on-line : end < length input → getD input end 0 ≡ 10 → length values′ ≡ length values → (values″ regs′ : List Float) (out′ : List ℕ) (len′ n′ : ℕ) (u : Reading) → n′ ≡ n + 1 → (n ≡ 18446744073709551615 → ⊥)
-        → length values″ ≡ length values′ → length regs′ ≡ length regs → Records p t values′ n out len out′ len′ → length out′ ≡ length out → len′ ≤ length out → Starts u
+        → length values″ ≡ length values′ → length regs′ ≡ length regs → Records p t values′ n out len out′ len′ → Wrote-some out len out′ len′ → length out′ ≡ length out → len′ ≤ length out → Starts u
         → Listing-on p input n₀ s₀ values₀ regs₀ out₀ values″ regs′ out′ (end + 1) len′ n′ u
-    on-line h e l values″ regs′ out′ len′ n′ u q nm lv lr w lo k b =
+    on-line h e l values″ regs′ out′ len′ n′ u q nm lv lr w v lo k b =
         let z : suc n ≡ n′ = omega arith in
         record {
           inside = omega arith;
           short = omega (arith, lo);
           fits = let y = g .fits in lt-max n n′ y nm q;
+          numbered = let m = g .numbered in omega arith;
+          first = λ o. absurd (omega arith);
           same-values = lv ∙ l ∙ g .same-values;
           same-regs = lr ∙ g .same-regs;
           same-out = lo ∙ g .same-out;
+          beyond = v .beyond ∙ drop-later out out₀ len len′ (v .from) (g .beyond);
           lists = subst (λ (m : ℕ). Lists (program-at p) n₀ s₀ values₀ (take (end + 1) input) (take len′ out′) m u values″) z
               (subst (λ (xs : List ℕ). Lists (program-at p) n₀ s₀ values₀ xs (take len′ out′) (suc n) u values″) (sym (take-byte input end 10 h e))
               (lists-line (program-at p) n₀ s₀ values₀ (take end input) (take len out) n t values′ on-read (take len′ out′) u values″

@@ -1,16 +1,19 @@
 -- The lines of an input, one after another.
-use mathlib.Core.Path.{_≡_, sym, ap, _∙_}
-use mathlib.Core.Bool.{true}
+use mathlib.Core.Path.{_≡_, refl, sym, ap, _∙_}
+use mathlib.Core.Bool.{Bool, true, false}
 use mathlib.Core.List.{List, [], _∷_, _++_, append-assoc}
 use Prim.Native.Nat.{ℕ, suc, _+_, _-_, _≤_, _<_}
 use native.Mathlib.Omega.{arith}
 use lib.ListN.{length, getD, take, drop, length-append}
-use lib.Seq.{take-add, take-at, take-suc, length-take-le}
+use lib.Seq.{drop-at, drop-drop, split-at, take-add, take-all, take-at, take-suc, length-take-le}
+use lib.Dec.{ltb}
+use borrow.Author.Tests.{ltb-true, ltb-false}
+use Rattle.formula.specs.Text.{split}
 use Rattle.formula.specs.Values.{ended, last-line, lines-of}
 use Rattle.names.specs.Lines.{part}
-use Rattle.names.proofs.Splits.{free, pieces, split-end, split-next}
+use Rattle.names.proofs.Splits.{first-piece, free, later-pieces, pieces, split-end, split-next}
 use Rattle.steps.specs.Steps.{over}
-use Rattle.lines.specs.Text.{Wrote}
+use Rattle.lines.specs.Text.{Wrote, Wrote-some}
 
 -- "A line ends at a newline byte"
 pub lines-next : (l rest : List ℕ) → free 10 l ≡ true → lines-of (l ++ (10 ∷ rest)) ≡ l ∷ lines-of rest
@@ -34,6 +37,23 @@ take-byte l e x h q =
     let z : suc e ≡ e + 1 = omega arith in
     ap (λ (n : ℕ). take n l) (sym z) ∙ take-suc l e 0 h ∙ ap (λ (y : ℕ). take e l ++ (y ∷ [])) q
 
+first-of-same : (a b : List ℕ) (ps qs : List (List ℕ)) → a ∷ ps ≡ b ∷ qs → a ≡ b
+first-of-same a b ps qs e = cc
+
+-- the bytes before the first newline, or all there are
+pub first-is : (l : List ℕ) (e : ℕ) → e ≤ length l → free 10 (take e l) ≡ true → (e < length l → getD l e 0 ≡ 10) → take e l ≡ first-piece 10 l
+first-is l e h f n = by-cases (ltb e (length l)) refl
+  where
+    by-cases : (t : Bool) → ltb e (length l) ≡ t → take e l ≡ first-piece 10 l
+    by-cases true q =
+        let k = ltb-true e (length l) q in
+        let d = drop (suc e) l in
+        let s : l ≡ take e l ++ (10 ∷ d) = split-at l e 0 k ∙ ap (λ (x : ℕ). take e l ++ (x ∷ d)) (n k) in
+        first-of-same (take e l) (first-piece 10 l) (split 10 d) (later-pieces 10 l) (sym (split-next 10 (take e l) d f) ∙ ap (split 10) (sym s) ∙ pieces 10 l)
+    by-cases false q =
+        let s = take-all e l (ltb-false e (length l) q) in
+        first-of-same (take e l) (first-piece 10 l) [] (later-pieces 10 l) (sym (split-end 10 (take e l) f) ∙ ap (split 10) s ∙ pieces 10 l)
+
 -- ---- the output so far
 
 pub take-wrote : (out : List ℕ) (at : ℕ) (xs out′ : List ℕ) (end : ℕ) → Wrote out at xs out′ end → end ≤ length out → take end out′ ≡ take at out ++ xs
@@ -43,3 +63,26 @@ take-wrote out at xs out′ end w h =
     let d = drop (at + length xs) out in
     ap (take end) (w .stands ∙ sym (append-assoc (take at out) xs d))
     ∙ take-at (take at out ++ xs) d end (omega (arith, length-append (take at out) xs, length-take-le at out (omega arith)))
+
+-- ---- the output after a text
+
+pub drop-wrote : (out : List ℕ) (at : ℕ) (xs out′ : List ℕ) (end : ℕ) → Wrote out at xs out′ end → end ≤ length out → drop end out′ ≡ drop end out
+unfolding over
+drop-wrote out at xs out′ end w h =
+    let e = w .ends in
+    let d = drop (at + length xs) out in
+    ap (drop end) (w .stands ∙ sym (append-assoc (take at out) xs d))
+    ∙ drop-at (take at out ++ xs) d end (omega (arith, length-append (take at out) xs, length-take-le at out (omega arith)))
+    ∙ ap (λ (n : ℕ). drop n out) (sym e)
+
+pub wrote-some : (out : List ℕ) (at : ℕ) (xs out′ : List ℕ) (end : ℕ) → Wrote out at xs out′ end → end ≤ length out → Wrote-some out at out′ end
+wrote-some out at xs out′ end w h = record { from = let e = w .ends in omega arith; beyond = drop-wrote out at xs out′ end w h }
+
+pub drop-later : (xs ys : List ℕ) (n m : ℕ) → n ≤ m → drop n xs ≡ drop n ys → drop m xs ≡ drop m ys
+drop-later xs ys n m h e =
+    let z : n + (m - n) ≡ m = omega arith in
+    ap (λ (k : ℕ). drop k xs) (sym z)
+    ∙ sym (drop-drop (m - n) n xs)
+    ∙ ap (drop (m - n)) e
+    ∙ drop-drop (m - n) n ys
+    ∙ ap (λ (k : ℕ). drop k ys) z

@@ -1,15 +1,16 @@
 -- The run of a line's values, as `legs` has it.
 use mathlib.Core.Path.{_≡_, refl, sym, ap, _∙_, subst}
-use mathlib.Core.Bool.{Bool, true, false, not, _&&_}
+use mathlib.Core.Bool.{Bool, true, false, cond, not, _&&_}
 use mathlib.Core.List.{List, [], _∷_, _++_}
-use mathlib.Core.Option.{none, some}
+use mathlib.Core.Option.{Option, none, some}
 use Prim.Native.Nat.{ℕ, suc, _+_, _≤_, _<_}
 use native.Mathlib.Omega.{arith}
 use lib.ListN.{length, replicate, set, take, replicate-append-replicate}
 use lib.Seq.{take-suc-set}
-use lib.Dec.{eqb, leb}
+use lib.Dec.{eqb, leb, ltb}
 use lib.Ieee.{Float, binary64}
-use borrow.Author.Tests.{ne-eqb}
+use borrow.Author.Tests.{le-ltb, lt-ltb, ltb-false, ltb-true, ne-eqb}
+use Rattle.refusals.specs.Numbers.{invalid-input, malformed-line}
 use Rattle.arithmetic.specs.Value.{0f, finite}
 use Rattle.formula.specs.Text.{all}
 use Rattle.formula.specs.Path.{path-room}
@@ -24,12 +25,12 @@ use Rattle.run.specs.declared.Answer.the-variants.{Refused}
 use Rattle.run.specs.Views.{answer-of, reply-of}
 use Rattle.run.specs.Calls.{run-at, unfit-at}
 use Rattle.run.proofs.Whole.{run-5}
-use Rattle.listing.specs.Legs.{Line, bad, line-of, run-line, zero-registers}
+use Rattle.listing.specs.Legs.{Line, bad, line-of, run-line, value-record, zero-registers}
 use Rattle.lines.specs.declared.values.Found.{Found}
 use Rattle.lines.specs.declared.values.Found.the-variants.{Malformed, Values}
 use Rattle.lines.specs.declared.record.Outcome.{Outcome}
-use Rattle.lines.specs.Reading.{floats}
-use Rattle.lines.specs.Record.{Answers, Ready, Runs}
+use Rattle.lines.specs.Reading.{Finds, Kept, floats}
+use Rattle.lines.specs.Record.{Answers, Ready, Runs, found-line}
 
 -- ---- registers
 
@@ -89,38 +90,46 @@ module _ (b : List ℕ) (ok : valid (program-at b) ≡ true) where
 
 -- ---- what a line was found to be
 
-pub answers-malformed : (b : List ℕ) (values : List Float) (o : Outcome) → o ≡ record { answer = Refused 3; count = 0 } → Answers b Malformed values o
-answers-malformed b values o e none f = ap (λ (x : Outcome). line-of (answer-of b (x .answer)) (x .count)) e
-answers-malformed b values o e (some vs) f = absurd f
-
-pub answers-many : (b : List ℕ) (values : List Float) (k : ℕ) → Ready b (length values) k → (n : ℕ) (o : Outcome) → length values < n → o ≡ record { answer = Refused 5; count = 0 }
-    → Answers b (Values n) values o
-answers-many b values k ready n o l e none f = absurd f
-answers-many b values k ready n o l e (some vs) f =
-    ap (λ (x : Outcome). line-of (answer-of b (x .answer)) (x .count)) e
-    ∙ wrong-count b (ready .sound) (floats vs) (λ z. let m = f .counts in let i = ready .inputs in let w = floats-length vs in omega arith)
-  where
-    floats-length : (vs : List ℕ) → length (floats vs) ≡ length vs
-    floats-length [] = refl
-    floats-length (v ∷ vs) = ap suc (floats-length vs)
-
-pub answers-run : (b : List ℕ) (values : List Float) (n : ℕ) (o : Outcome) → n ≤ length values → Runs b (take n values) o → Answers b (Values n) values o
-answers-run b values n o l r none f = absurd f
-answers-run b values n o l r (some vs) f =
-    let m = f .counts in
-    let z : n ≡ length vs = omega arith in
-    r ∙ ap (run-line (program-at b)) (ap (λ (i : ℕ). take i values) z ∙ f .stand (omega arith))
+-- a slice has places for these
+abbrev found-by : Program → List Float → ℕ → Bool → Line
+found-by P values n t = cond t (bad invalid-input) (run-line P (take n values))
 
 -- the kinds of found lines
-pub found-malformed : (b : List ℕ) (found : Found) (values : List Float) (o : Outcome) → found ≡ Malformed → o ≡ record { answer = Refused 3; count = 0 } → Answers b found values o
-found-malformed b found values o e q = subst (λ (x : Found). Answers b x values o) (sym e) (answers-malformed b values o q)
+pub found-malformed : (b : List ℕ) (found : Found) (values : List Float) (o : Outcome) → found ≡ Malformed → o ≡ record { answer = Refused malformed-line; count = 0 } → Answers b found values o
+found-malformed b found values o e q =
+    subst (λ (x : Found). Answers b x values o) (sym e) (ap (λ (x : Outcome). line-of (answer-of b (x .answer)) (x .count)) q)
 
-pub found-many : (b : List ℕ) (found : Found) (values : List Float) (k : ℕ) → Ready b (length values) k → (n : ℕ) (o : Outcome) → found ≡ Values n → length values < n
-    → o ≡ record { answer = Refused 5; count = 0 } → Answers b found values o
-found-many b found values k ready n o e l q = subst (λ (x : Found). Answers b x values o) (sym e) (answers-many b values k ready n o l q)
+pub found-many : (b : List ℕ) (found : Found) (values : List Float) (n : ℕ) (o : Outcome) → found ≡ Values n → length values < n
+    → o ≡ record { answer = Refused invalid-input; count = 0 } → Answers b found values o
+found-many b found values n o e l q =
+    subst (λ (x : Found). Answers b x values o) (sym e)
+    (ap (λ (x : Outcome). line-of (answer-of b (x .answer)) (x .count)) q ∙ ap (found-by (program-at b) values n) (sym (lt-ltb (length values) n l)))
 
 pub found-run : (b : List ℕ) (found : Found) (values : List Float) (n : ℕ) (o : Outcome) → found ≡ Values n → n ≤ length values → Runs b (take n values) o → Answers b found values o
-found-run b found values n o e l r = subst (λ (x : Found). Answers b x values o) (sym e) (answers-run b values n o l r)
+found-run b found values n o e l r =
+    subst (λ (x : Found). Answers b x values o) (sym e) (r ∙ ap (found-by (program-at b) values n) (sym (le-ltb (length values) n l)))
+
+-- they are the definition's record of the line
+module _ (b : List ℕ) (values : List Float) (k : ℕ) (ready : Ready b (length values) k) where
+  floats-length : (vs : List ℕ) → length (floats vs) ≡ length vs
+  floats-length [] = refl
+  floats-length (v ∷ vs) = ap suc (floats-length vs)
+
+  record-by : (vs : List ℕ) (n : ℕ) → Kept vs n values → (t : Bool) → ltb (length values) n ≡ t → found-by (program-at b) values n t ≡ run-line (program-at b) (floats vs)
+  record-by vs n f true e =
+      let l = ltb-true (length values) n e in
+      wrong-count b (ready .sound) (floats vs) (λ z. let m = f .counts in let i = ready .inputs in let w = floats-length vs in omega arith)
+  record-by vs n f false e =
+      let l = ltb-false (length values) n e in
+      let m = f .counts in
+      let z : n ≡ length vs = omega arith in
+      ap (run-line (program-at b)) (ap (λ (i : ℕ). take i values) z ∙ f .stand (omega arith))
+
+  pub found-record : (line : Option (List ℕ)) (found : Found) → Finds line found values → found-line (program-at b) found values ≡ value-record (program-at b) line
+  found-record none Malformed f = refl
+  found-record none (Values n) f = absurd f
+  found-record (some vs) Malformed f = absurd f
+  found-record (some vs) (Values n) f = record-by vs n f (ltb (length values) n) refl
 
 -- lengths that stay
 pub ready-same : (b : List ℕ) (n k n′ k′ : ℕ) → n′ ≡ n → k′ ≡ k → Ready b n k → Ready b n′ k′

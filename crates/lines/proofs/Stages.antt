@@ -5,7 +5,7 @@ use mathlib.Core.List.{List, [], _∷_, _++_, append-assoc, append-nil}
 use mathlib.Core.Option.{none}
 use Prim.Native.Nat.{ℕ, _+_, _≤_, _<_}
 use native.Mathlib.Omega.{arith}
-use lib.ListN.{length, getD, take}
+use lib.ListN.{length, getD, take, drop}
 use lib.Ieee.{Float}
 use borrow.Author.Tests.{le-ltb, lt-ltb}
 use Rattle.formula.specs.Values.{last-line, lines-of, values-of}
@@ -17,7 +17,6 @@ use Rattle.layout.specs.Decode.{program-at}
 use Rattle.names.proofs.Splits.{free}
 use Rattle.steps.proofs.Over.{over-nil}
 use Rattle.listing.specs.Legs.{compiled, header, legs, listed, printed, records, refusal-line, value-record, with-file, with-input}
-use Rattle.lines.specs.declared.Advanced.{Advanced}
 use Rattle.lines.specs.declared.Begun.{Begun}
 use Rattle.lines.specs.declared.Stage.{Stage}
 use Rattle.lines.specs.declared.Stage.the-variants as Stage
@@ -28,16 +27,11 @@ use Rattle.lines.specs.Text.{Wrote}
 use Rattle.lines.specs.Owed.{Advances, Begins, Compiled-as, Compiles, Ends, Keeps-on, Listing, Lists, Memory, Naming, Opens, Owed, file-of, memory}
 use Rattle.lines.proofs.Keeping.{keeps-none}
 use Rattle.lines.proofs.NameLines.{compiled-kept}
-use Rattle.lines.proofs.Newlines.{lines-last, lines-next, take-byte, take-wrote}
+use Rattle.lines.proofs.Newlines.{drop-wrote, lines-last, lines-next, take-byte, take-wrote}
 use Rattle.lines.proofs.Parts.{free-append}
 use Rattle.lines.proofs.Texts.{wrote-then}
 
--- ---- nothing was used
-
-pub advances-stuck : (formula : List ℕ) (m : Memory) (s : Stage) (input out : List ℕ) (r : Advanced) → r ≡ record { stage = s; used = 0; length = 0 }
-    → Advances formula m s (take (r .used) input) m (r .stage) (take (r .length) out)
-advances-stuck formula m s input out r e =
-    subst (λ (x : Advanced). Advances formula m s (take (x .used) input) m (x .stage) (take (x .length) out)) (sym e) (λ g o. (g, o, λ rest. refl))
+-- ---- at the end
 
 -- after a refusal nothing is owed
 pub advances-finished : (formula : List ℕ) (m : Memory) (fed out : List ℕ) → Advances formula m Stage.Finished fed m Stage.Finished (take 0 out)
@@ -75,11 +69,6 @@ module _ (formula input : List ℕ) (k : ℕ) (names path program₀ names′ : 
         },
         λ rest. refl,
       )
-
-  -- more was kept than there are places: that can't be
-  pub names-over : (path′ program′ : List ℕ) (s : Stage) (used text : List ℕ) → length names′ < count
-      → Advances formula (memory names path program₀ values regs) (Stage.Names k) used (memory names′ path′ program′ values regs) s text
-  names-over path′ program′ s used text h g o = absurd (let z = on (o .seen) (o .kept) .count in omega arith)
 
   -- the line ends
   module _ (path′ program′ out out′ : List ℕ) (r : Begun) (h : end < length input) (newline : getD input end 0 ≡ 10) (short : r .length ≤ length out)
@@ -137,9 +126,6 @@ module _ (formula input : List ℕ) (k : ℕ) (names path program₀ names′ : 
 
 -- the input ends in the name line
 module _ (formula : List ℕ) (k : ℕ) (names path program₀ : List ℕ) (values regs : List Float) where
-  pub names-too-many : (text : List ℕ) → length names < k → Ends formula (memory names path program₀ values regs) (Stage.Names k) text
-  names-too-many text h g o = absurd (let z = o .kept .count in omega arith)
-
   only-line : (seen : List ℕ) → with-input formula (last-line seen) ≡ listed [] (compiled formula seen)
   only-line [] = refl
   only-line (b ∷ bs) = refl
@@ -213,10 +199,6 @@ module _ (n : ℕ) (s : Reading) (program₀ : List ℕ) (values regs : List Flo
       ∙ append-nil x
       ∙ sym (take-wrote out 0 x out′ len (w (o .seen) (o .read)) h)
 
-  -- a stage without a program can't be
-  pub values-unready : (text : List ℕ) → (Ready program₀ (length values) (length regs) → ⊥) → Ends formula (memory names path program₀ values regs) (Stage.Values n s) text
-  values-unready text h g o = absurd (h (o .ready))
-
 -- ---- the start
 
 opens-names-true : (formula out : List ℕ) (at : ℕ) → length formula ≤ 4096 → Opens true formula (record { stage = Stage.Names 0; length = at }) out at out
@@ -273,3 +255,8 @@ begins readable formula out mid at r out′ h k w o m roomy =
           ∙ sym (append-assoc header text (b .0 input))
           ∙ ap (λ (xs : List ℕ). xs ++ b .0 input) (sym t),
     )
+
+pub begins-beyond : (readable : Bool) (formula out mid : List ℕ) (at : ℕ) (r : Begun) (out′ : List ℕ) → at ≤ length out → r .length ≤ length out → Wrote out 0 header mid at
+    → Opens readable formula r mid at out′ → drop (r .length) out′ ≡ drop (r .length) out
+begins-beyond readable formula out mid at r out′ h k w o =
+    drop-wrote out 0 (header ++ o .0) out′ (r .length) (wrote-then out 0 header mid at (o .0) out′ (r .length) h w (o .1)) k

@@ -3,3 +3,4 @@ pub mod Reading
 pub mod Text
 pub mod Record
 pub mod Owed
+pub mod Calls

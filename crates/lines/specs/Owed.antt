@@ -95,6 +95,24 @@ Owed formula m (Names k) g = Naming formula m k g
 Owed formula m (Values n s) g = Listing m n s g
 Owed formula m Finished g = (rest : List ℕ) → g rest ≡ []
 
+-- something is owed: the memory and the stage are as `start` and `advance` leave them
+abbrev pub Stands : List ℕ → Memory → Stage → Type 0
+Stands formula m s = (g : List ℕ → List ℕ) × Owed formula m s g
+
+-- the number of the line of values that is being read; 0 before the first and after a refusal
+abbrev pub line-number : Stage → ℕ
+line-number (Names k) = 0
+line-number (Values n s) = n
+line-number Finished = 0
+
+-- no line after this one can be counted
+abbrev pub last-number : ℕ
+last-number = 18446744073709551615
+
+-- the bytes of output that every call needs: a header with a refusal's line, or a record, with the longest path
+abbrev pub output-room : ℕ
+output-room = 8242
+
 -- what was owed for the input `fed` and any other after it was `text`, and then what is owed now
 abbrev pub Advances : List ℕ → Memory → Stage → List ℕ → Memory → Stage → List ℕ → Type 0
 Advances formula m s fed m′ s′ text =
@@ -132,29 +150,9 @@ Compiled-as formula names path program program′ r out out′ =
 abbrev pub Text-length : List ℕ → ℕ → Type 0
 Text-length path r = (r ≤ length path) × (r ≤ 8192) × ((t : List ℕ) (m : ℕ) → path ≡ t ++ zeros m → free 0 t ≡ true → length t ≤ 8192 → r ≡ length t)
 
--- ---- each stage by itself
-
 -- with the header written up to a place
 abbrev pub Opens : Bool → List ℕ → Begun → List ℕ → ℕ → List ℕ → Type 0
 Opens readable formula r out at out′ =
     (text : List ℕ) × Wrote out at text out′ (r .length)
     × ((m : Memory) → Roomy m
     → (g : List ℕ → List ℕ) × Owed formula m (r .stage) g × ((input : List ℕ) → with-file (file-of readable formula) (lines-of input) ≡ text ++ g input))
-
-abbrev pub Names-advance : List ℕ → List ℕ → ℕ → List ℕ → List ℕ → List ℕ → Advanced → List ℕ → List ℕ → List ℕ → List ℕ → Type 0
-Names-advance formula input k names path program r names′ path′ program′ out′ =
-    (values regs : List Float)
-    → Advances formula (memory names path program values regs) (Names k) (take (r .used) input) (memory names′ path′ program′ values regs) (r .stage)
-    (take (r .length) out′)
-
-abbrev pub Values-advance : List ℕ → ℕ → Reading → List ℕ → List Float → List Float → Advanced → List Float → List Float → List ℕ → Type 0
-Values-advance input n s program values regs r values′ regs′ out′ =
-    (formula names path : List ℕ)
-    → Advances formula (memory names path program values regs) (Values n s) (take (r .used) input) (memory names path program values′ regs′) (r .stage)
-    (take (r .length) out′)
-
-abbrev pub Values-end : ℕ → Reading → List ℕ → List Float → List Float → List ℕ → Type 0
-Values-end n s program values regs text = (formula names path : List ℕ) → Ends formula (memory names path program values regs) (Values n s) text
-
-abbrev pub Names-end : List ℕ → ℕ → List ℕ → List ℕ → List ℕ → List ℕ → Type 0
-Names-end formula k names path program text = (values regs : List Float) → Ends formula (memory names path program values regs) (Names k) text

@@ -1,19 +1,22 @@
 -- A line of values, and the record that the run of its values gives.
 use mathlib.Core.Path.{_≡_}
-use mathlib.Core.Bool.{true}
+use mathlib.Core.Bool.{true, cond}
 use mathlib.Core.List.{List}
-use mathlib.Core.Option.{Option}
 use Prim.Native.Nat.{ℕ, _≤_}
+use lib.ListN.{length, take}
+use lib.Dec.{ltb}
 use lib.Ieee.{Float}
+use Rattle.refusals.specs.Numbers.{invalid-input, malformed-line}
 use Rattle.formula.specs.Values.{values-of}
-use Rattle.machine.specs.Program.{valid}
+use Rattle.machine.specs.Program.{Program, valid}
 use Rattle.layout.specs.Decode.{input-count, program-at, register-total}
 use Rattle.run.specs.Views.{answer-of}
-use Rattle.listing.specs.Legs.{line-of, printed, run-line, value-record}
+use Rattle.listing.specs.Legs.{Line, bad, line-of, printed, run-line, value-record}
 use Rattle.lines.specs.declared.values.Reading.{Reading}
 use Rattle.lines.specs.declared.values.Found.{Found}
+use Rattle.lines.specs.declared.values.Found.the-variants.{Malformed, Values}
 use Rattle.lines.specs.declared.record.Outcome.{Outcome}
-use Rattle.lines.specs.Reading.{Finds, Reads}
+use Rattle.lines.specs.Reading.{Reads}
 use Rattle.lines.specs.Text.{Wrote}
 
 -- bytes that are a program, with as many places for values and registers as it needs
@@ -26,9 +29,15 @@ pub record Ready (p : List ℕ) (values regs : ℕ) : Type 0 where
 abbrev pub Runs : List ℕ → List Float → Outcome → Type 0
 Runs p inputs o = line-of (answer-of p (o .answer)) (o .count) ≡ run-line (program-at p) inputs
 
+-- "A value line that isn't hex digits and commas as said shows `bad` with 3; otherwise a wrong count of values or a value that isn't finite shows 5":
+-- the number or the values of each case. More values than the slice has places are a wrong count, which a run shows of any other.
+abbrev pub found-line : Program → Found → List Float → Line
+found-line P Malformed values = bad malformed-line
+found-line P (Values n) values = cond (ltb (length values) n) (bad invalid-input) (run-line P (take n values))
+
 -- the outcome of what a line was found to be
 abbrev pub Answers : List ℕ → Found → List Float → Outcome → Type 0
-Answers p found values o = (line : Option (List ℕ)) → Finds line found values → line-of (answer-of p (o .answer)) (o .count) ≡ value-record (program-at p) line
+Answers p found values o = line-of (answer-of p (o .answer)) (o .count) ≡ found-line (program-at p) found values
 
 -- the record of a line whose bytes are `seen` stands in the output
 abbrev pub Records : List ℕ → Reading → List Float → ℕ → List ℕ → ℕ → List ℕ → ℕ → Type 0

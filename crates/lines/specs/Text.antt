@@ -1,8 +1,8 @@
 -- Texts written into the output, and the parts of an output line.
 use mathlib.Core.Path.{_≡_}
 use mathlib.Core.List.{List, _++_}
-use Prim.Native.Nat.{ℕ, _+_}
-use lib.ListN.{length}
+use Prim.Native.Nat.{ℕ, _+_, _≤_}
+use lib.ListN.{length, drop}
 use Rattle.formula.specs.Text.{ascii, decimal}
 use Rattle.steps.specs.Steps.{over}
 use Rattle.run.specs.declared.Answer.{Answer}
@@ -13,6 +13,11 @@ use Rattle.listing.specs.Legs.{Line, colon, comma, line-of}
 pub record Wrote (out : List ℕ) (at : ℕ) (xs out′ : List ℕ) (end : ℕ) : Type 0 where
   pub ends : end ≡ at + length xs
   pub stands : out′ ≡ over out at xs
+
+-- some text stands there, and what follows it is as it was
+pub record Wrote-some (out : List ℕ) (at : ℕ) (out′ : List ℕ) (end : ℕ) : Type 0 where
+  pub from : at ≤ end
+  pub beyond : drop end out′ ≡ drop end out
 
 -- the answer and its detail
 abbrev pub shown : Line → List ℕ

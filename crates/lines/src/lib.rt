@@ -7,12 +7,14 @@ pub mod values;
 ghost use mathlib.Core.Path.{_≡_};
 ghost use mathlib.Core.Bool.{true, false};
 ghost use mathlib.Core.Option.{none};
-ghost use Prim.Native.Nat.{_+_, _≤_, _<_};
+ghost use Prim.Native.Nat.{_+_, _-_, _≤_, _<_};
 ghost use lib.ListN.{length, getD, set, take};
 ghost use Rattle.layout.specs.Decode.{program-at};
 ghost use Rattle.listing.specs.Legs.{refusal-line};
 ghost use Rattle.names.proofs.Splits.{free};
-ghost use Rattle.lines.specs.Owed.{Advances, Begins, Compiled-as, Ends, Keeps-on, Lists, Names-advance, Names-end, Opens, Text-length, Values-advance, Values-end, memory, one-more};
+ghost use Rattle.steps.specs.Steps.{over};
+ghost use Rattle.lines.specs.Calls.{Advancing, Beginning, Finishing, Listing-block, Names-advance, Names-end, Starting, Values-advance, Values-end};
+ghost use Rattle.lines.specs.Owed.{Keeps-on, Opens, Text-length, line-number, memory, one-more};
 ghost use Rattle.lines.specs.Record.{Ready};
 ghost use Rattle.lines.specs.Text.{Wrote};
 use compile::Answer;
@@ -60,8 +62,7 @@ fn list_values(
     out: &mut [u8],
 ) -> Listed
     requires { ⌜ Ready (now p) (length (now values)) (length (now regs)) ⌝ }
-    ensures { λ r. ⌜ Lists (program-at (now (p .entry))) number s (now (values .entry)) (take (r .used) (now (input .entry))) (take (r .length) (now (out .exit))) (r .number) (r .reading) (now (values .exit)) ⌝ }
-    ensures place { λ r. ⌜ (r .used ≤ length (now (input .entry))) × (r .length ≤ length (now (out .entry))) ⌝ }
+    ensures { λ r. ⌜ Listing-block (program-at (now (p .entry))) number s (now (values .entry)) (now (input .entry)) (now (out .entry)) r (now (values .exit)) (now (out .exit)) ⌝ }
 {
     let mut at = 0;
     let mut length = 0;
@@ -135,6 +136,7 @@ fn keep_byte(names: &mut [u8], count: usize, b: u8) -> usize
 fn keep_names(input: &[u8], names: &mut [u8], k: usize) -> Kept
     ensures place { λ r. ⌜ (r .end ≤ length (now (input .entry))) × (free 10 (take (r .end) (now (input .entry))) ≡ true) × (r .end < length (now (input .entry)) → getD (now (input .entry)) (r .end) 0 ≡ 10) ⌝ }
     ensures kept { λ r. ⌜ Keeps-on k (now (names .entry)) (take (r .end) (now (input .entry))) (r .count) (now (names .exit)) ⌝ }
+    ensures holds { λ r. ⌜ (now (names .exit) ≡ over (now (names .entry)) k (take (length (now (names .entry)) - k) (take (r .end) (now (input .entry))))) × (r .count ≡ k + length (take (length (now (names .entry)) - k) (take (r .end) (now (input .entry))))) ⌝ }
 {
     let mut end = 0;
     let mut count = k;
@@ -175,8 +177,7 @@ fn text_length(path: &[u8]) -> usize
 // Compiles the formula over the names: a refusal's line is written, or the lines of values begin.
 fn begin(formula: &[u8], names: &[u8], path: &mut [u8], program: &mut [u8], out: &mut [u8]) -> Begun
     requires { ⌜ 8209 ≤ length (now out) ⌝ }
-    ensures { λ r. ⌜ Compiled-as (now (formula .entry)) (now (names .entry)) (now (path .entry)) (now (program .entry)) (now (program .exit)) r (now (out .entry)) (now (out .exit)) ⌝ }
-    ensures room { λ r. ⌜ r .length ≤ length (now (out .entry)) ⌝ }
+    ensures { λ r. ⌜ Beginning (now (formula .entry)) (now (names .entry)) (now (path .entry)) (now (program .entry)) (now (path .exit)) (now (program .exit)) r (now (out .entry)) (now (out .exit)) ⌝ }
 {
     let a = compile::compile(formula, names, path, program);
     match a {
@@ -203,7 +204,7 @@ fn put_missing(out: &mut [u8], at: usize) -> Begun
     ensures { λ r. ⌜ (r .stage ≡ Stage.Finished) × Wrote (now (out .entry)) at (refusal-line 1 none) (now (out .exit)) (r .length) ⌝ }
     ensures room { λ r. ⌜ r .length ≤ length (now (out .entry)) ⌝ }
 {
-    let length = text::put_refusal(out, at, 1, b"");
+    let length = text::put_refusal(out, at, refusals::SLICE_TOO_SHORT, b"");
     Begun {
         stage: Stage::Finished,
         length: length,
@@ -214,7 +215,7 @@ fn put_missing(out: &mut [u8], at: usize) -> Begun
 fn opened(readable: bool, formula: &[u8], out: &mut [u8], at: usize) -> Begun
     requires { ⌜ at + 8209 ≤ length (now out) ⌝ }
     ensures { λ r. ⌜ Opens readable (now (formula .entry)) r (now (out .entry)) at (now (out .exit)) ⌝ }
-    ensures room { λ r. ⌜ r .length ≤ length (now (out .entry)) ⌝ }
+    ensures room { λ r. ⌜ (r .length ≤ length (now (out .entry))) × (line-number (r .stage) ≡ 0) ⌝ }
 {
     if readable {
         if formula.len() <= 4096 {
@@ -230,10 +231,10 @@ fn opened(readable: bool, formula: &[u8], out: &mut [u8], at: usize) -> Begun
 
 // Begins the listing of a formula file, which can be read or not: the header. The output needs 8,242 bytes.
 pub fn start(readable: bool, formula: &[u8], out: &mut [u8]) -> Begun
-    ensures { λ r. ⌜ (8242 ≤ length (now (out .entry)) → Begins readable (now (formula .entry)) (r .stage) (take (r .length) (now (out .exit)))) ⌝ }
-    ensures room { λ r. ⌜ r .length ≤ length (now (out .entry)) ⌝ }
+    ensures { λ r. ⌜ Starting readable (now (formula .entry)) (now (out .entry)) r (now (out .exit)) ⌝ }
 {
-    if out.len() < 8242 {
+    let room = out.len();
+    if room < 8242 {
         return Begun {
             stage: Stage::Finished,
             length: 0,
@@ -264,10 +265,12 @@ fn advance_names(
     program: &mut [u8],
     out: &mut [u8],
 ) -> Advanced
-    requires { ⌜ 8209 ≤ length (now out) ⌝ }
-    ensures { λ r. ⌜ Names-advance (now (formula .entry)) (now (input .entry)) k (now (names .entry)) (now (path .entry)) (now (program .entry)) r (now (names .exit)) (now (path .exit)) (now (program .exit)) (now (out .exit)) ⌝ }
-    ensures place { λ r. ⌜ (r .used ≤ length (now (input .entry))) × (r .length ≤ length (now (out .entry))) ⌝ }
+    requires { ⌜ 8242 ≤ length (now out) ⌝ }
+    ensures { λ r. ⌜ Names-advance (now (formula .entry)) (now (input .entry)) k (now (names .entry)) (now (path .entry)) (now (program .entry)) (now (out .entry)) r (now (names .exit)) (now (path .exit)) (now (program .exit)) (now (out .exit)) ⌝ }
 {
+    if names.len() < k {
+        return stuck(Stage::Names(k));
+    }
     let kept = keep_names(input, names, k);
     let count = kept.count;
     let end = kept.end;
@@ -277,9 +280,6 @@ fn advance_names(
             used: end,
             length: 0,
         };
-    }
-    if names.len() < count {
-        return stuck(Stage::Names(k));
     }
     let b = begin(formula, &names[..count], path, program, out);
     let stage = b.stage;
@@ -300,8 +300,8 @@ fn advance_values(
     regs: &mut [f64],
     out: &mut [u8],
 ) -> Advanced
-    ensures { λ r. ⌜ Values-advance (now (input .entry)) number s (now (program .entry)) (now (values .entry)) (now (regs .entry)) r (now (values .exit)) (now (regs .exit)) (now (out .exit)) ⌝ }
-    ensures place { λ r. ⌜ (r .used ≤ length (now (input .entry))) × (r .length ≤ length (now (out .entry))) ⌝ }
+    requires { ⌜ 8242 ≤ length (now out) ⌝ }
+    ensures { λ r. ⌜ Values-advance (now (input .entry)) number s (now (program .entry)) (now (values .entry)) (now (regs .entry)) (now (out .entry)) r (now (values .exit)) (now (regs .exit)) (now (out .exit)) ⌝ }
 {
     let ready = is_ready(program, values.len(), regs.len());
     if ready {
@@ -317,7 +317,8 @@ fn advance_values(
 }
 
 // Uses a block of input, from its first byte on, and says how many bytes of it were used; the rest is for the next call. Where
-// it uses none, the memory is too small or the lines are more than 2^64 - 2, and no call will.
+// it uses none of a block that has a byte, the output has less than 8,242 bytes, the stage is none that `start` or `advance` gave
+// with this memory, or the lines are more than 2^64 - 2.
 pub fn advance(
     formula: &[u8],
     input: &[u8],
@@ -329,10 +330,10 @@ pub fn advance(
     regs: &mut [f64],
     out: &mut [u8],
 ) -> Advanced
-    ensures { λ r. ⌜ Advances (now (formula .entry)) (memory (now (names .entry)) (now (path .entry)) (now (program .entry)) (now (values .entry)) (now (regs .entry))) stage (take (r .used) (now (input .entry))) (memory (now (names .exit)) (now (path .exit)) (now (program .exit)) (now (values .exit)) (now (regs .exit))) (r .stage) (take (r .length) (now (out .exit))) ⌝ }
-    ensures place { λ r. ⌜ (r .used ≤ length (now (input .entry))) × (r .length ≤ length (now (out .entry))) ⌝ }
+    ensures { λ r. ⌜ Advancing (now (formula .entry)) (now (input .entry)) (memory (now (names .entry)) (now (path .entry)) (now (program .entry)) (now (values .entry)) (now (regs .entry))) stage (now (out .entry)) r (memory (now (names .exit)) (now (path .exit)) (now (program .exit)) (now (values .exit)) (now (regs .exit))) (now (out .exit)) ⌝ }
 {
-    if out.len() < 8242 {
+    let places = out.len();
+    if places < 8242 {
         return stuck(stage);
     }
     match stage {
@@ -356,8 +357,7 @@ fn finish_values(
     out: &mut [u8],
 ) -> usize
     requires { ⌜ 8242 ≤ length (now out) ⌝ }
-    ensures { λ r. ⌜ Values-end number s (now (program .entry)) (now (values .entry)) (now (regs .entry)) (take r (now (out .exit))) ⌝ }
-    ensures room { λ r. ⌜ r ≤ length (now (out .entry)) ⌝ }
+    ensures { λ r. ⌜ Values-end number s (now (program .entry)) (now (values .entry)) (now (regs .entry)) (now (out .entry)) r (now (values .exit)) (now (regs .exit)) (now (out .exit)) ⌝ }
 {
     let none = values::is_empty(s);
     if none {
@@ -380,8 +380,7 @@ fn finish_names(
     out: &mut [u8],
 ) -> usize
     requires { ⌜ 8242 ≤ length (now out) ⌝ }
-    ensures { λ r. ⌜ Names-end (now (formula .entry)) k (now (names .entry)) (now (path .entry)) (now (program .entry)) (take r (now (out .exit))) ⌝ }
-    ensures room { λ r. ⌜ r ≤ length (now (out .entry)) ⌝ }
+    ensures { λ r. ⌜ Names-end (now (formula .entry)) k (now (names .entry)) (now (path .entry)) (now (program .entry)) (now (out .entry)) r (now (path .exit)) (now (program .exit)) (now (out .exit)) ⌝ }
 {
     if names.len() < k {
         return 0;
@@ -401,8 +400,7 @@ pub fn finish(
     regs: &mut [f64],
     out: &mut [u8],
 ) -> usize
-    ensures { λ r. ⌜ (8242 ≤ length (now (out .entry)) → Ends (now (formula .entry)) (memory (now (names .entry)) (now (path .entry)) (now (program .entry)) (now (values .entry)) (now (regs .entry))) stage (take r (now (out .exit)))) ⌝ }
-    ensures room { λ r. ⌜ r ≤ length (now (out .entry)) ⌝ }
+    ensures { λ r. ⌜ Finishing (now (formula .entry)) (memory (now (names .entry)) (now (path .entry)) (now (program .entry)) (now (values .entry)) (now (regs .entry))) stage (now (out .entry)) r (memory (now (names .entry)) (now (path .exit)) (now (program .exit)) (now (values .exit)) (now (regs .exit))) (now (out .exit)) ⌝ }
 {
     if out.len() < 8242 {
         return 0;

@@ -13,6 +13,7 @@ ghost use Rattle.machine.specs.Program.{valid};
 ghost use Rattle.layout.specs.Decode.{program-at, register-total};
 ghost use Rattle.run.specs.Views.{Writable};
 ghost use Rattle.lines.specs.Record.{Answers, Ready, Records, Runs};
+ghost use Rattle.lines.specs.Text.{Wrote-some};
 
 // An answer, and the instructions completed.
 pub struct Outcome {
@@ -52,7 +53,7 @@ fn refused(n: u8) -> Outcome
     ensures { λ r. ⌜ r ≡ record { answer = Answer.Refused n; count = 0 } ⌝ }
 {
     Outcome {
-        answer: Answer::Refused(n),
+        answer: Answer::Refused(n as usize),
         count: 0,
     }
 }
@@ -65,10 +66,10 @@ fn answer_of(p: &[u8], found: Found, values: &[f64], regs: &mut [f64]) -> Outcom
     ensures place { λ r. ⌜ Writable (now (p .entry)) 8192 (r .answer) ⌝ }
 {
     match found {
-        Found::Malformed => refused(3),
+        Found::Malformed => refused(refusals::MALFORMED_LINE),
         Found::Values(n) => {
             if values.len() < n {
-                return refused(5);
+                return refused(refusals::INVALID_INPUT);
             }
             run_values(p, &values[..n], regs)
         }
@@ -87,6 +88,7 @@ pub(crate) fn put_record(
 ) -> usize
     requires { ⌜ Ready (now p) (length (now values)) (length (now regs)) × (at + 8242 ≤ length (now out)) ⌝ }
     ensures { λ r. ⌜ Records (now (p .entry)) s (now (values .entry)) number (now (out .entry)) at (now (out .exit)) r ⌝ }
+    ensures beyond { λ r. ⌜ Wrote-some (now (out .entry)) at (now (out .exit)) r ⌝ }
     ensures room { λ r. ⌜ r ≤ at + 8242 ⌝ }
 {
     let found = finish(s, values);

@@ -1,21 +1,26 @@
+use Rattle.legs.specs.Fed.{Feeds}
 use Rattle.legs.specs.File.{Within}
+use Rattle.legs.specs.declared.Fed.{Fed}
 use Rattle.legs.specs.declared.File.{File}
+use Rattle.legs.proofs.Feeding.{Feeding-all, all-feedable, all-start, all-step}
+use Rattle.lines.specs.Owed.{memory}
 use borrow.Author.Needs.{needs}
 use lib.Seq.{length-take-le}
-use lib.ListN.{length}
-use mathlib.Core.Path.{_≡_, refl, sym, _∙_, subst}
+use lib.ListN.{length, take}
+use Prim.Native.Nat.{_≤_}
+use mathlib.Core.Path.{sym, _∙_, subst}
 use native.Mathlib.Omega.{arith}
 use Rattle.legs.proofs.feed_all.Statement.{statement}
 use Rattle.legs.proofs.feed_all.Tie as tie
 
 abbrev Inv-loop : tie.InvT-loop
-Inv-loop formula block₀ names₀ path₀ program₀ values₀ regs₀ out₀ stage₀ turns₀ block names path program values regs out stage turns = (length block ≡ length block₀) × (length names ≡ length names₀) × (length path ≡ length path₀) × (length program ≡ length program₀) × (length values ≡ length values₀) × (length regs ≡ length regs₀) × (length out ≡ length out₀)
+Inv-loop formula block₀ names₀ path₀ program₀ values₀ regs₀ out₀ stage₀ turns₀ block names path program values regs out stage turns = Feeding-all formula block₀ (memory names₀ path₀ program₀ values₀ regs₀) stage₀ out₀ block (memory names path program values regs) stage out turns
 
 abbrev μ-loop : tie.MeasureT-loop
 μ-loop formula block₀ names₀ path₀ program₀ values₀ regs₀ out₀ stage₀ turns₀ block names path program values regs out stage turns = turns
 
 loop-holds : tie.Need-loop-holds Inv-loop μ-loop
-loop-holds c = (refl, refl, refl, refl, refl, refl, refl)
+loop-holds c = let a = c .before .before .before .before .before .before .before .before .args in all-start (a .formula .now) (a .block .now) (memory (a .names .now) (a .path .now) (a .program .now) (a .values .now) (a .regs .now)) (a .start) (a .out .now) (c .before .before .before .before .before .before .before .before .pre)
 
 read-once-requires : tie.Need-read-once-requires Inv-loop μ-loop
 read-once-requires c κs = tt
@@ -27,52 +32,52 @@ enum-told : tie.Need-enum-told Inv-loop μ-loop
 enum-told c = search needs
 
 same-length : tie.Need-same-length Inv-loop μ-loop
-same-length c = c .before .before .before .before .read-once .kept .1 .0 ∙ c .before .before .before .before .before .before .before .loop .inv .0
+same-length c = c .before .before .before .before .read-once .kept .1 .0 ∙ c .before .before .before .before .before .before .before .loop .inv .same-block
 
 same-length-2 : tie.Need-same-length-2 Inv-loop μ-loop
-same-length-2 c = c .before .before .before .before .before .before .before .loop .inv .1
+same-length-2 c = c .before .before .before .before .before .before .before .loop .inv .same .names
 
 same-length-3 : tie.Need-same-length-3 Inv-loop μ-loop
-same-length-3 c = c .before .before .before .before .before .before .before .loop .inv .2
+same-length-3 c = c .before .before .before .before .before .before .before .loop .inv .same .path
 
 same-length-4 : tie.Need-same-length-4 Inv-loop μ-loop
-same-length-4 c = c .before .before .before .before .before .before .before .loop .inv .3
+same-length-4 c = c .before .before .before .before .before .before .before .loop .inv .same .program
 
 same-length-5 : tie.Need-same-length-5 Inv-loop μ-loop
-same-length-5 c = c .before .before .before .before .before .before .before .loop .inv .4
+same-length-5 c = c .before .before .before .before .before .before .before .loop .inv .same .values
 
 same-length-6 : tie.Need-same-length-6 Inv-loop μ-loop
-same-length-6 c = c .before .before .before .before .before .before .before .loop .inv .5
+same-length-6 c = c .before .before .before .before .before .before .before .loop .inv .same .regs
 
 same-length-7 : tie.Need-same-length-7 Inv-loop μ-loop
-same-length-7 c = c .before .before .before .before .before .before .before .loop .inv .6
+same-length-7 c = c .before .before .before .before .before .before .before .loop .inv .same .output
 
 returns : tie.Need-returns Inv-loop μ-loop
-returns c = tt
+returns c = c .before .before .before .before .before .before .before .loop .inv .fed
 
 same-length-8 : tie.Need-same-length-8 Inv-loop μ-loop
-same-length-8 c = c .before .before .before .before .before .before .read-once .kept .1 .0 ∙ c .before .before .before .before .before .before .before .before .before .loop .inv .0
+same-length-8 c = c .before .before .before .before .before .before .read-once .kept .1 .0 ∙ c .before .before .before .before .before .before .before .before .before .loop .inv .same-block
 
 same-length-9 : tie.Need-same-length-9 Inv-loop μ-loop
-same-length-9 c = c .before .before .before .before .before .before .before .before .before .loop .inv .1
+same-length-9 c = c .before .before .before .before .before .before .before .before .before .loop .inv .same .names
 
 same-length-10 : tie.Need-same-length-10 Inv-loop μ-loop
-same-length-10 c = c .before .before .before .before .before .before .before .before .before .loop .inv .2
+same-length-10 c = c .before .before .before .before .before .before .before .before .before .loop .inv .same .path
 
 same-length-11 : tie.Need-same-length-11 Inv-loop μ-loop
-same-length-11 c = c .before .before .before .before .before .before .before .before .before .loop .inv .3
+same-length-11 c = c .before .before .before .before .before .before .before .before .before .loop .inv .same .program
 
 same-length-12 : tie.Need-same-length-12 Inv-loop μ-loop
-same-length-12 c = c .before .before .before .before .before .before .before .before .before .loop .inv .4
+same-length-12 c = c .before .before .before .before .before .before .before .before .before .loop .inv .same .values
 
 same-length-13 : tie.Need-same-length-13 Inv-loop μ-loop
-same-length-13 c = c .before .before .before .before .before .before .before .before .before .loop .inv .5
+same-length-13 c = c .before .before .before .before .before .before .before .before .before .loop .inv .same .regs
 
 same-length-14 : tie.Need-same-length-14 Inv-loop μ-loop
-same-length-14 c = c .before .before .before .before .before .before .before .before .before .loop .inv .6
+same-length-14 c = c .before .before .before .before .before .before .before .before .before .loop .inv .same .output
 
 returns-2 : tie.Need-returns-2 Inv-loop μ-loop
-returns-2 c = tt
+returns-2 c = c .before .before .before .before .before .before .before .before .before .loop .inv .fed
 
 slice-reshare-prefix-feed : tie.Need-slice-reshare-prefix-feed Inv-loop μ-loop
 slice-reshare-prefix-feed c = omega (arith, subst (λ (f : File). Within f (length (c .before .before .before .before .before .before .before .before .before .loop .block))) (c .before .before .read .given .1) (c .before .before .before .before .before .before .read-once .ensures), c .before .before .before .before .before .before .read-once .kept .1 .0)
@@ -81,34 +86,31 @@ slice-aggregate-feed : tie.Need-slice-aggregate-feed Inv-loop μ-loop
 slice-aggregate-feed c = sym (length-take-le (c .before .before .before .read .given .0 .0) (c .before .before .before .before .before .before .before .read-once .last .1 .0) (omega (arith, subst (λ (f : File). Within f (length (c .before .before .before .before .before .before .before .before .before .before .loop .block))) (c .before .before .before .read .given .1) (c .before .before .before .before .before .before .before .read-once .ensures), c .before .before .before .before .before .before .before .read-once .kept .1 .0)))
 
 feed-requires : tie.Need-feed-requires Inv-loop μ-loop
-feed-requires c κs = tt
+feed-requires c κs = let a = c .before .before .before .before .before .before .before .before .before .before .before .before .before .before .before .before .before .before .before .before .before .before .before .before .before .args in let l = c .before .before .before .before .before .before .before .before .before .before .before .before .before .before .before .before .loop in let b = c .before .before .before .before .before .before .before .before .before .before .before .before .before .read-once in all-feedable (a .formula .now) (a .block .now) (memory (a .names .now) (a .path .now) (a .program .now) (a .values .now) (a .regs .now)) (a .start) (a .out .now) (c .before .before .before .before .before .before .before .before .before .before .before .before .before .before .before .before .before .before .before .before .before .before .before .before .before .pre) (l .block) (memory (l .names) (l .path) (l .program) (l .values) (l .regs)) (l .stage) (l .out) (l .turns) (l .inv) (b .last .1 .0) (c .before .before .before .before .before .before .before .before .before .read .given .0 .0) (let w = subst (λ (f : File). Within f (length (c .before .before .before .before .before .before .before .before .before .before .before .before .before .before .before .before .loop .block))) (c .before .before .before .before .before .before .before .before .before .read .given .1) (c .before .before .before .before .before .before .before .before .before .before .before .before .before .read-once .ensures) in omega (arith, c .before .before .before .before .before .before .before .before .before .before .before .before .before .before .before .before .loop .inv .same-block)) (c .before .before .before .before .before .before .before .before .before .before .before .before .before .before .before .loop-test .taken)
 
 enum-known-fed : tie.Need-enum-known-fed Inv-loop μ-loop
 enum-known-fed c = search needs
 
-enum-told-2 : tie.Need-enum-told-2 Inv-loop μ-loop
-enum-told-2 c = search needs
-
 same-length-15 : tie.Need-same-length-15 Inv-loop μ-loop
-same-length-15 c = c .before .before .before .before .before .before .before .before .before .before .before .before .before .before .before .before .before .before .before .before .before .before .before .before .before .before .before .before .read-once .kept .1 .0 ∙ c .before .before .before .before .before .before .before .before .before .before .before .before .before .before .before .before .before .before .before .before .before .before .before .before .before .before .before .before .before .before .before .loop .inv .0
+same-length-15 c = c .before .before .before .before .before .before .before .before .before .before .before .before .before .before .before .before .before .before .before .before .before .before .before .before .before .before .before .read-once .kept .1 .0 ∙ c .before .before .before .before .before .before .before .before .before .before .before .before .before .before .before .before .before .before .before .before .before .before .before .before .before .before .before .before .before .before .loop .inv .same-block
 
 same-length-16 : tie.Need-same-length-16 Inv-loop μ-loop
-same-length-16 c = c .before .before .before .before .before .before .before .before .before .before .before .before .before .before .feed .kept .1 .1 .1 .0 ∙ c .before .before .before .before .before .before .before .before .before .before .before .before .before .before .before .before .before .before .before .before .before .before .before .before .before .before .before .before .before .before .before .loop .inv .1
+same-length-16 c = c .before .before .before .before .before .before .before .before .before .before .before .before .before .feed .kept .1 .1 .1 .0 ∙ c .before .before .before .before .before .before .before .before .before .before .before .before .before .before .before .before .before .before .before .before .before .before .before .before .before .before .before .before .before .before .loop .inv .same .names
 
 same-length-17 : tie.Need-same-length-17 Inv-loop μ-loop
-same-length-17 c = c .before .before .before .before .before .before .before .before .before .before .before .before .before .before .feed .kept .1 .1 .1 .1 .0 ∙ c .before .before .before .before .before .before .before .before .before .before .before .before .before .before .before .before .before .before .before .before .before .before .before .before .before .before .before .before .before .before .before .loop .inv .2
+same-length-17 c = c .before .before .before .before .before .before .before .before .before .before .before .before .before .feed .kept .1 .1 .1 .1 .0 ∙ c .before .before .before .before .before .before .before .before .before .before .before .before .before .before .before .before .before .before .before .before .before .before .before .before .before .before .before .before .before .before .loop .inv .same .path
 
 same-length-18 : tie.Need-same-length-18 Inv-loop μ-loop
-same-length-18 c = c .before .before .before .before .before .before .before .before .before .before .before .before .before .before .feed .kept .1 .1 .1 .1 .1 .0 ∙ c .before .before .before .before .before .before .before .before .before .before .before .before .before .before .before .before .before .before .before .before .before .before .before .before .before .before .before .before .before .before .before .loop .inv .3
+same-length-18 c = c .before .before .before .before .before .before .before .before .before .before .before .before .before .feed .kept .1 .1 .1 .1 .1 .0 ∙ c .before .before .before .before .before .before .before .before .before .before .before .before .before .before .before .before .before .before .before .before .before .before .before .before .before .before .before .before .before .before .loop .inv .same .program
 
 same-length-19 : tie.Need-same-length-19 Inv-loop μ-loop
-same-length-19 c = c .before .before .before .before .before .before .before .before .before .before .before .before .before .before .feed .kept .1 .1 .1 .1 .1 .1 .0 ∙ c .before .before .before .before .before .before .before .before .before .before .before .before .before .before .before .before .before .before .before .before .before .before .before .before .before .before .before .before .before .before .before .loop .inv .4
+same-length-19 c = c .before .before .before .before .before .before .before .before .before .before .before .before .before .feed .kept .1 .1 .1 .1 .1 .1 .0 ∙ c .before .before .before .before .before .before .before .before .before .before .before .before .before .before .before .before .before .before .before .before .before .before .before .before .before .before .before .before .before .before .loop .inv .same .values
 
 same-length-20 : tie.Need-same-length-20 Inv-loop μ-loop
-same-length-20 c = c .before .before .before .before .before .before .before .before .before .before .before .before .before .before .feed .kept .1 .1 .1 .1 .1 .1 .1 .0 ∙ c .before .before .before .before .before .before .before .before .before .before .before .before .before .before .before .before .before .before .before .before .before .before .before .before .before .before .before .before .before .before .before .loop .inv .5
+same-length-20 c = c .before .before .before .before .before .before .before .before .before .before .before .before .before .feed .kept .1 .1 .1 .1 .1 .1 .1 .0 ∙ c .before .before .before .before .before .before .before .before .before .before .before .before .before .before .before .before .before .before .before .before .before .before .before .before .before .before .before .before .before .before .loop .inv .same .regs
 
 same-length-21 : tie.Need-same-length-21 Inv-loop μ-loop
-same-length-21 c = c .before .before .before .before .before .before .before .before .before .before .before .before .before .before .feed .kept .1 .1 .1 .1 .1 .1 .1 .1 .0 ∙ c .before .before .before .before .before .before .before .before .before .before .before .before .before .before .before .before .before .before .before .before .before .before .before .before .before .before .before .before .before .before .before .loop .inv .6
+same-length-21 c = c .before .before .before .before .before .before .before .before .before .before .before .before .before .feed .kept .1 .1 .1 .1 .1 .1 .1 .1 .0 ∙ c .before .before .before .before .before .before .before .before .before .before .before .before .before .before .before .before .before .before .before .before .before .before .before .before .before .before .before .before .before .before .loop .inv .same .output
 
 returns-3 : tie.Need-returns-3 Inv-loop μ-loop
 returns-3 c = tt
@@ -120,28 +122,31 @@ loop-less : tie.Need-loop-less Inv-loop μ-loop
 loop-less c = omega (arith, c .before .before .before .before .before .before .before .before .before .before .before .before .before .before .before .before .before .before .before .before .before .before .before .before .before .before .before .before .before .before .before .loop-test .taken)
 
 loop-again : tie.Need-loop-again Inv-loop μ-loop
-loop-again c = (c .before .before .before .before .before .before .before .before .before .before .before .before .before .before .before .before .before .before .before .before .before .before .before .before .before .before .before .before .before .read-once .kept .1 .0 ∙ c .before .before .before .before .before .before .before .before .before .before .before .before .before .before .before .before .before .before .before .before .before .before .before .before .before .before .before .before .before .before .before .before .loop .inv .0, c .before .before .before .before .before .before .before .before .before .before .before .before .before .before .before .feed .kept .1 .1 .1 .0 ∙ c .before .before .before .before .before .before .before .before .before .before .before .before .before .before .before .before .before .before .before .before .before .before .before .before .before .before .before .before .before .before .before .before .loop .inv .1, c .before .before .before .before .before .before .before .before .before .before .before .before .before .before .before .feed .kept .1 .1 .1 .1 .0 ∙ c .before .before .before .before .before .before .before .before .before .before .before .before .before .before .before .before .before .before .before .before .before .before .before .before .before .before .before .before .before .before .before .before .loop .inv .2, c .before .before .before .before .before .before .before .before .before .before .before .before .before .before .before .feed .kept .1 .1 .1 .1 .1 .0 ∙ c .before .before .before .before .before .before .before .before .before .before .before .before .before .before .before .before .before .before .before .before .before .before .before .before .before .before .before .before .before .before .before .before .loop .inv .3, c .before .before .before .before .before .before .before .before .before .before .before .before .before .before .before .feed .kept .1 .1 .1 .1 .1 .1 .0 ∙ c .before .before .before .before .before .before .before .before .before .before .before .before .before .before .before .before .before .before .before .before .before .before .before .before .before .before .before .before .before .before .before .before .loop .inv .4, c .before .before .before .before .before .before .before .before .before .before .before .before .before .before .before .feed .kept .1 .1 .1 .1 .1 .1 .1 .0 ∙ c .before .before .before .before .before .before .before .before .before .before .before .before .before .before .before .before .before .before .before .before .before .before .before .before .before .before .before .before .before .before .before .before .loop .inv .5, c .before .before .before .before .before .before .before .before .before .before .before .before .before .before .before .feed .kept .1 .1 .1 .1 .1 .1 .1 .1 .0 ∙ c .before .before .before .before .before .before .before .before .before .before .before .before .before .before .before .before .before .before .before .before .before .before .before .before .before .before .before .before .before .before .before .before .loop .inv .6)
+loop-again c = let a = c .before .before .before .before .before .before .before .before .before .before .before .before .before .before .before .before .before .before .before .before .before .before .before .before .before .before .before .before .before .before .before .before .before .before .before .before .before .before .before .before .before .args in let l = c .before .before .before .before .before .before .before .before .before .before .before .before .before .before .before .before .before .before .before .before .before .before .before .before .before .before .before .before .before .before .before .before .loop in let b = c .before .before .before .before .before .before .before .before .before .before .before .before .before .before .before .before .before .before .before .before .before .before .before .before .before .before .before .before .before .read-once in let f = c .before .before .before .before .before .before .before .before .before .before .before .before .before .before .before .feed in all-step (a .formula .now) (a .block .now) (memory (a .names .now) (a .path .now) (a .program .now) (a .values .now) (a .regs .now)) (a .start) (a .out .now) (c .before .before .before .before .before .before .before .before .before .before .before .before .before .before .before .before .before .before .before .before .before .before .before .before .before .before .before .before .before .before .before .before .before .before .before .before .before .before .before .before .before .pre) (l .block) (memory (l .names) (l .path) (l .program) (l .values) (l .regs)) (l .stage) (l .out) (l .turns) (l .inv) (b .last .1 .0) (c .before .before .before .before .before .before .before .before .before .before .before .before .before .before .before .before .before .before .before .before .before .before .before .before .before .read .given .0 .0) (let w = subst (λ (f : File). Within f (length (c .before .before .before .before .before .before .before .before .before .before .before .before .before .before .before .before .before .before .before .before .before .before .before .before .before .before .before .before .before .before .before .before .loop .block))) (c .before .before .before .before .before .before .before .before .before .before .before .before .before .before .before .before .before .before .before .before .before .before .before .before .before .read .given .1) (c .before .before .before .before .before .before .before .before .before .before .before .before .before .before .before .before .before .before .before .before .before .before .before .before .before .before .before .before .before .read-once .ensures) in omega (arith, c .before .before .before .before .before .before .before .before .before .before .before .before .before .before .before .before .before .before .before .before .before .before .before .before .before .before .before .before .before .before .before .before .loop .inv .same-block)) (c .before .before .before .before .before .before .before .before .before .before .before .before .before .before .before .before .before .before .before .before .before .before .before .before .before .before .before .before .before .before .before .loop-test .taken)
+    (memory (f .last .1 .1 .1 .0) (f .last .1 .1 .1 .1 .0) (f .last .1 .1 .1 .1 .1 .0) (f .last .1 .1 .1 .1 .1 .1 .0) (f .last .1 .1 .1 .1 .1 .1 .1 .0)) (c .before .fed .given .0 .0) (f .last .1 .1 .1 .1 .1 .1 .1 .1 .0) (b .kept .1 .0)
+    (record { names = f .kept .1 .1 .1 .0; path = f .kept .1 .1 .1 .1 .0; program = f .kept .1 .1 .1 .1 .1 .0; values = f .kept .1 .1 .1 .1 .1 .1 .0; regs = f .kept .1 .1 .1 .1 .1 .1 .1 .0; output = f .kept .1 .1 .1 .1 .1 .1 .1 .1 .0 })
+    (subst (λ (x : Fed). Feeds (a .formula .now) (memory (l .names) (l .path) (l .program) (l .values) (l .regs)) (l .stage) (take (c .before .before .before .before .before .before .before .before .before .before .before .before .before .before .before .before .before .before .before .before .before .before .before .before .before .read .given .0 .0) (b .last .1 .0)) (memory (f .last .1 .1 .1 .0) (f .last .1 .1 .1 .1 .0) (f .last .1 .1 .1 .1 .1 .0) (f .last .1 .1 .1 .1 .1 .1 .0) (f .last .1 .1 .1 .1 .1 .1 .1 .0)) x) (c .before .fed .given .1) (f .ensures))
 
 same-length-22 : tie.Need-same-length-22 Inv-loop μ-loop
-same-length-22 c = c .before .loop .inv .0
+same-length-22 c = c .before .loop .inv .same-block
 
 same-length-23 : tie.Need-same-length-23 Inv-loop μ-loop
-same-length-23 c = c .before .loop .inv .1
+same-length-23 c = c .before .loop .inv .same .names
 
 same-length-24 : tie.Need-same-length-24 Inv-loop μ-loop
-same-length-24 c = c .before .loop .inv .2
+same-length-24 c = c .before .loop .inv .same .path
 
 same-length-25 : tie.Need-same-length-25 Inv-loop μ-loop
-same-length-25 c = c .before .loop .inv .3
+same-length-25 c = c .before .loop .inv .same .program
 
 same-length-26 : tie.Need-same-length-26 Inv-loop μ-loop
-same-length-26 c = c .before .loop .inv .4
+same-length-26 c = c .before .loop .inv .same .values
 
 same-length-27 : tie.Need-same-length-27 Inv-loop μ-loop
-same-length-27 c = c .before .loop .inv .5
+same-length-27 c = c .before .loop .inv .same .regs
 
 same-length-28 : tie.Need-same-length-28 Inv-loop μ-loop
-same-length-28 c = c .before .loop .inv .6
+same-length-28 c = c .before .loop .inv .same .output
 
 returns-4 : tie.Need-returns-4 Inv-loop μ-loop
 returns-4 c = tt
@@ -176,7 +181,6 @@ feed-all-spec =
     slice-aggregate-feed
     feed-requires
     enum-known-fed
-    enum-told-2
     same-length-15
     same-length-16
     same-length-17

@@ -1,3 +1,6 @@
+use Rattle.lines.specs.Owed.{memory}
+use Rattle.lines.proofs.Compose.{stands-first}
+use lib.ListN.{take}
 use lib.Seq.{length-take-le}
 use mathlib.Core.Path.{sym, _∙_}
 use native.Mathlib.Omega.{arith}
@@ -12,7 +15,7 @@ slice-reshare-prefix-write-all : tie.Need-slice-reshare-prefix-write-all
 slice-reshare-prefix-write-all c = search needs
 
 slice-aggregate-write-all : tie.Need-slice-aggregate-write-all
-slice-aggregate-write-all c = sym (length-take-le (c .before .before .before .start .result .length) (c .before .before .before .start .last .1 .1 .0) (omega (arith, c .before .before .before .start .ensures .1, c .before .before .before .start .kept .1 .1 .0)))
+slice-aggregate-write-all c = sym (length-take-le (c .before .before .before .start .result .length) (c .before .before .before .start .last .1 .1 .0) (omega (arith, c .before .before .before .start .ensures .room, c .before .before .before .start .kept .1 .1 .0)))
 
 write-all-requires : tie.Need-write-all-requires
 write-all-requires c κs = search needs
@@ -24,13 +27,17 @@ returns : tie.Need-returns
 returns c = search needs
 
 feed-all-requires : tie.Need-feed-all-requires
-feed-all-requires c κs = search needs
+feed-all-requires c κs = let a = c .before .before .before .before .before .before .before .before .before .before .before .before .before .before .before .before .before .before .before .before .before .before .args in let b = c .before .before .before .before .before .before .before .before .before .before .before .before .start in let p = c .before .before .before .before .before .before .before .before .before .before .before .before .before .before .before .before .before .before .before .before .before .before .pre in
+    let m = memory (a .names .now) (a .path .now) (a .program .now) (a .values .now) (a .regs .now) in record {
+      stands = stands-first (a .readable) (a .formula .now) m (b .result .stage) (take (b .result .length) (b .last .1 .1 .0)) (p .roomy) (b .ensures .begins (p .room));
+      unnumbered = b .ensures .unnumbered;
+      room = omega (arith, b .kept .1 .1 .0, p .room);
+      some = p .some;
+      small = p .small;
+    }
 
 enum-known-fed : tie.Need-enum-known-fed
 enum-known-fed c = search needs
-
-enum-told : tie.Need-enum-told
-enum-told c = search needs
 
 same-length-2 : tie.Need-same-length-2
 same-length-2 c = search needs
@@ -63,7 +70,7 @@ slice-reshare-prefix-write-all-2 : tie.Need-slice-reshare-prefix-write-all-2
 slice-reshare-prefix-write-all-2 c = search needs
 
 slice-aggregate-write-all-2 : tie.Need-slice-aggregate-write-all-2
-slice-aggregate-write-all-2 c = sym (length-take-le (c .before .before .before .before .before .before .before .before .before .before .before .finish .result) (c .before .before .before .before .before .before .before .before .before .before .before .finish .last .1 .1 .1 .1 .1 .1 .1 .0) (omega (arith, c .before .before .before .before .before .before .before .before .before .before .before .finish .ensures .1, c .before .before .before .before .before .before .before .before .before .before .before .finish .kept .1 .1 .1 .1 .1 .1 .1 .0)))
+slice-aggregate-write-all-2 c = sym (length-take-le (c .before .before .before .before .before .before .before .before .before .before .before .finish .result) (c .before .before .before .before .before .before .before .before .before .before .before .finish .last .1 .1 .1 .1 .1 .1 .1 .0) (omega (arith, c .before .before .before .before .before .before .before .before .before .before .before .finish .ensures .room, c .before .before .before .before .before .before .before .before .before .before .before .finish .kept .1 .1 .1 .1 .1 .1 .1 .0)))
 
 write-all-requires-2 : tie.Need-write-all-requires-2
 write-all-requires-2 c κs = search needs
@@ -104,7 +111,6 @@ list-spec =
     returns
     feed-all-requires
     enum-known-fed
-    enum-told
     same-length-2
     same-length-3
     same-length-4

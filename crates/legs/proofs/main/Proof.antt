@@ -1,7 +1,7 @@
 use Rattle.legs.specs.File.{Within}
 use Rattle.legs.specs.declared.File.{File}
 use lib.Seq.{length-take-le}
-use mathlib.Core.Path.{sym, subst}
+use mathlib.Core.Path.{refl, sym, subst}
 use native.Mathlib.Omega.{arith}
 use borrow.Author.Needs.{needs}
 use Rattle.legs.proofs.main.Statement.{statement}
@@ -47,7 +47,7 @@ slice-aggregate-list-8 : tie.Need-slice-aggregate-list-8
 slice-aggregate-list-8 c = search needs
 
 list-requires : tie.Need-list-requires
-list-requires c κs = search needs
+list-requires c κs = record { roomy = record { names = omega arith; path = refl; program = refl; values = omega arith; regs = omega arith }; room = omega arith; some = omega arith; small = omega arith }
 
 enum-told : tie.Need-enum-told
 enum-told c = search needs
@@ -80,7 +80,7 @@ slice-aggregate-list-16 : tie.Need-slice-aggregate-list-16
 slice-aggregate-list-16 c = search needs
 
 list-requires-2 : tie.Need-list-requires-2
-list-requires-2 c κs = search needs
+list-requires-2 c κs = record { roomy = record { names = omega arith; path = refl; program = refl; values = omega arith; regs = omega arith }; room = omega arith; some = omega arith; small = omega arith }
 
 returns : tie.Need-returns
 returns c = search needs

@@ -23,13 +23,13 @@ slice-aggregate-list-in-6 : tie.Need-slice-aggregate-list-in-6
 slice-aggregate-list-in-6 c = search needs
 
 list-in-requires : tie.Need-list-in-requires
-list-in-requires c κs = search needs
+list-in-requires c κs = (record { names = omega arith; path = refl; program = refl; values = omega arith; regs = omega arith }, omega arith)
 
 same-length : tie.Need-same-length
 same-length c = search needs
 
 returns : tie.Need-returns
-returns c = c .before .before .before .before .before .before .before .before .list-in .ensures (record { names = omega arith; path = refl; program = refl; values = omega arith; regs = omega arith }) (omega arith)
+returns c = c .before .before .before .before .before .before .before .before .list-in .ensures
 
 pub list-spec : {M : Type 1} → statement M
 list-spec =

@@ -1,8 +1,10 @@
-use Rattle.legs_cases.proofs.Listed.{listed-by, listed-if}
+use Rattle.legs_cases.proofs.Listed.{listed-by, listed-none, listed-some}
 use Rattle.legs_cases.specs.Listed.{Copies, Feeds-all}
 use Rattle.legs_cases.specs.declared.Fed.{Fed}
 use Rattle.legs_cases.specs.declared.Listing.{Listing}
 use Rattle.lines.specs.Owed.{memory}
+use Rattle.lines.proofs.Compose.{stands-first}
+use lib.ListN.{take}
 use mathlib.Core.Path.{_∙_, subst}
 use native.Mathlib.Omega.{arith}
 use borrow.Author.Needs.{needs}
@@ -13,7 +15,7 @@ start-requires : tie.Need-start-requires
 start-requires c κs = search needs
 
 add-requires : tie.Need-add-requires
-add-requires c κs = search needs
+add-requires c κs = let b = c .before .before .before .before .start in (omega (arith, b .ensures .room, b .kept .1 .1 .0), omega arith)
 
 enum-known-first : tie.Need-enum-known-first
 enum-known-first c = search needs
@@ -28,10 +30,17 @@ same-length-2 : tie.Need-same-length-2
 same-length-2 c = search needs
 
 returns : tie.Need-returns
-returns c = search needs
+returns c = let a = c .before .before .before .before .before .before .before .before .before .before .before .before .before .before .before .before .before .before .before .before .args in let b = c .before .before .before .before .before .before .before .before .before .start in listed-none (a .readable) (a .formula .now) (a .input .now) (memory (a .names .now) (a .path .now) (a .program .now) (a .values .now) (a .regs .now)) (b .result .stage) (a .all .now) (b .last .1 .1 .0) (b .result .length) (c .before .before .before .before .add .last .0) (c .before .before .before .before .before .before .before .before .before .before .before .before .before .before .before .before .before .before .before .before .pre .0) (b .ensures .begins (c .before .before .before .before .before .before .before .before .before .before .before .before .before .before .before .before .before .before .before .before .pre .1)) (omega (arith, b .ensures .room, b .kept .1 .1 .0)) (subst (λ (x : Listing). Copies (a .all .now) 0 (b .last .1 .1 .0) (b .result .length) x (c .before .before .before .before .add .last .0)) (c .enum-told .given .1) (c .before .before .before .before .add .ensures))
 
 feed-requires : tie.Need-feed-requires
-feed-requires c κs = search needs
+feed-requires c κs = let a = c .before .before .before .before .before .before .before .before .before .before .before .before .before .before .before .before .before .before .before .before .before .before .before .before .before .before .before .before .args in let b = c .before .before .before .before .before .before .before .before .before .before .before .before .before .before .before .before .before .start in let m = memory (a .names .now) (a .path .now) (a .program .now) (a .values .now) (a .regs .now) in (
+  record {
+    stands = stands-first (a .readable) (a .formula .now) m (b .result .stage) (take (b .result .length) (b .last .1 .1 .0)) (c .before .before .before .before .before .before .before .before .before .before .before .before .before .before .before .before .before .before .before .before .before .before .before .before .before .before .before .before .pre .0) (b .ensures .begins (c .before .before .before .before .before .before .before .before .before .before .before .before .before .before .before .before .before .before .before .before .before .before .before .before .before .before .before .before .pre .1));
+    room = omega (arith, b .kept .1 .1 .0, c .before .before .before .before .before .before .before .before .before .before .before .before .before .before .before .before .before .before .before .before .before .before .before .before .before .before .before .before .pre .1);
+    numbers = omega (arith, b .ensures .unnumbered, c .before .before .before .before .before .before .before .before .before .before .before .before .before .before .before .before .before .before .before .before .before .before .before .before .before .before .before .before .good .1 .1 .0 .0);
+  },
+  omega (arith, subst (λ (x : Listing). Copies (a .all .now) 0 (b .last .1 .1 .0) (b .result .length) x (c .before .before .before .before .before .before .before .before .before .before .before .before .add .last .0)) (c .before .before .before .before .before .before .before .before .first .given .1) (c .before .before .before .before .before .before .before .before .before .before .before .before .add .ensures) .room, c .before .before .before .before .before .before .before .before .before .before .before .before .add .kept .0),
+)
 
 enum-known-fed : tie.Need-enum-known-fed
 enum-known-fed c = search needs
@@ -61,13 +70,14 @@ same-length-9 : tie.Need-same-length-9
 same-length-9 c = search needs
 
 returns-2 : tie.Need-returns-2
-returns-2 c = search needs
+returns-2 c = let a = c .before .before .before .before .before .before .before .before .before .before .before .before .before .before .before .before .before .before .before .before .before .before .before .before .before .before .before .before .before .before .before .before .before .before .before .before .before .before .before .before .before .before .before .before .before .args in let b = c .before .before .before .before .before .before .before .before .before .before .before .before .before .before .before .before .before .before .before .before .before .before .before .before .before .before .before .before .before .before .before .before .before .before .start in let f = c .before .before .before .before .before .before .before .before .before .before .before .before .before .before .before .before .feed in listed-some (a .readable) (a .formula .now) (a .input .now) (memory (a .names .now) (a .path .now) (a .program .now) (a .values .now) (a .regs .now)) (b .result .stage) (a .all .now) (b .last .1 .1 .0) (b .result .length) (c .before .before .before .before .before .before .before .before .before .before .before .before .before .before .before .before .before .before .before .before .before .before .before .before .before .before .before .before .before .add .last .0) (c .before .before .before .before .before .before .before .before .before .before .before .before .before .before .before .before .before .before .before .before .before .before .before .before .before .before .before .before .before .before .before .before .before .before .before .before .before .before .before .before .before .before .before .before .before .pre .0) (b .ensures .begins (c .before .before .before .before .before .before .before .before .before .before .before .before .before .before .before .before .before .before .before .before .before .before .before .before .before .before .before .before .before .before .before .before .before .before .before .before .before .before .before .before .before .before .before .before .before .pre .1)) (omega (arith, b .ensures .room, b .kept .1 .1 .0)) (c .before .before .before .before .before .before .before .before .before .before .before .before .before .before .before .before .before .before .before .before .before .before .before .before .before .first .given .0 .0) (subst (λ (x : Listing). Copies (a .all .now) 0 (b .last .1 .1 .0) (b .result .length) x (c .before .before .before .before .before .before .before .before .before .before .before .before .before .before .before .before .before .before .before .before .before .before .before .before .before .before .before .before .before .add .last .0)) (c .before .before .before .before .before .before .before .before .before .before .before .before .before .before .before .before .before .before .before .before .before .before .before .before .before .first .given .1) (c .before .before .before .before .before .before .before .before .before .before .before .before .before .before .before .before .before .before .before .before .before .before .before .before .before .before .before .before .before .add .ensures)) (c .before .before .before .before .before .before .before .before .before .before .before .before .before .before .before .before .before .before .before .before .before .before .before .before .before .before .before .before .before .add .kept .0) (memory (f .last .1 .1 .1 .1 .0) (f .last .1 .1 .1 .1 .1 .0) (f .last .1 .1 .1 .1 .1 .1 .0) (f .last .1 .1 .1 .1 .1 .1 .1 .0) (f .last .1 .1 .1 .1 .1 .1 .1 .1 .0)) (f .last .1 .1 .1 .1 .1 .1 .1 .1 .1 .1 .0)
+    (subst (λ (x : Fed). Feeds-all (a .formula .now) (memory (a .names .now) (a .path .now) (a .program .now) (a .values .now) (a .regs .now)) (b .result .stage) (a .input .now) (memory (f .last .1 .1 .1 .1 .0) (f .last .1 .1 .1 .1 .1 .0) (f .last .1 .1 .1 .1 .1 .1 .0) (f .last .1 .1 .1 .1 .1 .1 .1 .0) (f .last .1 .1 .1 .1 .1 .1 .1 .1 .0)) (c .before .before .before .before .before .before .before .before .before .before .before .before .before .before .before .before .before .before .before .before .before .before .before .before .before .before .before .before .before .add .last .0) (c .before .before .before .before .before .before .before .before .before .before .before .before .before .before .before .before .before .before .before .before .before .before .before .before .before .first .given .0 .0) x (f .last .1 .1 .1 .1 .1 .1 .1 .1 .1 .1 .0)) (c .enum-told2 .given .1) (f .ensures))
 
 finish-requires : tie.Need-finish-requires
 finish-requires c κs = search needs
 
 add-requires-2 : tie.Need-add-requires-2
-add-requires-2 c κs = search needs
+add-requires-2 c κs = let a = c .before .before .before .before .before .before .before .before .before .before .before .before .before .before .before .before .before .before .before .before .before .before .before .before .before .before .before .before .before .before .before .before .before .before .before .before .before .before .before .before .before .before .before .before .before .before .before .before .before .before .before .before .before .before .before .before .before .before .before .before .before .before .before .before .before .args in let b = c .before .before .before .before .before .before .before .before .before .before .before .before .before .before .before .before .before .before .before .before .before .before .before .before .before .before .before .before .before .before .before .before .before .before .before .before .before .before .before .before .before .before .before .before .before .before .before .before .before .before .before .before .before .before .start in let f = c .before .before .before .before .before .before .before .before .before .before .before .before .before .before .before .before .before .before .before .before .before .before .before .before .before .before .before .before .before .before .before .before .before .before .before .before .feed in (omega (arith, c .before .before .before .before .before .before .before .before .before .before .before .before .finish .ensures .room, c .before .before .before .before .before .before .before .before .before .before .before .before .finish .kept .1 .1 .1 .1 .1 .1 .1 .0), omega (arith, (subst (λ (x : Fed). Feeds-all (a .formula .now) (memory (a .names .now) (a .path .now) (a .program .now) (a .values .now) (a .regs .now)) (b .result .stage) (a .input .now) (memory (f .last .1 .1 .1 .1 .0) (f .last .1 .1 .1 .1 .1 .0) (f .last .1 .1 .1 .1 .1 .1 .0) (f .last .1 .1 .1 .1 .1 .1 .1 .0) (f .last .1 .1 .1 .1 .1 .1 .1 .1 .0)) (c .before .before .before .before .before .before .before .before .before .before .before .before .before .before .before .before .before .before .before .before .before .before .before .before .before .before .before .before .before .before .before .before .before .before .before .before .before .before .before .before .before .before .before .before .before .before .before .before .before .add .last .0) (c .before .before .before .before .before .before .before .before .before .before .before .before .before .before .before .before .before .before .before .before .before .before .before .before .before .before .before .before .before .before .before .before .before .before .before .before .before .before .before .before .before .before .before .before .before .first .given .0 .0) x (f .last .1 .1 .1 .1 .1 .1 .1 .1 .1 .1 .0)) (c .before .before .before .before .before .before .before .before .before .before .before .before .before .before .before .before .before .before .before .before .fed .given .1) (f .ensures)) .2 .room, f .kept .1 .1 .1 .1 .1 .1 .1 .1 .1 .1 .0))
 
 same-length-10 : tie.Need-same-length-10
 same-length-10 c = search needs
@@ -91,7 +101,9 @@ same-length-16 : tie.Need-same-length-16
 same-length-16 c = c .before .before .add2 .kept .0 ∙ (c .before .before .before .before .before .before .before .before .before .before .before .before .before .before .before .before .before .before .before .before .before .before .before .before .before .before .before .before .before .before .before .before .before .before .before .before .before .before .before .feed .kept .1 .1 .1 .1 .1 .1 .1 .1 .1 .1 .0 ∙ c .before .before .before .before .before .before .before .before .before .before .before .before .before .before .before .before .before .before .before .before .before .before .before .before .before .before .before .before .before .before .before .before .before .before .before .before .before .before .before .before .before .before .before .before .before .before .before .before .before .before .before .before .add .kept .0)
 
 returns-3 : tie.Need-returns-3
-returns-3 c = λ roomy room. listed-if (c .before .before .before .before .before .before .before .before .before .before .before .before .before .before .before .before .before .before .before .before .before .before .before .before .before .before .before .before .before .before .before .before .before .before .before .before .before .before .before .before .before .before .before .before .before .before .before .before .before .before .before .before .before .before .before .before .before .before .before .before .before .before .before .before .before .before .before .before .args .readable) (c .before .before .before .before .before .before .before .before .before .before .before .before .before .before .before .before .before .before .before .before .before .before .before .before .before .before .before .before .before .before .before .before .before .before .before .before .before .before .before .before .before .before .before .before .before .before .before .before .before .before .before .before .before .before .before .before .before .before .before .before .before .before .before .before .before .before .before .before .args .formula .now) (c .before .before .before .before .before .before .before .before .before .before .before .before .before .before .before .before .before .before .before .before .before .before .before .before .before .before .before .before .before .before .before .before .before .before .before .before .before .before .before .before .before .before .before .before .before .before .before .before .before .before .before .before .before .before .before .before .before .before .before .before .before .before .before .before .before .before .before .before .args .input .now) (c .before .before .add2 .last .0) (c .before .before .add2 .result) (λ n e. listed-by (c .before .before .before .before .before .before .before .before .before .before .before .before .before .before .before .before .before .before .before .before .before .before .before .before .before .before .before .before .before .before .before .before .before .before .before .before .before .before .before .before .before .before .before .before .before .before .before .before .before .before .before .before .before .before .before .before .before .before .before .before .before .before .before .before .before .before .before .before .args .readable) (c .before .before .before .before .before .before .before .before .before .before .before .before .before .before .before .before .before .before .before .before .before .before .before .before .before .before .before .before .before .before .before .before .before .before .before .before .before .before .before .before .before .before .before .before .before .before .before .before .before .before .before .before .before .before .before .before .before .before .before .before .before .before .before .before .before .before .before .before .args .formula .now) (c .before .before .before .before .before .before .before .before .before .before .before .before .before .before .before .before .before .before .before .before .before .before .before .before .before .before .before .before .before .before .before .before .before .before .before .before .before .before .before .before .before .before .before .before .before .before .before .before .before .before .before .before .before .before .before .before .before .before .before .before .before .before .before .before .before .before .before .before .args .input .now) (memory (c .before .before .before .before .before .before .before .before .before .before .before .before .before .before .before .before .before .before .before .before .before .before .before .before .before .before .before .before .before .before .before .before .before .before .before .before .before .before .before .before .before .before .before .before .before .before .before .before .before .before .before .before .before .before .before .before .before .before .before .before .before .before .before .before .before .before .before .before .args .names .now) (c .before .before .before .before .before .before .before .before .before .before .before .before .before .before .before .before .before .before .before .before .before .before .before .before .before .before .before .before .before .before .before .before .before .before .before .before .before .before .before .before .before .before .before .before .before .before .before .before .before .before .before .before .before .before .before .before .before .before .before .before .before .before .before .before .before .before .before .before .args .path .now) (c .before .before .before .before .before .before .before .before .before .before .before .before .before .before .before .before .before .before .before .before .before .before .before .before .before .before .before .before .before .before .before .before .before .before .before .before .before .before .before .before .before .before .before .before .before .before .before .before .before .before .before .before .before .before .before .before .before .before .before .before .before .before .before .before .before .before .before .before .args .program .now) (c .before .before .before .before .before .before .before .before .before .before .before .before .before .before .before .before .before .before .before .before .before .before .before .before .before .before .before .before .before .before .before .before .before .before .before .before .before .before .before .before .before .before .before .before .before .before .before .before .before .before .before .before .before .before .before .before .before .before .before .before .before .before .before .before .before .before .before .before .args .values .now) (c .before .before .before .before .before .before .before .before .before .before .before .before .before .before .before .before .before .before .before .before .before .before .before .before .before .before .before .before .before .before .before .before .before .before .before .before .before .before .before .before .before .before .before .before .before .before .before .before .before .before .before .before .before .before .before .before .before .before .before .before .before .before .before .before .before .before .before .before .args .regs .now)) (memory (c .before .before .before .before .before .before .before .before .before .before .before .before .before .before .before .before .before .before .before .before .before .before .before .before .before .before .before .before .before .before .before .before .before .before .before .before .before .before .before .feed .last .1 .1 .1 .1 .0) (c .before .before .before .before .before .before .before .before .before .before .before .before .before .before .before .before .before .before .before .before .before .before .before .before .before .before .before .before .before .before .before .before .before .before .before .before .before .before .before .feed .last .1 .1 .1 .1 .1 .0) (c .before .before .before .before .before .before .before .before .before .before .before .before .before .before .before .before .before .before .before .before .before .before .before .before .before .before .before .before .before .before .before .before .before .before .before .before .before .before .before .feed .last .1 .1 .1 .1 .1 .1 .0) (c .before .before .before .before .before .before .before .before .before .before .before .before .before .before .before .before .before .before .before .before .before .before .before .before .before .before .before .before .before .before .before .before .before .before .before .before .before .before .before .feed .last .1 .1 .1 .1 .1 .1 .1 .0) (c .before .before .before .before .before .before .before .before .before .before .before .before .before .before .before .before .before .before .before .before .before .before .before .before .before .before .before .before .before .before .before .before .before .before .before .before .before .before .before .feed .last .1 .1 .1 .1 .1 .1 .1 .1 .0)) (c .before .before .before .before .before .before .before .before .before .before .before .before .before .before .before .before .before .before .before .before .before .before .before .before .before .before .before .before .before .before .before .before .before .before .before .before .before .before .before .before .before .before .before .before .before .before .before .before .before .before .before .before .before .before .before .before .before .start .result .stage) (c .before .before .before .before .before .before .before .before .before .before .before .before .before .before .before .before .before .before .before .before .before .before .before .fed .given .0 .0) (c .before .before .before .before .before .before .before .before .before .before .before .before .before .before .before .before .before .before .before .before .before .before .before .before .before .before .before .before .before .before .before .before .before .before .before .before .before .before .before .before .before .before .before .before .before .before .before .before .before .before .before .before .before .before .before .before .before .before .before .before .before .before .before .before .before .before .before .before .args .all .now) (c .before .before .before .before .before .before .before .before .before .before .before .before .before .before .before .before .before .before .before .before .before .before .before .before .before .before .before .before .before .before .before .before .before .before .before .before .before .before .before .before .before .before .before .before .before .before .before .before .before .before .before .before .add .last .0) (c .before .before .before .before .before .before .before .before .before .before .before .before .before .before .before .before .before .before .before .before .before .before .before .before .before .before .before .before .before .before .before .before .before .before .before .before .before .before .before .feed .last .1 .1 .1 .1 .1 .1 .1 .1 .1 .1 .0) (c .before .before .add2 .last .0) (c .before .before .before .before .before .before .before .before .before .before .before .before .before .before .before .before .before .before .before .before .before .before .before .before .before .before .before .before .before .before .before .before .before .before .before .before .before .before .before .before .before .before .before .before .before .before .before .before .before .before .before .before .before .before .before .before .before .start .last .1 .1 .0) (c .before .before .before .before .before .before .before .before .before .before .before .before .before .before .before .finish .last .1 .1 .1 .1 .1 .1 .1 .0) (c .before .before .before .before .before .before .before .before .before .before .before .before .before .before .before .before .before .before .before .before .before .before .before .before .before .before .before .before .before .before .before .before .before .before .before .before .before .before .before .before .before .before .before .before .before .before .before .before .before .before .before .before .before .before .before .before .before .start .result .length) (c .before .before .before .before .before .before .before .before .before .before .before .before .before .before .before .finish .result) (c .before .before .before .before .before .before .before .before .before .before .before .before .before .before .before .before .before .before .before .before .before .before .before .before .before .before .before .before .before .before .before .before .before .before .before .before .before .before .before .before .before .before .before .before .before .before .before .before .first .given .0 .0) (c .before .before .before .before .before .before .before .before .before .before .before .before .before .before .before .before .before .before .before .before .before .before .before .fed .given .0 .1 .0) n (c .before .before .before .before .before .before .before .before .before .before .before .before .before .before .before .before .before .before .before .before .before .before .before .before .before .before .before .before .before .before .before .before .before .before .before .before .before .before .before .before .before .before .before .before .before .before .before .before .before .before .before .before .add .kept .0) (c .before .before .before .before .before .before .before .before .before .before .before .before .before .before .before .before .before .before .before .before .before .before .before .before .before .before .before .before .before .before .before .before .before .before .before .before .before .before .before .feed .kept .1 .1 .1 .1 .1 .1 .1 .1 .1 .1 .0) roomy (c .before .before .before .before .before .before .before .before .before .before .before .before .before .before .before .before .before .before .before .before .before .before .before .before .before .before .before .before .before .before .before .before .before .before .before .before .before .before .before .before .before .before .before .before .before .before .before .before .before .before .before .before .before .before .before .before .before .start .ensures .0 room) (subst (λ (x : Listing). Copies (c .before .before .before .before .before .before .before .before .before .before .before .before .before .before .before .before .before .before .before .before .before .before .before .before .before .before .before .before .before .before .before .before .before .before .before .before .before .before .before .before .before .before .before .before .before .before .before .before .before .before .before .before .before .before .before .before .before .before .before .before .before .before .before .before .before .before .before .before .args .all .now) 0 (c .before .before .before .before .before .before .before .before .before .before .before .before .before .before .before .before .before .before .before .before .before .before .before .before .before .before .before .before .before .before .before .before .before .before .before .before .before .before .before .before .before .before .before .before .before .before .before .before .before .before .before .before .before .before .before .before .before .start .last .1 .1 .0) (c .before .before .before .before .before .before .before .before .before .before .before .before .before .before .before .before .before .before .before .before .before .before .before .before .before .before .before .before .before .before .before .before .before .before .before .before .before .before .before .before .before .before .before .before .before .before .before .before .before .before .before .before .before .before .before .before .before .start .result .length) x (c .before .before .before .before .before .before .before .before .before .before .before .before .before .before .before .before .before .before .before .before .before .before .before .before .before .before .before .before .before .before .before .before .before .before .before .before .before .before .before .before .before .before .before .before .before .before .before .before .before .before .before .before .add .last .0)) (c .before .before .before .before .before .before .before .before .before .before .before .before .before .before .before .before .before .before .before .before .before .before .before .before .before .before .before .before .before .before .before .before .before .before .before .before .before .before .before .before .before .before .before .before .before .before .before .before .first .given .1) (c .before .before .before .before .before .before .before .before .before .before .before .before .before .before .before .before .before .before .before .before .before .before .before .before .before .before .before .before .before .before .before .before .before .before .before .before .before .before .before .before .before .before .before .before .before .before .before .before .before .before .before .before .add .ensures)) (subst (λ (x : Fed). Feeds-all (c .before .before .before .before .before .before .before .before .before .before .before .before .before .before .before .before .before .before .before .before .before .before .before .before .before .before .before .before .before .before .before .before .before .before .before .before .before .before .before .before .before .before .before .before .before .before .before .before .before .before .before .before .before .before .before .before .before .before .before .before .before .before .before .before .before .before .before .before .args .formula .now) (memory (c .before .before .before .before .before .before .before .before .before .before .before .before .before .before .before .before .before .before .before .before .before .before .before .before .before .before .before .before .before .before .before .before .before .before .before .before .before .before .before .before .before .before .before .before .before .before .before .before .before .before .before .before .before .before .before .before .before .before .before .before .before .before .before .before .before .before .before .before .args .names .now) (c .before .before .before .before .before .before .before .before .before .before .before .before .before .before .before .before .before .before .before .before .before .before .before .before .before .before .before .before .before .before .before .before .before .before .before .before .before .before .before .before .before .before .before .before .before .before .before .before .before .before .before .before .before .before .before .before .before .before .before .before .before .before .before .before .before .before .before .before .args .path .now) (c .before .before .before .before .before .before .before .before .before .before .before .before .before .before .before .before .before .before .before .before .before .before .before .before .before .before .before .before .before .before .before .before .before .before .before .before .before .before .before .before .before .before .before .before .before .before .before .before .before .before .before .before .before .before .before .before .before .before .before .before .before .before .before .before .before .before .before .before .args .program .now) (c .before .before .before .before .before .before .before .before .before .before .before .before .before .before .before .before .before .before .before .before .before .before .before .before .before .before .before .before .before .before .before .before .before .before .before .before .before .before .before .before .before .before .before .before .before .before .before .before .before .before .before .before .before .before .before .before .before .before .before .before .before .before .before .before .before .before .before .before .args .values .now) (c .before .before .before .before .before .before .before .before .before .before .before .before .before .before .before .before .before .before .before .before .before .before .before .before .before .before .before .before .before .before .before .before .before .before .before .before .before .before .before .before .before .before .before .before .before .before .before .before .before .before .before .before .before .before .before .before .before .before .before .before .before .before .before .before .before .before .before .before .args .regs .now)) (c .before .before .before .before .before .before .before .before .before .before .before .before .before .before .before .before .before .before .before .before .before .before .before .before .before .before .before .before .before .before .before .before .before .before .before .before .before .before .before .before .before .before .before .before .before .before .before .before .before .before .before .before .before .before .before .before .before .start .result .stage) (c .before .before .before .before .before .before .before .before .before .before .before .before .before .before .before .before .before .before .before .before .before .before .before .before .before .before .before .before .before .before .before .before .before .before .before .before .before .before .before .before .before .before .before .before .before .before .before .before .before .before .before .before .before .before .before .before .before .before .before .before .before .before .before .before .before .before .before .before .args .input .now) (memory (c .before .before .before .before .before .before .before .before .before .before .before .before .before .before .before .before .before .before .before .before .before .before .before .before .before .before .before .before .before .before .before .before .before .before .before .before .before .before .before .feed .last .1 .1 .1 .1 .0) (c .before .before .before .before .before .before .before .before .before .before .before .before .before .before .before .before .before .before .before .before .before .before .before .before .before .before .before .before .before .before .before .before .before .before .before .before .before .before .before .feed .last .1 .1 .1 .1 .1 .0) (c .before .before .before .before .before .before .before .before .before .before .before .before .before .before .before .before .before .before .before .before .before .before .before .before .before .before .before .before .before .before .before .before .before .before .before .before .before .before .before .feed .last .1 .1 .1 .1 .1 .1 .0) (c .before .before .before .before .before .before .before .before .before .before .before .before .before .before .before .before .before .before .before .before .before .before .before .before .before .before .before .before .before .before .before .before .before .before .before .before .before .before .before .feed .last .1 .1 .1 .1 .1 .1 .1 .0) (c .before .before .before .before .before .before .before .before .before .before .before .before .before .before .before .before .before .before .before .before .before .before .before .before .before .before .before .before .before .before .before .before .before .before .before .before .before .before .before .feed .last .1 .1 .1 .1 .1 .1 .1 .1 .0)) (c .before .before .before .before .before .before .before .before .before .before .before .before .before .before .before .before .before .before .before .before .before .before .before .before .before .before .before .before .before .before .before .before .before .before .before .before .before .before .before .before .before .before .before .before .before .before .before .before .before .before .before .before .add .last .0) (c .before .before .before .before .before .before .before .before .before .before .before .before .before .before .before .before .before .before .before .before .before .before .before .before .before .before .before .before .before .before .before .before .before .before .before .before .before .before .before .before .before .before .before .before .before .before .before .before .first .given .0 .0) x (c .before .before .before .before .before .before .before .before .before .before .before .before .before .before .before .before .before .before .before .before .before .before .before .before .before .before .before .before .before .before .before .before .before .before .before .before .before .before .before .feed .last .1 .1 .1 .1 .1 .1 .1 .1 .1 .1 .0)) (c .before .before .before .before .before .before .before .before .before .before .before .before .before .before .before .before .before .before .before .before .before .before .before .fed .given .1) (c .before .before .before .before .before .before .before .before .before .before .before .before .before .before .before .before .before .before .before .before .before .before .before .before .before .before .before .before .before .before .before .before .before .before .before .before .before .before .before .feed .ensures)) (c .before .before .before .before .before .before .before .before .before .before .before .before .before .before .before .finish .ensures .0 (omega (arith, c .before .before .before .before .before .before .before .before .before .before .before .before .before .before .before .before .before .before .before .before .before .before .before .before .before .before .before .before .before .before .before .before .before .before .before .before .before .before .before .feed .kept .1 .1 .1 .1 .1 .1 .1 .1 .1 .0, c .before .before .before .before .before .before .before .before .before .before .before .before .before .before .before .before .before .before .before .before .before .before .before .before .before .before .before .before .before .before .before .before .before .before .before .before .before .before .before .before .before .before .before .before .before .before .before .before .before .before .before .before .before .before .before .before .before .start .kept .1 .1 .0))) (subst (λ (x : Listing). Copies (c .before .before .before .before .before .before .before .before .before .before .before .before .before .before .before .before .before .before .before .before .before .before .before .before .before .before .before .before .before .before .before .before .before .before .before .before .before .before .before .feed .last .1 .1 .1 .1 .1 .1 .1 .1 .1 .1 .0) (c .before .before .before .before .before .before .before .before .before .before .before .before .before .before .before .before .before .before .before .before .before .before .before .fed .given .0 .1 .0) (c .before .before .before .before .before .before .before .before .before .before .before .before .before .before .before .finish .last .1 .1 .1 .1 .1 .1 .1 .0) (c .before .before .before .before .before .before .before .before .before .before .before .before .before .before .before .finish .result) x (c .before .before .add2 .last .0)) e (c .before .before .add2 .ensures)))
+returns-3 c = let a = c .before .before .before .before .before .before .before .before .before .before .before .before .before .before .before .before .before .before .before .before .before .before .before .before .before .before .before .before .before .before .before .before .before .before .before .before .before .before .before .before .before .before .before .before .before .before .before .before .before .before .before .before .before .before .before .before .before .before .before .before .before .before .before .before .before .before .before .before .args in let b = c .before .before .before .before .before .before .before .before .before .before .before .before .before .before .before .before .before .before .before .before .before .before .before .before .before .before .before .before .before .before .before .before .before .before .before .before .before .before .before .before .before .before .before .before .before .before .before .before .before .before .before .before .before .before .before .before .before .start in let f = c .before .before .before .before .before .before .before .before .before .before .before .before .before .before .before .before .before .before .before .before .before .before .before .before .before .before .before .before .before .before .before .before .before .before .before .before .before .before .before .feed in let e = c .before .before .before .before .before .before .before .before .before .before .before .before .before .before .before .finish in listed-by (a .readable) (a .formula .now) (a .input .now) (memory (a .names .now) (a .path .now) (a .program .now) (a .values .now) (a .regs .now)) (b .result .stage) (a .all .now) (b .last .1 .1 .0) (b .result .length) (c .before .before .before .before .before .before .before .before .before .before .before .before .before .before .before .before .before .before .before .before .before .before .before .before .before .before .before .before .before .before .before .before .before .before .before .before .before .before .before .before .before .before .before .before .before .before .before .before .before .before .before .before .add .last .0) (c .before .before .before .before .before .before .before .before .before .before .before .before .before .before .before .before .before .before .before .before .before .before .before .before .before .before .before .before .before .before .before .before .before .before .before .before .before .before .before .before .before .before .before .before .before .before .before .before .before .before .before .before .before .before .before .before .before .before .before .before .before .before .before .before .before .before .before .before .pre .0) (b .ensures .begins (c .before .before .before .before .before .before .before .before .before .before .before .before .before .before .before .before .before .before .before .before .before .before .before .before .before .before .before .before .before .before .before .before .before .before .before .before .before .before .before .before .before .before .before .before .before .before .before .before .before .before .before .before .before .before .before .before .before .before .before .before .before .before .before .before .before .before .before .before .pre .1)) (omega (arith, b .ensures .room, b .kept .1 .1 .0)) (c .before .before .before .before .before .before .before .before .before .before .before .before .before .before .before .before .before .before .before .before .before .before .before .before .before .before .before .before .before .before .before .before .before .before .before .before .before .before .before .before .before .before .before .before .before .before .before .before .first .given .0 .0) (subst (λ (x : Listing). Copies (a .all .now) 0 (b .last .1 .1 .0) (b .result .length) x (c .before .before .before .before .before .before .before .before .before .before .before .before .before .before .before .before .before .before .before .before .before .before .before .before .before .before .before .before .before .before .before .before .before .before .before .before .before .before .before .before .before .before .before .before .before .before .before .before .before .before .before .before .add .last .0)) (c .before .before .before .before .before .before .before .before .before .before .before .before .before .before .before .before .before .before .before .before .before .before .before .before .before .before .before .before .before .before .before .before .before .before .before .before .before .before .before .before .before .before .before .before .before .before .before .before .first .given .1) (c .before .before .before .before .before .before .before .before .before .before .before .before .before .before .before .before .before .before .before .before .before .before .before .before .before .before .before .before .before .before .before .before .before .before .before .before .before .before .before .before .before .before .before .before .before .before .before .before .before .before .before .before .add .ensures)) (c .before .before .before .before .before .before .before .before .before .before .before .before .before .before .before .before .before .before .before .before .before .before .before .before .before .before .before .before .before .before .before .before .before .before .before .before .before .before .before .before .before .before .before .before .before .before .before .before .before .before .before .before .add .kept .0) (memory (f .last .1 .1 .1 .1 .0) (f .last .1 .1 .1 .1 .1 .0) (f .last .1 .1 .1 .1 .1 .1 .0) (f .last .1 .1 .1 .1 .1 .1 .1 .0) (f .last .1 .1 .1 .1 .1 .1 .1 .1 .0)) (c .before .before .before .before .before .before .before .before .before .before .before .before .before .before .before .before .before .before .before .before .before .before .before .fed .given .0 .0) (f .last .1 .1 .1 .1 .1 .1 .1 .1 .1 .1 .0) (c .before .before .before .before .before .before .before .before .before .before .before .before .before .before .before .before .before .before .before .before .before .before .before .fed .given .0 .1 .0)
+    (subst (λ (x : Fed). Feeds-all (a .formula .now) (memory (a .names .now) (a .path .now) (a .program .now) (a .values .now) (a .regs .now)) (b .result .stage) (a .input .now) (memory (f .last .1 .1 .1 .1 .0) (f .last .1 .1 .1 .1 .1 .0) (f .last .1 .1 .1 .1 .1 .1 .0) (f .last .1 .1 .1 .1 .1 .1 .1 .0) (f .last .1 .1 .1 .1 .1 .1 .1 .1 .0)) (c .before .before .before .before .before .before .before .before .before .before .before .before .before .before .before .before .before .before .before .before .before .before .before .before .before .before .before .before .before .before .before .before .before .before .before .before .before .before .before .before .before .before .before .before .before .before .before .before .before .before .before .before .add .last .0) (c .before .before .before .before .before .before .before .before .before .before .before .before .before .before .before .before .before .before .before .before .before .before .before .before .before .before .before .before .before .before .before .before .before .before .before .before .before .before .before .before .before .before .before .before .before .before .before .before .first .given .0 .0) x (f .last .1 .1 .1 .1 .1 .1 .1 .1 .1 .1 .0)) (c .before .before .before .before .before .before .before .before .before .before .before .before .before .before .before .before .before .before .before .before .before .before .before .fed .given .1) (f .ensures))
+    (f .kept .1 .1 .1 .1 .1 .1 .1 .1 .1 .1 .0) (e .last .1 .1 .1 .1 .1 .1 .1 .0) (e .result) (omega (arith, e .ensures .room, e .kept .1 .1 .1 .1 .1 .1 .1 .0)) (e .ensures .ends (omega (arith, f .kept .1 .1 .1 .1 .1 .1 .1 .1 .1 .0, b .kept .1 .1 .0, c .before .before .before .before .before .before .before .before .before .before .before .before .before .before .before .before .before .before .before .before .before .before .before .before .before .before .before .before .before .before .before .before .before .before .before .before .before .before .before .before .before .before .before .before .before .before .before .before .before .before .before .before .before .before .before .before .before .before .before .before .before .before .before .before .before .before .before .before .pre .1))) (c .before .before .add2 .result) (c .before .before .add2 .last .0) (c .before .before .add2 .ensures)
 
 pub list-in-spec : {M : Type 1} → statement M
 list-in-spec =

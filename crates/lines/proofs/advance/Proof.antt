@@ -1,10 +1,10 @@
-use Rattle.lines.proofs.Stages.{advances-finished, advances-stuck}
-use Rattle.lines.specs.Owed.{Advances, memory}
+use Rattle.lines.proofs.Calls.{advance-finished, advance-idle}
+use Rattle.lines.specs.Calls.{Advancing}
+use Rattle.lines.specs.Owed.{memory}
 use Rattle.lines.specs.declared.Stage.the-variants as Variants
 use Rattle.lines.specs.declared.Stage.{Stage}
-use Rattle.lines.specs.declared.Advanced.{Advanced}
-use lib.ListN.{length, take}
-use mathlib.Core.Path.{sym, ap, subst}
+use lib.ListN.{length}
+use mathlib.Core.Path.{sym, subst}
 use native.Mathlib.Omega.{arith}
 use borrow.Author.Needs.{needs}
 use Rattle.lines.proofs.advance.Statement.{statement}
@@ -14,7 +14,11 @@ stuck-requires : tie.Need-stuck-requires
 stuck-requires c κs = search needs
 
 returns : tie.Need-returns
-returns c = (advances-stuck (c .before .before .before .before .before .before .before .before .before .before .args .formula .now) (memory (c .before .before .before .before .before .before .before .before .before .before .args .names .now) (c .before .before .before .before .before .before .before .before .before .before .args .path .now) (c .before .before .before .before .before .before .before .before .before .before .args .program .now) (c .before .before .before .before .before .before .before .before .before .before .args .values .now) (c .before .before .before .before .before .before .before .before .before .before .args .regs .now)) (c .before .before .before .before .before .before .before .before .before .before .args .stage) (c .before .before .before .before .before .before .before .before .before .before .args .input .now) (c .before .before .before .before .before .before .before .before .before .before .args .out .now) (c .stuck .result) (c .stuck .ensures), (omega (arith, ap (λ (x : Advanced). x .used) (c .stuck .ensures)), omega (arith, ap (λ (x : Advanced). x .length) (c .stuck .ensures))))
+returns c =
+    let a = c .before .before .before .before .before .before .before .before .before .before .args in
+    let at-stuck = c .stuck in
+    advance-idle (a .formula .now) (a .input .now) (memory (a .names .now) (a .path .now) (a .program .now) (a .values .now) (a .regs .now)) (a .stage) (a .out .now)
+    (omega (arith, c .before .if1 .taken)) (at-stuck .result) (at-stuck .ensures)
 
 enum-known-stage : tie.Need-enum-known-stage
 enum-known-stage c = search needs
@@ -26,7 +30,7 @@ enum-known-stage-2 : tie.Need-enum-known-stage-2
 enum-known-stage-2 c = search needs
 
 advance-values-requires : tie.Need-advance-values-requires
-advance-values-requires c κs = search needs
+advance-values-requires c κs = omega (arith, c .before .before .before .before .before .before .before .if1 .left)
 
 enum-told : tie.Need-enum-told
 enum-told c = search needs
@@ -44,7 +48,12 @@ same-length-4 : tie.Need-same-length-4
 same-length-4 c = search needs
 
 returns-2 : tie.Need-returns-2
-returns-2 c = (subst (λ (s : Stage). Advances (c .before .before .before .before .before .before .before .before .before .before .before .before .before .before .before .before .before .before .before .before .before .before .before .before .before .args .formula .now) (memory (c .before .before .before .before .before .before .before .before .before .before .before .before .before .before .before .before .before .before .before .before .before .before .before .before .before .args .names .now) (c .before .before .before .before .before .before .before .before .before .before .before .before .before .before .before .before .before .before .before .before .before .before .before .before .before .args .path .now) (c .before .before .before .before .before .before .before .before .before .before .before .before .before .before .before .before .before .before .before .before .before .before .before .before .before .args .program .now) (c .before .before .before .before .before .before .before .before .before .before .before .before .before .before .before .before .before .before .before .before .before .before .before .before .before .args .values .now) (c .before .before .before .before .before .before .before .before .before .before .before .before .before .before .before .before .before .before .before .before .before .before .before .before .before .args .regs .now)) s (take (c .before .before .before .before .before .before .before .before .advance-names .result .used) (c .before .before .before .before .before .before .before .before .before .before .before .before .before .before .before .before .before .before .before .before .before .before .before .before .before .args .input .now)) (memory (c .before .before .before .before .before .before .before .before .advance-names .last .1 .1 .1 .0) (c .before .before .before .before .before .before .before .before .advance-names .last .1 .1 .1 .1 .0) (c .before .before .before .before .before .before .before .before .advance-names .last .1 .1 .1 .1 .1 .0) (c .before .before .before .before .before .before .before .before .before .before .before .before .before .before .before .before .before .before .before .before .before .before .before .before .before .args .values .now) (c .before .before .before .before .before .before .before .before .before .before .before .before .before .before .before .before .before .before .before .before .before .before .before .before .before .args .regs .now)) (c .before .before .before .before .before .before .before .before .advance-names .result .stage) (take (c .before .before .before .before .before .before .before .before .advance-names .result .length) (c .before .before .before .before .before .before .before .before .advance-names .last .1 .1 .1 .1 .1 .1 .0))) (sym (c .before .before .before .before .before .before .before .before .before .before .before .before .before .before .stage .given .1)) (c .before .before .before .before .before .before .before .before .advance-names .ensures .0 (c .before .before .before .before .before .before .before .before .before .before .before .before .before .before .before .before .before .before .before .before .before .before .before .before .before .args .values .now) (c .before .before .before .before .before .before .before .before .before .before .before .before .before .before .before .before .before .before .before .before .before .before .before .before .before .args .regs .now)), c .before .before .before .before .before .before .before .before .advance-names .ensures .1)
+returns-2 c =
+    let a = c .before .before .before .before .before .before .before .before .before .before .before .before .before .before .before .before .before .before .before .before .before .before .before .before .before .args in
+    let n = c .before .before .before .before .before .before .before .before .advance-names in
+    subst (λ (s : Stage). Advancing (a .formula .now) (a .input .now) (memory (a .names .now) (a .path .now) (a .program .now) (a .values .now) (a .regs .now)) s
+    (a .out .now) (n .result) (memory (n .last .1 .1 .1 .0) (n .last .1 .1 .1 .1 .0) (n .last .1 .1 .1 .1 .1 .0) (a .values .now) (a .regs .now))
+    (n .last .1 .1 .1 .1 .1 .1 .0)) (sym (c .before .before .before .before .before .before .before .before .before .before .before .before .before .before .stage .given .1)) (n .ensures (a .values .now) (a .regs .now))
 
 same-length-5 : tie.Need-same-length-5
 same-length-5 c = search needs
@@ -59,10 +68,19 @@ same-length-8 : tie.Need-same-length-8
 same-length-8 c = search needs
 
 returns-3 : tie.Need-returns-3
-returns-3 c = (subst (λ (s : Stage). Advances (c .before .before .before .before .before .before .before .before .before .before .before .before .before .before .before .before .before .before .before .before .before .before .before .args .formula .now) (memory (c .before .before .before .before .before .before .before .before .before .before .before .before .before .before .before .before .before .before .before .before .before .before .before .args .names .now) (c .before .before .before .before .before .before .before .before .before .before .before .before .before .before .before .before .before .before .before .before .before .before .before .args .path .now) (c .before .before .before .before .before .before .before .before .before .before .before .before .before .before .before .before .before .before .before .before .before .before .before .args .program .now) (c .before .before .before .before .before .before .before .before .before .before .before .before .before .before .before .before .before .before .before .before .before .before .before .args .values .now) (c .before .before .before .before .before .before .before .before .before .before .before .before .before .before .before .before .before .before .before .before .before .before .before .args .regs .now)) s (take (c .before .before .before .before .before .before .advance-values .result .used) (c .before .before .before .before .before .before .before .before .before .before .before .before .before .before .before .before .before .before .before .before .before .before .before .args .input .now)) (memory (c .before .before .before .before .before .before .before .before .before .before .before .before .before .before .before .before .before .before .before .before .before .before .before .args .names .now) (c .before .before .before .before .before .before .before .before .before .before .before .before .before .before .before .before .before .before .before .before .before .before .before .args .path .now) (c .before .before .before .before .before .before .before .before .before .before .before .before .before .before .before .before .before .before .before .before .before .before .before .args .program .now) (c .before .before .before .before .before .before .advance-values .last .1 .1 .1 .1 .0) (c .before .before .before .before .before .before .advance-values .last .1 .1 .1 .1 .1 .0)) (c .before .before .before .before .before .before .advance-values .result .stage) (take (c .before .before .before .before .before .before .advance-values .result .length) (c .before .before .before .before .before .before .advance-values .last .1 .1 .1 .1 .1 .1 .0))) (sym (c .before .before .before .before .before .before .before .before .before .before .before .before .stage2 .given .1)) (c .before .before .before .before .before .before .advance-values .ensures .0 (c .before .before .before .before .before .before .before .before .before .before .before .before .before .before .before .before .before .before .before .before .before .before .before .args .formula .now) (c .before .before .before .before .before .before .before .before .before .before .before .before .before .before .before .before .before .before .before .before .before .before .before .args .names .now) (c .before .before .before .before .before .before .before .before .before .before .before .before .before .before .before .before .before .before .before .before .before .before .before .args .path .now)), c .before .before .before .before .before .before .advance-values .ensures .1)
+returns-3 c =
+    let a = c .before .before .before .before .before .before .before .before .before .before .before .before .before .before .before .before .before .before .before .before .before .before .before .args in
+    let v = c .before .before .before .before .before .before .advance-values in
+    subst (λ (s : Stage). Advancing (a .formula .now) (a .input .now) (memory (a .names .now) (a .path .now) (a .program .now) (a .values .now) (a .regs .now)) s
+    (a .out .now) (v .result) (memory (a .names .now) (a .path .now) (a .program .now) (v .last .1 .1 .1 .1 .0) (v .last .1 .1 .1 .1 .1 .0))
+    (v .last .1 .1 .1 .1 .1 .1 .0)) (sym (c .before .before .before .before .before .before .before .before .before .before .before .before .stage2 .given .1)) (v .ensures (a .formula .now) (a .names .now) (a .path .now))
 
 returns-4 : tie.Need-returns-4
-returns-4 c = (subst (λ (s : Stage). Advances (c .before .before .before .before .before .before .before .before .before .before .before .args .formula .now) (memory (c .before .before .before .before .before .before .before .before .before .before .before .args .names .now) (c .before .before .before .before .before .before .before .before .before .before .before .args .path .now) (c .before .before .before .before .before .before .before .before .before .before .before .args .program .now) (c .before .before .before .before .before .before .before .before .before .before .before .args .values .now) (c .before .before .before .before .before .before .before .before .before .before .before .args .regs .now)) s (take (length (c .before .before .before .before .before .before .before .before .before .before .before .args .input .now)) (c .before .before .before .before .before .before .before .before .before .before .before .args .input .now)) (memory (c .before .before .before .before .before .before .before .before .before .before .before .args .names .now) (c .before .before .before .before .before .before .before .before .before .before .before .args .path .now) (c .before .before .before .before .before .before .before .before .before .before .before .args .program .now) (c .before .before .before .before .before .before .before .before .before .before .before .args .values .now) (c .before .before .before .before .before .before .before .before .before .before .before .args .regs .now)) Variants.Finished (take 0 (c .before .before .before .before .before .before .before .before .before .before .before .args .out .now))) (sym (c .enum-told .given .1)) (advances-finished (c .before .before .before .before .before .before .before .before .before .before .before .args .formula .now) (memory (c .before .before .before .before .before .before .before .before .before .before .before .args .names .now) (c .before .before .before .before .before .before .before .before .before .before .before .args .path .now) (c .before .before .before .before .before .before .before .before .before .before .before .args .program .now) (c .before .before .before .before .before .before .before .before .before .before .before .args .values .now) (c .before .before .before .before .before .before .before .before .before .before .before .args .regs .now)) (take (length (c .before .before .before .before .before .before .before .before .before .before .before .args .input .now)) (c .before .before .before .before .before .before .before .before .before .before .before .args .input .now)) (c .before .before .before .before .before .before .before .before .before .before .before .args .out .now)), (omega arith, omega arith))
+returns-4 c =
+    let a = c .before .before .before .before .before .before .before .before .before .before .before .args in
+    let m = memory (a .names .now) (a .path .now) (a .program .now) (a .values .now) (a .regs .now) in subst (λ (s : Stage). Advancing (a .formula .now) (a .input .now) m s
+    (a .out .now) (record { stage = Variants.Finished; used = length (a .input .now); length = 0 }) m (a .out .now)) (sym (c .enum-told .given .1)) (advance-finished
+    (a .formula .now) (a .input .now) m (a .out .now) (omega (arith, c .before .before .if1 .left)))
 
 pub advance-spec : {M : Type 1} → statement M
 advance-spec =

@@ -1,10 +1,4 @@
-use Rattle.lines.proofs.Stages.{advances-stuck, values-on}
-use Rattle.lines.specs.Owed.{memory}
-use Rattle.lines.specs.declared.Stage.the-variants as Stage
-use Rattle.lines.specs.declared.Advanced.{Advanced}
-use lib.ListN.{take}
-use mathlib.Core.Path.{ap}
-use native.Mathlib.Omega.{arith}
+use Rattle.lines.proofs.Calls.{values-advance, values-unfit}
 use borrow.Author.Needs.{needs}
 use Rattle.lines.proofs.advance_values.Statement.{statement}
 use Rattle.lines.proofs.advance_values.Tie as tie
@@ -25,13 +19,22 @@ same-length-3 : tie.Need-same-length-3
 same-length-3 c = search needs
 
 returns : tie.Need-returns
-returns c = (λ formula names path. values-on (c .before .before .before .before .before .before .before .before .before .before .before .before .before .before .before .before .before .before .args .number) (c .before .before .before .before .before .before .before .before .before .before .before .before .before .before .before .before .before .before .args .s) (c .before .before .before .before .before .before .before .before .before .before .before .before .before .before .before .before .before .before .args .program .now) (c .before .before .before .before .before .before .before .before .before .before .before .before .before .before .before .before .before .before .args .values .now) (c .before .before .before .before .before .before .before .before .before .before .before .before .before .before .before .before .before .before .args .regs .now) formula names path (c .before .before .before .before .before .before .before .list-values .last .1 .1 .1 .1 .0) (c .before .before .before .before .before .before .before .list-values .last .1 .1 .1 .1 .1 .0) (c .before .before .before .before .before .before .before .list-values .kept .1 .1 .1 .1 .0) (c .before .before .before .before .before .before .before .list-values .kept .1 .1 .1 .1 .1 .0) (take (c .before .before .before .before .before .before .before .list-values .result .used) (c .before .before .before .before .before .before .before .before .before .before .before .before .before .before .before .before .before .before .args .input .now)) (take (c .before .before .before .before .before .before .before .list-values .result .length) (c .before .before .before .before .before .before .before .list-values .last .1 .1 .1 .1 .1 .1 .0)) (c .before .before .before .before .before .before .before .list-values .result .number) (c .before .before .before .before .before .before .before .list-values .result .reading) (c .before .before .before .before .before .before .before .list-values .ensures .0), c .before .before .before .before .before .before .before .list-values .ensures .1)
+returns c =
+    let a = c .before .before .before .before .before .before .before .before .before .before .before .before .before .before .before .before .before .before .args in
+    let l = c .before .before .before .before .before .before .before .list-values in
+    λ formula names path. values-advance (a .number) (a .s) (a .program .now) (a .values .now) (a .regs .now) (a .out .now) (c .before .before .before .before .before .before .before .before .before .before .before .before .before .before .before .before .before .before .pre) formula names path (a .input .now)
+    (l .last .1 .1 .1 .1 .0) (l .last .1 .1 .1 .1 .1 .0) (l .last .1 .1 .1 .1 .1 .1 .0) (l .result) (c .before .before .before .before .before .before .before .before .before .before .before .before .is-ready .ensures .0 (c .before .before .before .before .before .before .before .before .before .before .before .if1 .taken)) (l .kept .1 .1 .1 .1 .0)
+    (l .kept .1 .1 .1 .1 .1 .0) (l .ensures)
 
 stuck-requires : tie.Need-stuck-requires
 stuck-requires c κs = search needs
 
 returns-2 : tie.Need-returns-2
-returns-2 c = (λ formula names path. advances-stuck formula (memory names path (c .before .before .before .before .before .before .before .before .args .program .now) (c .before .before .before .before .before .before .before .before .args .values .now) (c .before .before .before .before .before .before .before .before .args .regs .now)) (Stage.Values (c .before .before .before .before .before .before .before .before .args .number) (c .before .before .before .before .before .before .before .before .args .s)) (c .before .before .before .before .before .before .before .before .args .input .now) (c .before .before .before .before .before .before .before .before .args .out .now) (c .stuck .result) (c .stuck .ensures), (omega (arith, ap (λ (x : Advanced). x .used) (c .stuck .ensures)), omega (arith, ap (λ (x : Advanced). x .length) (c .stuck .ensures))))
+returns-2 c =
+    let a = c .before .before .before .before .before .before .before .before .args in
+    let at-stuck = c .stuck in
+    λ formula names path. values-unfit (a .number) (a .s) (a .program .now) (a .values .now) (a .regs .now) (a .out .now) (c .before .before .before .before .before .before .before .before .pre) formula names path (a .input .now)
+    (c .before .before .is-ready .ensures .1 (c .before .if1 .left)) (at-stuck .result) (at-stuck .ensures)
 
 pub advance-values-spec : {M : Type 1} → statement M
 advance-values-spec =

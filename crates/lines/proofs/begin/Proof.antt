@@ -1,4 +1,7 @@
 use Rattle.lines.proofs.Begins.{begins-accepted, begins-refused}
+use Rattle.lines.proofs.Newlines.{drop-wrote}
+use Prim.Native.Nat.{_≤_}
+use lib.ListN.{length}
 use lib.Seq.{length-take-le}
 use mathlib.Core.Path.{refl, sym}
 use native.Mathlib.Omega.{arith}
@@ -28,7 +31,9 @@ slice-aggregate-put-refusal : tie.Need-slice-aggregate-put-refusal
 slice-aggregate-put-refusal c = sym (length-take-le (c .before .before .text-length .result) (c .before .before .before .before .before .before .before .before .before .before .before .compile .last .1 .1 .0) (c .before .before .text-length .ensures .0))
 
 put-refusal-requires : tie.Need-put-refusal-requires
-put-refusal-requires c κs = (c .before .before .before .before .before .before .before .before .before .before .before .before .before .before .before .before .before .before .before .pre, omega (arith, length-take-le (c .before .before .text-length .result) (c .before .before .before .before .before .before .before .before .before .before .before .compile .last .1 .1 .0) (c .before .before .text-length .ensures .0), c .before .before .text-length .ensures .1))
+put-refusal-requires c κs =
+    let at-text-length = c .before .before .text-length in
+    (c .before .before .before .before .before .before .before .before .before .before .before .before .before .before .before .before .before .before .before .pre, omega (arith, length-take-le (at-text-length .result) (c .before .before .before .before .before .before .before .before .before .before .before .compile .last .1 .1 .0) (at-text-length .ensures .0), at-text-length .ensures .1))
 
 same-length : tie.Need-same-length
 same-length c = search needs
@@ -37,7 +42,14 @@ same-length-2 : tie.Need-same-length-2
 same-length-2 c = search needs
 
 returns : tie.Need-returns
-returns c = (begins-accepted (c .before .before .before .before .before .before .before .before .before .before .before .before .before .before .before .args .formula .now) (c .before .before .before .before .before .before .before .before .before .before .before .before .before .before .before .args .names .now) (c .before .before .before .before .before .before .before .before .before .before .before .before .before .before .before .args .path .now) (c .before .before .before .before .before .before .before .before .before .before .before .before .before .before .before .args .program .now) (c .before .before .before .before .before .before .before .compile .last .1 .1 .0) (c .before .before .before .before .before .before .before .compile .last .1 .1 .1 .0) (c .before .before .before .before .before .before .before .before .before .before .before .before .before .before .before .args .out .now) (c .before .before .before .before .before .before .before .before .before .before .before .before .before .before .before .args .out .now) _ (c .before .before .before .before .before .before .before .compile .result) (c .before .before .before .before .before .before .before .compile .ensures .0) (c .before .enum-told .given .1) (λ i. omega (arith, c .before .before .before .before .before .before .before .before .before .before .before .before .before .before .shared-slice-known .given i)) (c .before .before .before .before .before .before .before .compile .ensures .2) (c .fresh .result) (c .fresh .ensures) refl, omega arith)
+returns c = let a = c .before .before .before .before .before .before .before .before .before .before .before .before .before .before .before .args in let k = c .before .before .before .before .before .before .before .compile in record {
+  built = begins-accepted (a .formula .now) (a .names .now) (a .path .now) (a .program .now) (k .last .1 .1 .0) (k .last .1 .1 .1 .0) (a .out .now) (a .out .now) _ (k .result) (k .ensures .0) (c .before .enum-told .given .1) (λ i. omega (arith, c .before .before .before .before .before .before .before .before .before .before .before .before .before .before .shared-slice-known .given i)) (k .ensures .2) (c .fresh .result) (c .fresh .ensures) refl;
+  numbered = omega arith;
+  room = omega arith;
+  beyond = refl;
+  path-is = k .ensures .1;
+  program-is = k .ensures .2;
+}
 
 same-length-3 : tie.Need-same-length-3
 same-length-3 c = search needs
@@ -49,7 +61,18 @@ same-length-5 : tie.Need-same-length-5
 same-length-5 c = search needs
 
 returns-2 : tie.Need-returns-2
-returns-2 c = (begins-refused (c .before .before .before .before .before .before .before .before .before .before .before .before .before .before .before .before .before .before .before .before .before .before .args .formula .now) (c .before .before .before .before .before .before .before .before .before .before .before .before .before .before .before .before .before .before .before .before .before .before .args .names .now) (c .before .before .before .before .before .before .before .before .before .before .before .before .before .before .before .before .before .before .before .before .before .before .args .path .now) (c .before .before .before .before .before .before .before .before .before .before .before .before .before .before .before .before .before .before .before .before .before .before .args .program .now) (c .before .before .before .before .before .before .before .before .before .before .before .before .before .before .compile .last .1 .1 .0) (c .before .before .before .before .before .before .before .before .before .before .before .before .before .before .compile .last .1 .1 .1 .0) (c .before .before .before .before .before .before .before .before .before .before .before .before .before .before .before .before .before .before .before .before .before .before .args .out .now) (c .before .before .put-refusal .last .0) _ (c .before .before .before .before .before .before .before .before .before .before .before .before .before .before .compile .result) (c .before .before .before .before .before .before .before .before .before .before .before .before .before .before .compile .ensures .0) (c .before .before .before .before .before .before .before .before .a .given .0 .0) (c .before .before .before .before .before .text-length .result) (c .before .before .put-refusal .result) (c .before .before .before .before .before .before .before .before .a .given .1) (c .before .before .before .before .before .before .before .before .before .before .before .before .before .before .compile .ensures .1) (c .before .before .before .before .before .before .before .before .before .before .before .before .before .before .compile .kept .1 .1 .0) (c .before .before .before .before .before .text-length .ensures) (c .before .before .put-refusal .ensures .0) refl, omega (arith, c .before .before .put-refusal .ensures .1, c .before .before .before .before .before .before .before .before .before .before .before .before .before .before .before .before .before .before .before .before .before .before .pre))
+returns-2 c =
+    let a = c .before .before .before .before .before .before .before .before .before .before .before .before .before .before .before .before .before .before .before .before .before .before .args in
+    let k = c .before .before .before .before .before .before .before .before .before .before .before .before .before .before .compile in
+    let w = c .before .before .put-refusal in
+    let h : w .result ≤ length (a .out .now) = omega (arith, w .ensures .1, c .before .before .before .before .before .before .before .before .before .before .before .before .before .before .before .before .before .before .before .before .before .before .pre) in record {
+      built = begins-refused (a .formula .now) (a .names .now) (a .path .now) (a .program .now) (k .last .1 .1 .0) (k .last .1 .1 .1 .0) (a .out .now) (w .last .0) _ (k .result) (k .ensures .0) (c .before .before .before .before .before .before .before .before .a .given .0 .0) (c .before .before .before .before .before .text-length .result) (w .result) (c .before .before .before .before .before .before .before .before .a .given .1) (k .ensures .1) (k .kept .1 .1 .0) (c .before .before .before .before .before .text-length .ensures) (w .ensures .0) refl;
+      numbered = omega arith;
+      room = h;
+      beyond = drop-wrote (a .out .now) 0 _ (w .last .0) (w .result) (w .ensures .0) h;
+      path-is = k .ensures .1;
+      program-is = k .ensures .2;
+    }
 
 pub begin-spec : {M : Type 1} → statement M
 begin-spec =

@@ -1,15 +1,14 @@
-use Rattle.lines.specs.Owed.{Ends, memory}
+use Rattle.lines.proofs.Calls.{finish-finished, finish-idle}
+use Rattle.lines.specs.Calls.{Finishing}
+use Rattle.lines.specs.Owed.{memory}
 use Rattle.lines.specs.declared.Stage.{Stage}
-use lib.ListN.{take}
-use mathlib.Core.List.{[]}
 use mathlib.Core.Path.{sym, subst}
-use native.Mathlib.Omega.{arith}
 use borrow.Author.Needs.{needs}
 use Rattle.lines.proofs.finish.Statement.{statement}
 use Rattle.lines.proofs.finish.Tie as tie
 
 returns : tie.Need-returns
-returns c = (λ h. absurd (omega (arith, c .if1 .taken)), omega arith)
+returns c = let a = c .before .before .before .before .before .before .before .before .args in finish-idle (a .formula .now) (memory (a .names .now) (a .path .now) (a .program .now) (a .values .now) (a .regs .now)) (a .stage) (a .out .now) (c .if1 .taken)
 
 enum-known-stage : tie.Need-enum-known-stage
 enum-known-stage c = search needs
@@ -36,7 +35,12 @@ same-length-3 : tie.Need-same-length-3
 same-length-3 c = search needs
 
 returns-2 : tie.Need-returns-2
-returns-2 c = (λ h. subst (λ (s : Stage). Ends (c .before .before .before .before .before .before .before .before .before .before .before .before .before .before .before .before .before .before .before .before .before .args .formula .now) (memory (c .before .before .before .before .before .before .before .before .before .before .before .before .before .before .before .before .before .before .before .before .before .args .names .now) (c .before .before .before .before .before .before .before .before .before .before .before .before .before .before .before .before .before .before .before .before .before .args .path .now) (c .before .before .before .before .before .before .before .before .before .before .before .before .before .before .before .before .before .before .before .before .before .args .program .now) (c .before .before .before .before .before .before .before .before .before .before .before .before .before .before .before .before .before .before .before .before .before .args .values .now) (c .before .before .before .before .before .before .before .before .before .before .before .before .before .before .before .before .before .before .before .before .before .args .regs .now)) s (take (c .before .before .before .before .before .before .finish-names .result) (c .before .before .before .before .before .before .finish-names .last .1 .1 .1 .1 .1 .0))) (sym (c .before .before .before .before .before .before .before .before .before .before .before .stage .given .1)) (c .before .before .before .before .before .before .finish-names .ensures .0 (c .before .before .before .before .before .before .before .before .before .before .before .before .before .before .before .before .before .before .before .before .before .args .values .now) (c .before .before .before .before .before .before .before .before .before .before .before .before .before .before .before .before .before .before .before .before .before .args .regs .now)), c .before .before .before .before .before .before .finish-names .ensures .1)
+returns-2 c =
+    let a = c .before .before .before .before .before .before .before .before .before .before .before .before .before .before .before .before .before .before .before .before .before .args in
+    let n = c .before .before .before .before .before .before .finish-names in
+    subst (λ (s : Stage). Finishing (a .formula .now) (memory (a .names .now) (a .path .now) (a .program .now) (a .values .now) (a .regs .now)) s (a .out .now) (n .result)
+    (memory (a .names .now) (n .last .1 .1 .1 .0) (n .last .1 .1 .1 .1 .0) (a .values .now) (a .regs .now)) (n .last .1 .1 .1 .1 .1 .0)) (sym (c .before .before .before .before .before .before .before .before .before .before .before .stage .given .1))
+    (n .ensures (a .values .now) (a .regs .now))
 
 same-length-4 : tie.Need-same-length-4
 same-length-4 c = search needs
@@ -51,10 +55,18 @@ same-length-7 : tie.Need-same-length-7
 same-length-7 c = search needs
 
 returns-3 : tie.Need-returns-3
-returns-3 c = (λ h. subst (λ (s : Stage). Ends (c .before .before .before .before .before .before .before .before .before .before .before .before .before .before .before .before .before .before .before .before .before .before .args .formula .now) (memory (c .before .before .before .before .before .before .before .before .before .before .before .before .before .before .before .before .before .before .before .before .before .before .args .names .now) (c .before .before .before .before .before .before .before .before .before .before .before .before .before .before .before .before .before .before .before .before .before .before .args .path .now) (c .before .before .before .before .before .before .before .before .before .before .before .before .before .before .before .before .before .before .before .before .before .before .args .program .now) (c .before .before .before .before .before .before .before .before .before .before .before .before .before .before .before .before .before .before .before .before .before .before .args .values .now) (c .before .before .before .before .before .before .before .before .before .before .before .before .before .before .before .before .before .before .before .before .before .before .args .regs .now)) s (take (c .before .before .before .before .before .before .finish-values .result) (c .before .before .before .before .before .before .finish-values .last .1 .1 .1 .1 .1 .0))) (sym (c .before .before .before .before .before .before .before .before .before .before .before .before .stage2 .given .1)) (c .before .before .before .before .before .before .finish-values .ensures .0 (c .before .before .before .before .before .before .before .before .before .before .before .before .before .before .before .before .before .before .before .before .before .before .args .formula .now) (c .before .before .before .before .before .before .before .before .before .before .before .before .before .before .before .before .before .before .before .before .before .before .args .names .now) (c .before .before .before .before .before .before .before .before .before .before .before .before .before .before .before .before .before .before .before .before .before .before .args .path .now)), c .before .before .before .before .before .before .finish-values .ensures .1)
+returns-3 c =
+    let a = c .before .before .before .before .before .before .before .before .before .before .before .before .before .before .before .before .before .before .before .before .before .before .args in
+    let v = c .before .before .before .before .before .before .finish-values in
+    subst (λ (s : Stage). Finishing (a .formula .now) (memory (a .names .now) (a .path .now) (a .program .now) (a .values .now) (a .regs .now)) s (a .out .now) (v .result)
+    (memory (a .names .now) (a .path .now) (a .program .now) (v .last .1 .1 .1 .0) (v .last .1 .1 .1 .1 .0)) (v .last .1 .1 .1 .1 .1 .0)) (sym (c .before .before .before .before .before .before .before .before .before .before .before .before .stage2 .given .1))
+    (v .ensures (a .formula .now) (a .names .now) (a .path .now))
 
 returns-4 : tie.Need-returns-4
-returns-4 c = (λ h. subst (λ (s : Stage). Ends (c .before .before .before .before .before .before .before .before .before .before .args .formula .now) (memory (c .before .before .before .before .before .before .before .before .before .before .args .names .now) (c .before .before .before .before .before .before .before .before .before .before .args .path .now) (c .before .before .before .before .before .before .before .before .before .before .args .program .now) (c .before .before .before .before .before .before .before .before .before .before .args .values .now) (c .before .before .before .before .before .before .before .before .before .before .args .regs .now)) s (take (0) (c .before .before .before .before .before .before .before .before .before .before .args .out .now))) (sym (c .enum-told .given .1)) (λ g o. o []), omega arith)
+returns-4 c =
+    let a = c .before .before .before .before .before .before .before .before .before .before .args in
+    let m = memory (a .names .now) (a .path .now) (a .program .now) (a .values .now) (a .regs .now) in subst (λ (s : Stage). Finishing (a .formula .now) m s (a .out .now) 0 m
+    (a .out .now)) (sym (c .enum-told .given .1)) (finish-finished (a .formula .now) m (a .out .now) (c .before .before .if1 .left))
 
 pub finish-spec : {M : Type 1} → statement M
 finish-spec =

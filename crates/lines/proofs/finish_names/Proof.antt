@@ -1,6 +1,5 @@
-use Rattle.lines.proofs.Stages.{names-finish, names-too-many}
+use Rattle.lines.proofs.Calls.{names-last, names-last-unfit}
 use lib.Seq.{length-take-le}
-use lib.ListN.{take}
 use mathlib.Core.Path.{sym}
 use native.Mathlib.Omega.{arith}
 use borrow.Author.Needs.{needs}
@@ -8,7 +7,9 @@ use Rattle.lines.proofs.finish_names.Statement.{statement}
 use Rattle.lines.proofs.finish_names.Tie as tie
 
 returns : tie.Need-returns
-returns c = (λ values regs. names-too-many (c .before .before .before .before .before .before .args .formula .now) (c .before .before .before .before .before .before .args .k) (c .before .before .before .before .before .before .args .names .now) (c .before .before .before .before .before .before .args .path .now) (c .before .before .before .before .before .before .args .program .now) values regs (take 0 (c .before .before .before .before .before .before .args .out .now)) (c .if1 .taken), omega arith)
+returns c =
+    let a = c .before .before .before .before .before .before .args in
+    λ values regs. names-last-unfit (a .formula .now) (a .k) (a .names .now) (a .path .now) (a .program .now) (a .out .now) (c .before .before .before .before .before .before .pre) values regs (c .if1 .taken)
 
 slice-aggregate-begin : tie.Need-slice-aggregate-begin
 slice-aggregate-begin c = sym (length-take-le (c .before .before .before .before .before .before .before .args .k) (c .before .before .before .before .before .before .before .args .names .now) (c .before .if1 .left))
@@ -26,7 +27,11 @@ same-length-3 : tie.Need-same-length-3
 same-length-3 c = search needs
 
 returns-2 : tie.Need-returns-2
-returns-2 c = (λ values regs. names-finish (c .before .before .before .before .before .before .before .before .before .before .before .before .before .before .before .before .before .args .formula .now) (c .before .before .before .before .before .before .before .before .before .before .before .before .before .before .before .before .before .args .k) (c .before .before .before .before .before .before .before .before .before .before .before .before .before .before .before .before .before .args .names .now) (c .before .before .before .before .before .before .before .before .before .before .before .before .before .before .before .before .before .args .path .now) (c .before .before .before .before .before .before .before .before .before .before .before .before .before .before .before .before .before .args .program .now) values regs (c .before .before .before .before .before .before .begin .last .1 .1 .1 .0) (c .before .before .before .before .before .before .before .before .before .before .before .before .before .before .before .before .before .args .out .now) (c .before .before .before .before .before .before .begin .last .1 .1 .1 .1 .0) (c .before .before .before .before .before .before .begin .result) (c .before .before .before .before .before .before .begin .ensures .1) (c .before .before .before .before .before .before .begin .ensures .0), c .before .before .before .before .before .before .begin .ensures .1)
+returns-2 c =
+    let a = c .before .before .before .before .before .before .before .before .before .before .before .before .before .before .before .before .before .args in
+    let b = c .before .before .before .before .before .before .begin in
+    λ values regs. names-last (a .formula .now) (a .k) (a .names .now) (a .path .now) (a .program .now) (a .out .now) (c .before .before .before .before .before .before .before .before .before .before .before .before .before .before .before .before .before .pre) values regs (c .before .before .before .before .before .before .before .before .before .before .before .if1 .left) (b .last .1 .1 .0)
+    (b .last .1 .1 .1 .0) (b .last .1 .1 .1 .1 .0) (b .result) (b .ensures)
 
 pub finish-names-spec : {M : Type 1} → statement M
 finish-names-spec =

@@ -1,7 +1,4 @@
-use Rattle.lines.proofs.Stages.{values-last, values-none, values-unready}
-use lib.ListN.{length, take}
-use Prim.Native.Nat.{_≤_}
-use native.Mathlib.Omega.{arith}
+use Rattle.lines.proofs.Calls.{values-last-line, values-last-none, values-last-unfit}
 use borrow.Author.Needs.{needs}
 use Rattle.lines.proofs.finish_values.Statement.{statement}
 use Rattle.lines.proofs.finish_values.Tie as tie
@@ -10,7 +7,11 @@ is-empty-requires : tie.Need-is-empty-requires
 is-empty-requires c κs = search needs
 
 returns : tie.Need-returns
-returns c = (λ formula names path. values-none (c .before .before .before .before .before .before .args .number) (c .before .before .before .before .before .before .args .s) (c .before .before .before .before .before .before .args .program .now) (c .before .before .before .before .before .before .args .values .now) (c .before .before .before .before .before .before .args .regs .now) formula names path (c .before .is-empty .result) (c .before .is-empty .ensures) (c .if1 .taken) (c .before .before .before .before .before .before .args .out .now), omega arith)
+returns c =
+    let a = c .before .before .before .before .before .before .args in
+    let at-is-empty = c .before .is-empty in
+    λ formula names path. values-last-none (a .number) (a .s) (a .program .now) (a .values .now) (a .regs .now) (a .out .now) (c .before .before .before .before .before .before .pre) formula names path (at-is-empty .result)
+    (at-is-empty .ensures) (c .if1 .taken)
 
 is-ready-requires : tie.Need-is-ready-requires
 is-ready-requires c κs = search needs
@@ -28,10 +29,19 @@ same-length-3 : tie.Need-same-length-3
 same-length-3 c = search needs
 
 returns-2 : tie.Need-returns-2
-returns-2 c = let n : c .before .before .before .before .before .before .put-record .result ≤ length (c .before .before .before .before .before .before .before .before .before .before .before .before .before .before .before .before .before .before .args .out .now) = omega (arith, c .before .before .before .before .before .before .put-record .ensures .1, c .before .before .before .before .before .before .before .before .before .before .before .before .before .before .before .before .before .before .pre) in (λ formula names path. values-last (c .before .before .before .before .before .before .before .before .before .before .before .before .before .before .before .before .before .before .args .number) (c .before .before .before .before .before .before .before .before .before .before .before .before .before .before .before .before .before .before .args .s) (c .before .before .before .before .before .before .before .before .before .before .before .before .before .before .before .before .before .before .args .program .now) (c .before .before .before .before .before .before .before .before .before .before .before .before .before .before .before .before .before .before .args .values .now) (c .before .before .before .before .before .before .before .before .before .before .before .before .before .before .before .before .before .before .args .regs .now) formula names path (c .before .before .before .before .before .before .before .before .before .before .before .before .before .is-empty .result) (c .before .before .before .before .before .before .before .before .before .before .before .before .before .is-empty .ensures) (c .before .before .before .before .before .before .before .before .before .before .before .before .if1 .left) (c .before .before .before .before .before .before .before .before .before .before .before .before .before .before .before .before .before .before .args .out .now) (c .before .before .before .before .before .before .put-record .last .1 .1 .1 .1 .1 .0) (c .before .before .before .before .before .before .put-record .result) n (c .before .before .before .before .before .before .put-record .ensures .0), n)
+returns-2 c =
+    let a = c .before .before .before .before .before .before .before .before .before .before .before .before .before .before .before .before .before .before .args in
+    let w = c .before .before .before .before .before .before .put-record in
+    let at-is-empty = c .before .before .before .before .before .before .before .before .before .before .before .before .before .is-empty in
+    λ formula names path. values-last-line (a .number) (a .s) (a .program .now) (a .values .now) (a .regs .now) (a .out .now) (c .before .before .before .before .before .before .before .before .before .before .before .before .before .before .before .before .before .before .pre) formula names path (at-is-empty .result)
+    (at-is-empty .ensures) (c .before .before .before .before .before .before .before .before .before .before .before .before .if1 .left) (c .before .before .before .before .before .before .before .before .before .before .before .is-ready .ensures .0 (c .before .before .before .before .before .before .before .before .before .before .if2 .taken)) (w .last .1 .1 .0) (w .last .1 .1 .1 .0) (w .last .1 .1 .1 .1 .1 .0) (w .result)
+    (w .ensures .1 .1) (w .ensures .0) (w .ensures .1 .0)
 
 returns-3 : tie.Need-returns-3
-returns-3 c = (λ formula names path. values-unready (c .before .before .before .before .before .before .before .before .args .number) (c .before .before .before .before .before .before .before .before .args .s) (c .before .before .before .before .before .before .before .before .args .program .now) (c .before .before .before .before .before .before .before .before .args .values .now) (c .before .before .before .before .before .before .before .before .args .regs .now) formula names path (take 0 (c .before .before .before .before .before .before .before .before .args .out .now)) (c .before .is-ready .ensures .1 (c .if2 .left)), omega arith)
+returns-3 c =
+    let a = c .before .before .before .before .before .before .before .before .args in
+    λ formula names path. values-last-unfit (a .number) (a .s) (a .program .now) (a .values .now) (a .regs .now) (a .out .now) (c .before .before .before .before .before .before .before .before .pre) formula names path
+    (c .before .is-ready .ensures .1 (c .if2 .left))
 
 pub finish-values-spec : {M : Type 1} → statement M
 finish-values-spec =

@@ -21,7 +21,7 @@ same-length : tie.Need-same-length Inv-loop μ-loop
 same-length c = c .before .before .before .loop .inv .same-length
 
 returns : tie.Need-returns Inv-loop μ-loop
-returns c = ((c .before .before .before .loop .inv .inside, c .before .before .before .loop .inv .no-newline, λ l. c .if1 .taken), c .before .before .before .loop .inv .on)
+returns c = let i = c .before .before .before .loop .inv in ((i .inside, i .no-newline, λ l. c .if1 .taken), (i .on, i .holds))
 
 keep-byte-requires : tie.Need-keep-byte-requires Inv-loop μ-loop
 keep-byte-requires c κs = tt
@@ -33,13 +33,18 @@ loop-less : tie.Need-loop-less Inv-loop μ-loop
 loop-less c = omega arith
 
 loop-again : tie.Need-loop-again Inv-loop μ-loop
-loop-again c = keeping-step (c .before .before .before .before .before .before .before .before .before .before .args .input .now) (c .before .before .before .before .before .before .before .before .before .before .args .k) (c .before .before .before .before .before .before .before .before .before .before .args .names .now) (c .before .before .before .before .before .before .before .loop .end) (c .before .before .before .before .before .before .before .loop .count) (c .before .before .before .before .before .before .before .loop .names) (c .before .before .before .before .before .before .before .loop .inv) (c .before .before .before .before .before .before .loop-test .taken) (c .before .before .before .before .if1 .left) (c .before .before .keep-byte .result) (c .before .before .keep-byte .last .0) (c .before .before .keep-byte .ensures .0) (c .before .before .keep-byte .ensures .1)
+loop-again c =
+    let at-args = c .before .before .before .before .before .before .before .before .before .before .args in
+    let at-loop = c .before .before .before .before .before .before .before .loop in
+    let at-keep-byte = c .before .before .keep-byte in
+    keeping-step (at-args .input .now) (at-args .k) (at-args .names .now) (at-loop .end) (at-loop .count) (at-loop .names) (at-loop .inv) (c .before .before .before .before .before .before .loop-test .taken) (c .before .before .before .before .if1 .left)
+    (at-keep-byte .result) (at-keep-byte .last .0) (at-keep-byte .ensures .0) (at-keep-byte .ensures .1)
 
 same-length-2 : tie.Need-same-length-2 Inv-loop μ-loop
 same-length-2 c = c .before .loop .inv .same-length
 
 returns-2 : tie.Need-returns-2 Inv-loop μ-loop
-returns-2 c = ((c .before .loop .inv .inside, c .before .loop .inv .no-newline, λ l. absurd (omega (arith, c .loop-test .left))), c .before .loop .inv .on)
+returns-2 c = let i = c .before .loop .inv in ((i .inside, i .no-newline, λ l. absurd (omega (arith, c .loop-test .left))), (i .on, i .holds))
 
 pub keep-names-spec : {M : Type 1} → statement M
 keep-names-spec =

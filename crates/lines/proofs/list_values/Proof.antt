@@ -1,6 +1,5 @@
-use Rattle.lines.proofs.Listings.{Listing-on, lt-max, lt-of, on-line, on-read, on-start, so-far-is}
+use Rattle.lines.proofs.Listings.{Listing-on, lt-max, lt-of, on-done, on-end, on-full, on-last, on-line, on-start}
 use Rattle.lines.proofs.Runs.{ready-same}
-use Rattle.layout.specs.Decode.{program-at}
 use lib.ListN.{length}
 use native.Mathlib.Omega.{arith}
 use Prim.Native.Nat.{_+_, _-_}
@@ -15,7 +14,7 @@ abbrev μ-loop : tie.MeasureT-loop
 μ-loop p input number values₀ regs₀ out₀ at₀ length₀ n₀ reading₀ values regs out at length n reading = lib.ListN.length input - at
 
 loop-holds : tie.Need-loop-holds Inv-loop μ-loop
-loop-holds c = on-start (c .before .before .before .before .before .args .p .now) (c .before .before .before .before .before .args .input .now) (c .before .before .before .before .before .args .number) (c .before .before .before .before .before .args .s) (c .before .before .before .before .before .args .values .now) (c .before .before .before .before .before .args .regs .now) (c .before .before .before .before .before .args .out .now) (c .before .before .before .before .before .fits .number .fits)
+loop-holds c = let a = c .before .before .before .before .before .args in on-start (a .p .now) (a .input .now) (a .number) (a .s) (a .values .now) (a .regs .now) (a .out .now) (c .before .before .before .before .before .fits .number .fits)
 
 read-part-requires : tie.Need-read-part-requires Inv-loop μ-loop
 read-part-requires c κs = c .before .before .loop .inv .inside
@@ -33,7 +32,14 @@ same-length-3 : tie.Need-same-length-3 Inv-loop μ-loop
 same-length-3 c = c .before .before .before .before .before .before .before .before .loop .inv .same-out
 
 returns : tie.Need-returns Inv-loop μ-loop
-returns c = so-far-is (program-at (c .before .before .before .before .before .before .before .before .before .before .before .before .before .before .args .p .now)) (c .before .before .before .before .before .before .before .before .before .before .before .before .before .before .args .input .now) (c .before .before .before .before .before .before .before .before .before .before .before .before .before .before .args .number) (c .before .before .before .before .before .before .before .before .before .before .before .before .before .before .args .s) (c .before .before .before .before .before .before .before .before .before .before .before .before .before .before .args .values .now) (c .before .before .before .before .before .read-part .last .1 .1 .1 .0) (c .before .before .before .before .before .before .before .before .before .before .before .before .before .before .args .out .now) (c .before .before .before .before .before .before .before .before .loop .out) (c .so-far .result) (c .before .before .before .before .before .before .before .before .loop .n) (c .before .before .before .before .before .read-part .result .reading) (c .before .before .before .before .before .read-part .result .end) (c .before .before .before .before .before .before .before .before .loop .length) (c .so-far .ensures) (c .before .before .before .before .before .read-part .ensures .0 .1) (c .before .before .before .before .before .before .before .before .loop .inv .short) (c .before .before .before .before .before .before .before .before .loop .inv .same-out) (on-read (c .before .before .before .before .before .before .before .before .before .before .before .before .before .before .args .p .now) (c .before .before .before .before .before .before .before .before .before .before .before .before .before .before .args .input .now) (c .before .before .before .before .before .before .before .before .before .before .before .before .before .before .args .number) (c .before .before .before .before .before .before .before .before .before .before .before .before .before .before .args .s) (c .before .before .before .before .before .before .before .before .before .before .before .before .before .before .args .values .now) (c .before .before .before .before .before .before .before .before .before .before .before .before .before .before .args .regs .now) (c .before .before .before .before .before .before .before .before .before .before .before .before .before .before .args .out .now) (c .before .before .before .before .before .before .before .before .loop .values) (c .before .before .before .before .before .before .before .before .loop .regs) (c .before .before .before .before .before .before .before .before .loop .out) (c .before .before .before .before .before .before .before .before .loop .at) (c .before .before .before .before .before .before .before .before .loop .length) (c .before .before .before .before .before .before .before .before .loop .n) (c .before .before .before .before .before .before .before .before .loop .reading) (c .before .before .before .before .before .before .before .before .loop .inv) (c .before .before .before .before .before .read-part .result .end) (c .before .before .before .before .before .read-part .result .reading) (c .before .before .before .before .before .read-part .last .1 .1 .1 .0) (c .before .before .before .before .before .read-part .ensures .0 .0) (c .before .before .before .before .before .read-part .ensures .0 .2) (c .before .before .before .before .before .read-part .ensures .1))
+returns c =
+    let a = c .before .before .before .before .before .before .before .before .before .before .before .before .before .before .args in
+    let l = c .before .before .before .before .before .before .before .before .loop in
+    let r = c .before .before .before .before .before .read-part in
+    let at-so-far = c .so-far in
+    on-end (a .p .now) (a .input .now) (a .number) (a .s) (a .values .now) (a .regs .now) (a .out .now) (l .values) (l .regs) (l .out) (l .at) (l .length) (l .n) (l .reading)
+    (l .inv) (r .result .end) (r .result .reading) (r .last .1 .1 .1 .0) (r .ensures .0 .0) (r .ensures .0 .2) (r .ensures .1) (r .ensures .0 .1) (at-so-far .result)
+    (at-so-far .ensures) (c .before .if1 .taken)
 
 sub-if2 : tie.Need-sub-if2 Inv-loop μ-loop
 sub-if2 c = c .before .before .before .before .before .before .before .loop .inv .short
@@ -51,7 +57,14 @@ same-length-6 : tie.Need-same-length-6 Inv-loop μ-loop
 same-length-6 c = c .before .before .before .before .before .before .before .before .before .loop .inv .same-out
 
 returns-2 : tie.Need-returns-2 Inv-loop μ-loop
-returns-2 c = so-far-is (program-at (c .before .before .before .before .before .before .before .before .before .before .before .before .before .before .before .args .p .now)) (c .before .before .before .before .before .before .before .before .before .before .before .before .before .before .before .args .input .now) (c .before .before .before .before .before .before .before .before .before .before .before .before .before .before .before .args .number) (c .before .before .before .before .before .before .before .before .before .before .before .before .before .before .before .args .s) (c .before .before .before .before .before .before .before .before .before .before .before .before .before .before .before .args .values .now) (c .before .before .before .before .before .before .read-part .last .1 .1 .1 .0) (c .before .before .before .before .before .before .before .before .before .before .before .before .before .before .before .args .out .now) (c .before .before .before .before .before .before .before .before .before .loop .out) (c .so-far2 .result) (c .before .before .before .before .before .before .before .before .before .loop .n) (c .before .before .before .before .before .before .read-part .result .reading) (c .before .before .before .before .before .before .read-part .result .end) (c .before .before .before .before .before .before .before .before .before .loop .length) (c .so-far2 .ensures) (c .before .before .before .before .before .before .read-part .ensures .0 .1) (c .before .before .before .before .before .before .before .before .before .loop .inv .short) (c .before .before .before .before .before .before .before .before .before .loop .inv .same-out) (on-read (c .before .before .before .before .before .before .before .before .before .before .before .before .before .before .before .args .p .now) (c .before .before .before .before .before .before .before .before .before .before .before .before .before .before .before .args .input .now) (c .before .before .before .before .before .before .before .before .before .before .before .before .before .before .before .args .number) (c .before .before .before .before .before .before .before .before .before .before .before .before .before .before .before .args .s) (c .before .before .before .before .before .before .before .before .before .before .before .before .before .before .before .args .values .now) (c .before .before .before .before .before .before .before .before .before .before .before .before .before .before .before .args .regs .now) (c .before .before .before .before .before .before .before .before .before .before .before .before .before .before .before .args .out .now) (c .before .before .before .before .before .before .before .before .before .loop .values) (c .before .before .before .before .before .before .before .before .before .loop .regs) (c .before .before .before .before .before .before .before .before .before .loop .out) (c .before .before .before .before .before .before .before .before .before .loop .at) (c .before .before .before .before .before .before .before .before .before .loop .length) (c .before .before .before .before .before .before .before .before .before .loop .n) (c .before .before .before .before .before .before .before .before .before .loop .reading) (c .before .before .before .before .before .before .before .before .before .loop .inv) (c .before .before .before .before .before .before .read-part .result .end) (c .before .before .before .before .before .before .read-part .result .reading) (c .before .before .before .before .before .before .read-part .last .1 .1 .1 .0) (c .before .before .before .before .before .before .read-part .ensures .0 .0) (c .before .before .before .before .before .before .read-part .ensures .0 .2) (c .before .before .before .before .before .before .read-part .ensures .1))
+returns-2 c =
+    let a = c .before .before .before .before .before .before .before .before .before .before .before .before .before .before .before .args in
+    let l = c .before .before .before .before .before .before .before .before .before .loop in
+    let r = c .before .before .before .before .before .before .read-part in
+    let at-so-far2 = c .so-far2 in
+    on-full (a .p .now) (a .input .now) (a .number) (a .s) (a .values .now) (a .regs .now) (a .out .now) (l .values) (l .regs) (l .out) (l .at) (l .length) (l .n)
+    (l .reading) (l .inv) (r .result .end) (r .result .reading) (r .last .1 .1 .1 .0) (r .ensures .0 .0) (r .ensures .0 .2) (r .ensures .1) (r .ensures .0 .1)
+    (at-so-far2 .result) (at-so-far2 .ensures) (c .before .if2 .taken)
 
 so-far-requires-3 : tie.Need-so-far-requires-3 Inv-loop μ-loop
 so-far-requires-3 c κs = tt
@@ -66,16 +79,32 @@ same-length-9 : tie.Need-same-length-9 Inv-loop μ-loop
 same-length-9 c = c .before .before .before .before .before .before .before .before .before .before .loop .inv .same-out
 
 returns-3 : tie.Need-returns-3 Inv-loop μ-loop
-returns-3 c = so-far-is (program-at (c .before .before .before .before .before .before .before .before .before .before .before .before .before .before .before .before .args .p .now)) (c .before .before .before .before .before .before .before .before .before .before .before .before .before .before .before .before .args .input .now) (c .before .before .before .before .before .before .before .before .before .before .before .before .before .before .before .before .args .number) (c .before .before .before .before .before .before .before .before .before .before .before .before .before .before .before .before .args .s) (c .before .before .before .before .before .before .before .before .before .before .before .before .before .before .before .before .args .values .now) (c .before .before .before .before .before .before .before .read-part .last .1 .1 .1 .0) (c .before .before .before .before .before .before .before .before .before .before .before .before .before .before .before .before .args .out .now) (c .before .before .before .before .before .before .before .before .before .before .loop .out) (c .so-far3 .result) (c .before .before .before .before .before .before .before .before .before .before .loop .n) (c .before .before .before .before .before .before .before .read-part .result .reading) (c .before .before .before .before .before .before .before .read-part .result .end) (c .before .before .before .before .before .before .before .before .before .before .loop .length) (c .so-far3 .ensures) (c .before .before .before .before .before .before .before .read-part .ensures .0 .1) (c .before .before .before .before .before .before .before .before .before .before .loop .inv .short) (c .before .before .before .before .before .before .before .before .before .before .loop .inv .same-out) (on-read (c .before .before .before .before .before .before .before .before .before .before .before .before .before .before .before .before .args .p .now) (c .before .before .before .before .before .before .before .before .before .before .before .before .before .before .before .before .args .input .now) (c .before .before .before .before .before .before .before .before .before .before .before .before .before .before .before .before .args .number) (c .before .before .before .before .before .before .before .before .before .before .before .before .before .before .before .before .args .s) (c .before .before .before .before .before .before .before .before .before .before .before .before .before .before .before .before .args .values .now) (c .before .before .before .before .before .before .before .before .before .before .before .before .before .before .before .before .args .regs .now) (c .before .before .before .before .before .before .before .before .before .before .before .before .before .before .before .before .args .out .now) (c .before .before .before .before .before .before .before .before .before .before .loop .values) (c .before .before .before .before .before .before .before .before .before .before .loop .regs) (c .before .before .before .before .before .before .before .before .before .before .loop .out) (c .before .before .before .before .before .before .before .before .before .before .loop .at) (c .before .before .before .before .before .before .before .before .before .before .loop .length) (c .before .before .before .before .before .before .before .before .before .before .loop .n) (c .before .before .before .before .before .before .before .before .before .before .loop .reading) (c .before .before .before .before .before .before .before .before .before .before .loop .inv) (c .before .before .before .before .before .before .before .read-part .result .end) (c .before .before .before .before .before .before .before .read-part .result .reading) (c .before .before .before .before .before .before .before .read-part .last .1 .1 .1 .0) (c .before .before .before .before .before .before .before .read-part .ensures .0 .0) (c .before .before .before .before .before .before .before .read-part .ensures .0 .2) (c .before .before .before .before .before .before .before .read-part .ensures .1))
+returns-3 c =
+    let a = c .before .before .before .before .before .before .before .before .before .before .before .before .before .before .before .before .args in
+    let l = c .before .before .before .before .before .before .before .before .before .before .loop in
+    let r = c .before .before .before .before .before .before .before .read-part in
+    let at-so-far3 = c .so-far3 in
+    on-last (a .p .now) (a .input .now) (a .number) (a .s) (a .values .now) (a .regs .now) (a .out .now) (l .values) (l .regs) (l .out) (l .at) (l .length) (l .n)
+    (l .reading) (l .inv) (r .result .end) (r .result .reading) (r .last .1 .1 .1 .0) (r .ensures .0 .0) (r .ensures .0 .2) (r .ensures .1) (r .ensures .0 .1)
+    (at-so-far3 .result) (at-so-far3 .ensures) (c .before .if3 .taken)
 
 put-record-requires : tie.Need-put-record-requires Inv-loop μ-loop
-put-record-requires c κs = (ready-same (c .before .before .before .before .before .before .before .before .before .before .before .before .before .before .before .before .before .before .args .p .now) (length (c .before .before .before .before .before .before .before .before .before .before .before .before .before .before .before .before .before .before .args .values .now)) (length (c .before .before .before .before .before .before .before .before .before .before .before .before .before .before .before .before .before .before .args .regs .now)) (length (c .before .before .before .before .before .before .before .before .before .read-part .last .1 .1 .1 .0)) (length (c .before .before .before .before .before .before .before .before .before .before .before .before .loop .regs)) (c .before .before .before .before .before .before .before .before .before .read-part .kept .1 .1 .1 .0 ∙ c .before .before .before .before .before .before .before .before .before .before .before .before .loop .inv .same-values) (c .before .before .before .before .before .before .before .before .before .before .before .before .loop .inv .same-regs) (c .before .before .before .before .before .before .before .before .before .before .before .before .before .before .before .before .before .before .pre), omega (arith, c .before .before .before .before .if2 .left, c .before .before .before .before .before .before .before .before .before .before .before .before .loop .inv .short))
+put-record-requires c κs =
+    let at-args = c .before .before .before .before .before .before .before .before .before .before .before .before .before .before .before .before .before .before .args in
+    let at-read-part = c .before .before .before .before .before .before .before .before .before .read-part in
+    let at-loop = c .before .before .before .before .before .before .before .before .before .before .before .before .loop in (
+      ready-same (at-args .p .now) (length (at-args .values .now)) (length (at-args .regs .now)) (length (at-read-part .last .1 .1 .1 .0)) (length (at-loop .regs))
+          (at-read-part .kept .1 .1 .1 .0 ∙ at-loop .inv .same-values) (at-loop .inv .same-regs) (c .before .before .before .before .before .before .before .before .before .before .before .before .before .before .before .before .before .before .pre),
+      omega (arith, c .before .before .before .before .if2 .left, at-loop .inv .short),
+    )
 
 fresh-requires : tie.Need-fresh-requires Inv-loop μ-loop
 fresh-requires c κs = tt
 
 add-n : tie.Need-add-n Inv-loop μ-loop
-add-n c = record { fits = lt-max (c .before .before .before .before .before .before .before .before .before .before .before .before .before .before .before .before .before .before .before .before .loop .n) (c .before .before .before .before .before .before .before .before .before .before .before .before .before .before .before .before .before .before .before .before .loop .n + 1) (c .before .before .before .before .before .before .before .before .before .before .before .before .before .before .before .before .before .before .before .before .loop .inv .fits) (c .before .before .before .before .before .before .before .before .before .before .before .if3 .left) refl }
+add-n c =
+    let at-loop = c .before .before .before .before .before .before .before .before .before .before .before .before .before .before .before .before .before .before .before .before .loop in
+    record { fits = lt-max (at-loop .n) (at-loop .n + 1) (at-loop .inv .fits) (c .before .before .before .before .before .before .before .before .before .before .before .if3 .left) refl }
 
 add-at : tie.Need-add-at Inv-loop μ-loop
 add-at c = record { fits = omega (arith, c .before .before .before .before .before .before .before .before .before .before .before .before .before .before .before .before .before .read-part .ensures .0 .1, c .before .before .before .before .before .before .before .before .before .before .before .before .before .if1 .left, c .before .before .before .before .before .before .before .before .before .before .before .before .before .before .before .before .before .before .before .before .before .before .before .before .before .before .good .1 .0 .0) }
@@ -84,7 +113,17 @@ loop-less : tie.Need-loop-less Inv-loop μ-loop
 loop-less c = omega (arith, c .before .before .before .before .before .before .before .before .before .before .before .before .before .before .before .before .before .read-part .ensures .0 .0, c .before .before .before .before .before .before .before .before .before .before .before .before .before .before .before .before .before .before .before .loop-test .taken)
 
 loop-again : tie.Need-loop-again Inv-loop μ-loop
-loop-again c = on-line (c .before .before .before .before .before .before .before .before .before .before .before .before .before .before .before .before .before .before .before .before .before .before .before .before .before .before .args .p .now) (c .before .before .before .before .before .before .before .before .before .before .before .before .before .before .before .before .before .before .before .before .before .before .before .before .before .before .args .input .now) (c .before .before .before .before .before .before .before .before .before .before .before .before .before .before .before .before .before .before .before .before .before .before .before .before .before .before .args .number) (c .before .before .before .before .before .before .before .before .before .before .before .before .before .before .before .before .before .before .before .before .before .before .before .before .before .before .args .s) (c .before .before .before .before .before .before .before .before .before .before .before .before .before .before .before .before .before .before .before .before .before .before .before .before .before .before .args .values .now) (c .before .before .before .before .before .before .before .before .before .before .before .before .before .before .before .before .before .before .before .before .before .before .before .before .before .before .args .regs .now) (c .before .before .before .before .before .before .before .before .before .before .before .before .before .before .before .before .before .before .before .before .before .before .before .before .before .before .args .out .now) (c .before .before .before .before .before .before .before .before .before .before .before .before .before .before .before .before .before .before .before .before .loop .values) (c .before .before .before .before .before .before .before .before .before .before .before .before .before .before .before .before .before .before .before .before .loop .regs) (c .before .before .before .before .before .before .before .before .before .before .before .before .before .before .before .before .before .before .before .before .loop .out) (c .before .before .before .before .before .before .before .before .before .before .before .before .before .before .before .before .before .before .before .before .loop .at) (c .before .before .before .before .before .before .before .before .before .before .before .before .before .before .before .before .before .before .before .before .loop .length) (c .before .before .before .before .before .before .before .before .before .before .before .before .before .before .before .before .before .before .before .before .loop .n) (c .before .before .before .before .before .before .before .before .before .before .before .before .before .before .before .before .before .before .before .before .loop .reading) (c .before .before .before .before .before .before .before .before .before .before .before .before .before .before .before .before .before .before .before .before .loop .inv) (c .before .before .before .before .before .before .before .before .before .before .before .before .before .before .before .before .before .read-part .result .end) (c .before .before .before .before .before .before .before .before .before .before .before .before .before .before .before .before .before .read-part .result .reading) (c .before .before .before .before .before .before .before .before .before .before .before .before .before .before .before .before .before .read-part .last .1 .1 .1 .0) (c .before .before .before .before .before .before .before .before .before .before .before .before .before .before .before .before .before .read-part .ensures .0 .0) (c .before .before .before .before .before .before .before .before .before .before .before .before .before .before .before .before .before .read-part .ensures .0 .2) (c .before .before .before .before .before .before .before .before .before .before .before .before .before .before .before .before .before .read-part .ensures .1) (lt-of (c .before .before .before .before .before .before .before .before .before .before .before .before .before .before .before .before .before .read-part .result .end) (length (c .before .before .before .before .before .before .before .before .before .before .before .before .before .before .before .before .before .before .before .before .before .before .before .before .before .before .args .input .now)) (c .before .before .before .before .before .before .before .before .before .before .before .before .before .before .before .before .before .read-part .ensures .0 .1) (c .before .before .before .before .before .before .before .before .before .before .before .before .before .if1 .left)) (c .before .before .before .before .before .before .before .before .before .before .before .before .before .before .before .before .before .read-part .ensures .0 .3 (lt-of (c .before .before .before .before .before .before .before .before .before .before .before .before .before .before .before .before .before .read-part .result .end) (length (c .before .before .before .before .before .before .before .before .before .before .before .before .before .before .before .before .before .before .before .before .before .before .before .before .before .before .args .input .now)) (c .before .before .before .before .before .before .before .before .before .before .before .before .before .before .before .before .before .read-part .ensures .0 .1) (c .before .before .before .before .before .before .before .before .before .before .before .before .before .if1 .left))) (c .before .before .before .before .before .before .before .before .before .before .before .before .before .before .before .before .before .read-part .kept .1 .1 .1 .0) (c .before .before .before .before .before .before .before .put-record .last .1 .1 .0) (c .before .before .before .before .before .before .before .put-record .last .1 .1 .1 .0) (c .before .before .before .before .before .before .before .put-record .last .1 .1 .1 .1 .1 .0) (c .before .before .before .before .before .before .before .put-record .result) (c .before .before .before .before .before .before .before .before .before .before .before .before .before .before .before .before .before .before .before .before .loop .n + 1) (c .fresh .result) refl (c .before .before .before .before .before .before .before .before .before .before .before .if3 .left) (c .before .before .before .before .before .before .before .put-record .kept .1 .1 .0) (c .before .before .before .before .before .before .before .put-record .kept .1 .1 .1 .0) (c .before .before .before .before .before .before .before .put-record .ensures .0) (c .before .before .before .before .before .before .before .put-record .kept .1 .1 .1 .1 .1 .0) (omega (arith, c .before .before .before .before .before .before .before .put-record .ensures .1, c .before .before .before .before .before .before .before .before .before .before .before .before .if2 .left, c .before .before .before .before .before .before .before .before .before .before .before .before .before .before .before .before .before .before .before .before .loop .inv .short)) (c .fresh .ensures)
+loop-again c =
+    let a = c .before .before .before .before .before .before .before .before .before .before .before .before .before .before .before .before .before .before .before .before .before .before .before .before .before .before .args in
+    let l = c .before .before .before .before .before .before .before .before .before .before .before .before .before .before .before .before .before .before .before .before .loop in
+    let r = c .before .before .before .before .before .before .before .before .before .before .before .before .before .before .before .before .before .read-part in
+    let w = c .before .before .before .before .before .before .before .put-record in
+    let at-fresh = c .fresh in
+    let h = lt-of (r .result .end) (length (a .input .now)) (r .ensures .0 .1) (c .before .before .before .before .before .before .before .before .before .before .before .before .before .if1 .left) in on-line (a .p .now) (a .input .now) (a .number) (a .s) (a .values .now)
+    (a .regs .now) (a .out .now) (l .values) (l .regs) (l .out) (l .at) (l .length) (l .n) (l .reading) (l .inv) (r .result .end) (r .result .reading)
+    (r .last .1 .1 .1 .0) (r .ensures .0 .0) (r .ensures .0 .2) (r .ensures .1) h (r .ensures .0 .3 h) (r .kept .1 .1 .1 .0) (w .last .1 .1 .0) (w .last .1 .1 .1 .0)
+    (w .last .1 .1 .1 .1 .1 .0) (w .result) (l .n + 1) (at-fresh .result) refl (c .before .before .before .before .before .before .before .before .before .before .before .if3 .left) (w .kept .1 .1 .0) (w .kept .1 .1 .1 .0) (w .ensures .0) (w .ensures .1 .0)
+    (w .kept .1 .1 .1 .1 .1 .0) (omega (arith, w .ensures .1 .1, c .before .before .before .before .before .before .before .before .before .before .before .before .if2 .left, l .inv .short)) (at-fresh .ensures)
 
 so-far-requires-4 : tie.Need-so-far-requires-4 Inv-loop μ-loop
 so-far-requires-4 c κs = tt
@@ -99,7 +138,12 @@ same-length-12 : tie.Need-same-length-12 Inv-loop μ-loop
 same-length-12 c = c .before .before .loop .inv .same-out
 
 returns-4 : tie.Need-returns-4 Inv-loop μ-loop
-returns-4 c = so-far-is (program-at (c .before .before .before .before .before .before .before .before .args .p .now)) (c .before .before .before .before .before .before .before .before .args .input .now) (c .before .before .before .before .before .before .before .before .args .number) (c .before .before .before .before .before .before .before .before .args .s) (c .before .before .before .before .before .before .before .before .args .values .now) (c .before .before .loop .values) (c .before .before .before .before .before .before .before .before .args .out .now) (c .before .before .loop .out) (c .so-far4 .result) (c .before .before .loop .n) (c .before .before .loop .reading) (c .before .before .loop .at) (c .before .before .loop .length) (c .so-far4 .ensures) (c .before .before .loop .inv .inside) (c .before .before .loop .inv .short) (c .before .before .loop .inv .same-out) (c .before .before .loop .inv .lists)
+returns-4 c =
+    let a = c .before .before .before .before .before .before .before .before .args in
+    let l = c .before .before .loop in
+    let at-so-far4 = c .so-far4 in
+    on-done (a .p .now) (a .input .now) (a .number) (a .s) (a .values .now) (a .regs .now) (a .out .now) (l .values) (l .regs) (l .out) (l .at) (l .length) (l .n)
+    (l .reading) (l .inv) (c .before .loop-test .left) (at-so-far4 .result) (at-so-far4 .ensures)
 
 pub list-values-spec : {M : Type 1} → statement M
 list-values-spec =

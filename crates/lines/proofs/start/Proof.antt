@@ -1,15 +1,13 @@
 use Rattle.lines.proofs.Texts.{wrote}
-use Rattle.lines.proofs.Stages.{begins}
+use Rattle.lines.proofs.Calls.{start-idle, starting}
 use Rattle.listing.specs.Legs.{header}
-use lib.ListN.{length}
-use Prim.Native.Nat.{_≤_}
 use native.Mathlib.Omega.{arith}
 use borrow.Author.Needs.{needs}
 use Rattle.lines.proofs.start.Statement.{statement}
 use Rattle.lines.proofs.start.Tie as tie
 
 returns : tie.Need-returns
-returns c = (λ h. absurd (omega (arith, c .if1 .taken)), omega arith)
+returns c = let a = c .before .before .before .args in start-idle (a .readable) (a .formula .now) (a .out .now) (omega (arith, c .if1 .taken))
 
 slice-aggregate-put-bytes : tie.Need-slice-aggregate-put-bytes
 slice-aggregate-put-bytes c = search needs
@@ -24,7 +22,14 @@ same-length : tie.Need-same-length
 same-length c = search needs
 
 returns-2 : tie.Need-returns-2
-returns-2 c = let s = c .before .before .opened .ensures .1 in let n : c .before .before .opened .result .length ≤ length (c .before .before .before .before .before .before .before .before .before .before .before .before .args .out .now) = omega (arith, c .before .before .before .before .before .before .put-bytes .kept .0) in (λ h. begins (c .before .before .before .before .before .before .before .before .before .before .before .before .args .readable) (c .before .before .before .before .before .before .before .before .before .before .before .before .args .formula .now) (c .before .before .before .before .before .before .before .before .before .before .before .before .args .out .now) (c .before .before .before .before .before .before .put-bytes .last .0) (c .before .before .before .before .before .before .put-bytes .result) (c .before .before .opened .result) (c .before .before .opened .last .1 .1 .0) (omega (arith, c .before .before .before .before .before .before .put-bytes .ensures .0)) n (wrote (c .before .before .before .before .before .before .before .before .before .before .before .before .args .out .now) 0 header (c .before .before .before .before .before .before .put-bytes .last .0) (c .before .before .before .before .before .before .put-bytes .result) (c .before .before .before .before .before .before .put-bytes .ensures)) (c .before .before .opened .ensures .0), n)
+returns-2 c =
+    let a = c .before .before .before .before .before .before .before .before .before .before .before .before .args in
+    let w = c .before .before .before .before .before .before .put-bytes in
+    let o = c .before .before .opened in
+    let at-if1 = c .before .before .before .before .before .before .before .before .before .if1 in
+    let s = o .ensures .1 .0 in starting (a .readable) (a .formula .now) (a .out .now) (w .last .0) (w .result) (o .result) (o .last .1 .1 .0)
+    (omega (arith, at-if1 .left)) (omega (arith, w .ensures .0, at-if1 .left)) (omega (arith, w .kept .0)) (wrote (a .out .now) 0 header (w .last .0) (w .result) (w .ensures)) (o .ensures .0)
+    (o .ensures .1 .1)
 
 pub start-spec : {M : Type 1} → statement M
 start-spec =
