@@ -1,5 +1,5 @@
 -- No operation asks for what three cells can't hold, so no state that a run or a resume makes has such a question pending.
-use mathlib.Core.Path.{_≡_, sym}
+use mathlib.Core.Path.{_≡_, refl}
 use mathlib.Core.Bool.{Bool, true, false, cond, not, _||_, true≢false}
 use mathlib.Core.List.{List, [], _∷_}
 use mathlib.Core.Option.{Option, none, some}
@@ -16,7 +16,7 @@ use Rattle.machine.specs.Program.{Instruction, Op, Program, constant, copy, ins
 use Rattle.machine.specs.Machine.{Effect, Reply, State, checked, effect, fails, followed, fresh, goes, more, next, out-of-budget, read-all, refuse, stale, steps, stored, unfit, wants, worked}
 use Rattle.layout.specs.Decode.{program-at}
 use Rattle.run.specs.Calls.{resume-at, run-at}
-use Rattle.vebrostin.specs.Cells.{Askable}
+use Rattle.vebrostin.specs.Cells.{Askable, question-of}
 use Rattle.vebrostin.specs.Calls.{is-refused}
 
 -- ---- one operation
@@ -124,22 +124,23 @@ module _ (F : Format) (inputs : List Float) (P : Program) where
 
   -- ---- one call
 
+  -- what pends after a call is the question that it put, and the cells can hold it
   abbrev Left : Reply → Type 0
-  Left r = Askable (r .state .pending)
+  Left r = Askable (r .state .pending) × (r .state .pending ≡ question-of (r .answer))
 
   paused : (at : ℕ) (kept regs : List Float) (i : Option Instruction) → Left (out-of-budget F inputs P at kept regs i)
-  paused at kept regs none = tt
-  paused at kept regs (some i) = tt
+  paused at kept regs none = (tt, refl)
+  paused at kept regs (some i) = (tt, refl)
 
   goes-on : (rest : ℕ → List Float → Reply) → ((to : ℕ) (regs : List Float) → Left (rest to regs)) → (at : ℕ) (kept regs : List Float) (e : Effect) → Puts e
       → Left (followed F inputs P rest at kept regs e)
   goes-on rest h at kept regs (goes to regs′) a = h to regs′
-  goes-on rest h at kept regs (fails p) a = tt
-  goes-on rest h at kept regs (wants q) a = a
+  goes-on rest h at kept regs (fails p) a = (tt, refl)
+  goes-on rest h at kept regs (wants q) a = (a, refl)
 
   then : (rest : ℕ → List Float → Reply) → ((to : ℕ) (regs : List Float) → Left (rest to regs)) → (at : ℕ) (kept regs : List Float) (i : Option Instruction)
       → Left (next F inputs P rest at kept regs i)
-  then rest h at kept regs none = tt
+  then rest h at kept regs none = (tt, refl)
   then rest h at kept regs (some (instruction o d p)) = goes-on rest h at kept regs (effect F inputs P o d p at kept regs) (effect-puts o d p at kept regs)
 
   pub steps-asks : (budget at : ℕ) (kept regs : List Float) → Left (steps F inputs P budget at kept regs)
@@ -149,7 +150,7 @@ module _ (F : Format) (inputs : List Float) (P : Program) where
 
   -- a refusal, or what goes on
   refuses : (b : Bool) (n : ℕ) (regs : List Float) (r : Reply) → Left r → Left (cond b (refuse n fresh regs) r)
-  refuses true n regs r h = tt
+  refuses true n regs r h = (tt, refl)
   refuses false n regs r h = h
 
   abbrev Lasting : Reply → Type 0
@@ -159,7 +160,8 @@ module _ (F : Format) (inputs : List Float) (P : Program) where
   turns true n st regs r h e = absurd (true≢false e)
   turns false n st regs r h e = h e
 
-pub run-asks : (inputs : List Float) (b : List ℕ) (room budget : ℕ) (regs : List Float) → Askable (run-at inputs b room budget regs .state .pending)
+pub run-asks : (inputs : List Float) (b : List ℕ) (room budget : ℕ) (regs : List Float) → (let r = run-at inputs b room budget regs in
+    Askable (r .state .pending) × (r .state .pending ≡ question-of (r .answer)))
 unfolding run-at
 run-asks inputs b room budget regs =
     let P = program-at b in
@@ -169,7 +171,8 @@ run-asks inputs b room budget regs =
     (refuses binary64 inputs P (unfit binary64 inputs P regs budget) 5 regs s (steps-asks binary64 inputs P budget 0 [] regs)))
 
 pub resume-asks : (inputs : List Float) (b : List ℕ) (room budget : ℕ) (given : Option Float) (st : State) (regs : List Float)
-    → is-refused (resume-at inputs b room budget given st regs .answer) ≡ false → Askable (resume-at inputs b room budget given st regs .state .pending)
+    → (let r = resume-at inputs b room budget given st regs in
+    is-refused (r .answer) ≡ false → Askable (r .state .pending) × (r .state .pending ≡ question-of (r .answer)))
 unfolding resume-at
 resume-asks inputs b room budget given st regs =
     let P = program-at b in

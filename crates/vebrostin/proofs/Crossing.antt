@@ -5,17 +5,19 @@ use mathlib.Core.List.{List, [], _∷_, _++_, append-assoc}
 use mathlib.Core.Option.{Option, none, some}
 use Prim.Native.Nat.{ℕ, zero, suc, _+_, _-_, _≤_}
 use native.Mathlib.Omega.{arith}
-use lib.ListN.{length, getD, take, length-take}
+use lib.ListN.{length, getD, take, drop, length-take}
+use lib.Seq.{drop-at, getD-append-add}
 use lib.Dec.{T}
 use lib.Ieee.{Float, binary64, fits}
 use lib.Ieee.Bits.{ofBits-toBits}
 use borrow.Author.Tests.{lt-ltb, ne-eqb}
 use Rattle.meaning.specs.Work.{Question, elementary, power}
-use Rattle.machine.specs.Machine.{State}
+use Rattle.machine.specs.Machine.{Reply, State}
 use Rattle.work.specs.View.{places}
 use Rattle.run.specs.declared.State as Declared
 use Rattle.run.specs.Views.{pending-of, state-of}
-use Rattle.vebrostin.specs.Cells.{Arguments-back, Askable, Comes-back, padded, question-cells, question-in, state-cells, state-in}
+use Rattle.vebrostin.specs.Cells.{Arguments-back, Askable, Comes-back, padded, question-cells, question-in, state-cells, state-in, value-cell}
+use Rattle.vebrostin.specs.Calls.{written}
 
 -- every f64 is read again from its bits
 pub comes-back : (x : Float) → fits binary64 x ≡ true → Comes-back x
@@ -87,3 +89,46 @@ written-back s count v rest held a h =
     let few : length (take n (places (s .kept))) ≤ 9 = omega (arith, length-take n (places (s .kept))) in
     ap state-in (append-assoc (state-cells (state-of s)) (count ∷ v ∷ []) rest)
     ∙ state-back (state-of s) few (held-take n (places (s .kept)) held) a h ((count ∷ v ∷ []) ++ rest)
+
+-- ---- what a host reads from the cells of a reply
+
+padded-length : (n : ℕ) (ks : List Float) → length (padded n ks) ≡ n
+padded-length zero ks = refl
+padded-length (suc n) [] = ap suc (padded-length n [])
+padded-length (suc n) (k ∷ ks) = ap suc (padded-length n ks)
+
+fourth : (o : Option Question) (a b : ℕ) (rest : List ℕ) → (let l = question-cells o ++ (a ∷ b ∷ rest) in
+    (getD l 3 0 ≡ a) × (getD l 4 0 ≡ b) × (take 3 l ≡ question-cells o))
+fourth none a b rest = (refl, refl, refl)
+fourth (some (elementary f x)) a b rest = (refl, refl, refl)
+fourth (some (power x y)) a b rest = (refl, refl, refl)
+
+module _ (r : Reply) (cells : List ℕ) where
+  abbrev state-row : List ℕ
+  state-row = r .state .position ∷ length (r .state .kept) ∷ padded 9 (r .state .kept)
+
+  abbrev outcome-row : List ℕ
+  outcome-row = question-cells (r .state .pending) ++ (r .count ∷ value-cell (r .answer) ∷ drop 16 cells)
+
+  rows : written r cells ≡ state-row ++ outcome-row
+  rows = simp append-assoc
+
+  eleven : length state-row ≡ 11
+  eleven = ap (λ (k : ℕ). suc (suc k)) (padded-length 9 (r .state .kept))
+
+  at-outcome : (i : ℕ) → getD (written r cells) (11 + i) 0 ≡ getD outcome-row i 0
+  at-outcome i =
+      ap (λ (l : List ℕ). getD l (11 + i) 0) rows
+      ∙ subst (λ (k : ℕ). getD (state-row ++ outcome-row) (k + i) 0 ≡ getD outcome-row i 0) eleven (getD-append-add state-row outcome-row i 0)
+
+  pub written-count : getD (written r cells) 14 0 ≡ r .count
+  written-count = at-outcome 3 ∙ fourth (r .state .pending) (r .count) (value-cell (r .answer)) (drop 16 cells) .0
+
+  pub written-value : getD (written r cells) 15 0 ≡ value-cell (r .answer)
+  written-value = at-outcome 4 ∙ fourth (r .state .pending) (r .count) (value-cell (r .answer)) (drop 16 cells) .1
+
+  pub written-question : take 3 (drop 11 (written r cells)) ≡ question-cells (r .state .pending)
+  written-question =
+      ap (λ (l : List ℕ). take 3 (drop 11 l)) rows
+      ∙ ap (take 3) (drop-at state-row outcome-row 11 eleven)
+      ∙ fourth (r .state .pending) (r .count) (value-cell (r .answer)) (drop 16 cells) .2

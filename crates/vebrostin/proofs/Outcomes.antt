@@ -103,7 +103,7 @@ module _ (inputs : List Float) (b : List ℕ) (budget : ℕ) (regs : List Float)
       (ap (λ (x : List ℕ). told (reply-of b r regs′) x path) (shown b r regs′ cells cells′ hc)
       ∙ ap (λ (x : Machine.Reply). told x (written x cells) path) hr ∙ roomy cells regs path _ h)
       (leaves b r regs′ path cells′ path′ n hn hp),
-      λ l. hs (subst (λ (x : Machine.Reply). Askable (x .state .pending)) (sym hr) (run-asks inputs b (length path) budget regs)) ∙ ap (λ (x : Machine.Reply). x .state) hr,
+      λ l. hs (subst (λ (x : Machine.Reply). Askable (x .state .pending)) (sym hr) (run-asks inputs b (length path) budget regs .0)) ∙ ap (λ (x : Machine.Reply). x .state) hr,
     )
 
 -- ---- resume
@@ -149,7 +149,7 @@ module _ (inputs : List Float) (b : List ℕ) (budget : ℕ) (given : Option Flo
         → Leaves (resume-outcome inputs b budget given regs cells path) n cells′ regs′ path′ × Carries cells′ answered
     resume-goes-on t hc ha =
         let f : is-refused (answer-of b (r .answer)) ≡ false = sym (same-refusal b (r .answer)) ∙ t in
-        let a : Askable (answered .state .pending) = resume-asks inputs b (length path) budget given (state-in cells) regs (ap (λ (x : Machine.Reply). is-refused (x .answer)) (sym is-answered) ∙ f) in (
+        let a : Askable (answered .state .pending) = resume-asks inputs b (length path) budget given (state-in cells) regs (ap (λ (x : Machine.Reply). is-refused (x .answer)) (sym is-answered) ∙ f) .0 in (
           resume-leaves (shown b r regs′ cells cells′ hc ∙ rw f),
           λ l. ha (subst (λ (x : Machine.Reply). Askable (x .state .pending)) (sym is-answered) a) ∙ ap (λ (x : Machine.Reply). x .state) is-answered,
         )

@@ -68,6 +68,14 @@ Arguments-back (some (power x y)) = Comes-back x × Comes-back y
 abbrev pub state-cells : State → List ℕ
 state-cells s = s .position ∷ length (s .kept) ∷ padded 9 (s .kept) ++ question-cells (s .pending)
 
+-- the question that an answer puts
+abbrev pub question-of : Answer → Option Question
+question-of (gives v) = none
+question-of (asks q) = some q
+question-of spent = none
+question-of (outside p) = none
+question-of (refused n) = none
+
 -- the value's bits, 0 where there is none
 abbrev pub value-cell : Answer → ℕ
 value-cell (gives v) = bits v
