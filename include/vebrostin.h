@@ -1,7 +1,8 @@
 /* Vebrostin: formulas compiled, differentiated and run. Link with target/staticlib/libvebrostin.a (x86-64 Linux).
  *
  * Only numbers and slices cross. A slice is a pointer and a count of elements; a slice of no elements still needs a pointer that
- * is not null. Slices that are written must not overlap any other. The library keeps nothing, allocates nothing and calls nothing.
+ * is not null. Slices that are written must not overlap any other. The library keeps nothing, allocates nothing and calls nothing of
+ * its host. Of the C library it takes `fmod` (the remainder in Modulo; link with -lm), `memcpy` and `memset`.
  *
  * docs/PROGRAM.md has the bytes of a program. A formula is nodes of 16 bytes, each followed by its children; the command
  * `vebrostin pack` makes one from text. A name line is `name:kind` joined by commas, with the kinds p (parameter), s (state),
@@ -72,8 +73,8 @@ enum {
     VEBROSTIN_QUESTION = 11,  /* 0 for none, else one more than the function's number below */
     VEBROSTIN_FIRST = 12,     /* its argument, or Power's base */
     VEBROSTIN_SECOND = 13,    /* Power's exponent */
-    VEBROSTIN_COUNT = 14,     /* instructions that the last call completed */
-    VEBROSTIN_VALUE = 15      /* the value where the last call answered 0, else 0 */
+    VEBROSTIN_COUNT = 14,     /* instructions completed by the last call that wrote the state */
+    VEBROSTIN_VALUE = 15      /* the value where that call answered 0, else 0 */
 };
 
 /* Functions that a run asks its host for. */
@@ -106,17 +107,19 @@ size_t vebrostin_registers(const uint8_t *program, size_t program_length);
 size_t vebrostin_inputs(const uint8_t *program, size_t program_length);
 
 /* Begins a run and completes at most `budget` instructions. 0 with a value, 100, 101, or 1, 5, 9, 10. Inputs stand in the order of
- * the names. The state's numbers are written; what they held doesn't matter. */
+ * the names. The state's numbers are written, unless there are fewer than sixteen; what they held doesn't matter. Where the run is
+ * refused they are those of a fresh state. */
 size_t vebrostin_run(const uint8_t *program, size_t program_length, const double *inputs, size_t inputs_length,
                      double *registers, size_t registers_length, uint8_t *path, size_t path_length, size_t budget,
                      uint64_t *state, size_t state_length);
 
-/* Goes on with the same program, inputs, registers and state. A question that pends is put again. 11 leaves all as it was. */
+/* Goes on with the same program, inputs, registers and state. A question that pends is put again. 1, 10 and 11 leave all as it was, 5
+ * all but the path slice: no number of the state is written, the count and the value neither. */
 size_t vebrostin_resume(const uint8_t *program, size_t program_length, const double *inputs, size_t inputs_length,
                         double *registers, size_t registers_length, uint8_t *path, size_t path_length, size_t budget,
                         uint64_t *state, size_t state_length);
 
-/* Goes on with the value for the question that pends. */
+/* Goes on with the value for the question that pends; otherwise as vebrostin_resume. */
 size_t vebrostin_answer(const uint8_t *program, size_t program_length, const double *inputs, size_t inputs_length,
                         double *registers, size_t registers_length, uint8_t *path, size_t path_length, size_t budget,
                         uint64_t *state, size_t state_length, double value);

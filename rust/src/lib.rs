@@ -129,11 +129,12 @@ pub struct Run<'a> {
     registers: Vec<f64>,
     path: [u8; PATH],
     state: [u64; STATE],
+    completed: u64,
 }
 
 impl<'a> Run<'a> {
     pub fn new(program: &'a Program) -> Self {
-        Self { program, registers: vec![0.0; program.registers()], path: [0; PATH], state: [0; STATE] }
+        Self { program, registers: vec![0.0; program.registers()], path: [0; PATH], state: [0; STATE], completed: 0 }
     }
 
     /// A whole run from the first instruction; `host` answers the questions.
@@ -164,9 +165,9 @@ impl<'a> Run<'a> {
         self.go_on(inputs, budget, Some(value))
     }
 
-    /// Instructions that the last call completed.
+    /// Instructions that the last call completed: none where it was refused with 1, 5, 10 or 11.
     pub fn completed(&self) -> u64 {
-        self.state[COUNT]
+        self.completed
     }
 
     fn go_on(&mut self, inputs: &[f64], budget: usize, value: Option<f64>) -> Result<Answer, Error> {
@@ -175,7 +176,9 @@ impl<'a> Run<'a> {
         self.told(number)
     }
 
-    fn told(&self, number: usize) -> Result<Answer, Error> {
+    /// A refused call leaves the state's numbers, the count of the call before it too.
+    fn told(&mut self, number: usize) -> Result<Answer, Error> {
+        self.completed = if matches!(number, 1 | 5 | 10 | 11) { 0 } else { self.state[COUNT] };
         match number {
             0 => Ok(Answer::Value(f64::from_bits(self.state[VALUE]))),
             ASK => Ok(Answer::Ask(self.question())),

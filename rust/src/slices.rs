@@ -20,9 +20,9 @@ pub const KEPT: usize = 2;
 pub const QUESTION: usize = 11;
 pub const FIRST: usize = 12;
 pub const SECOND: usize = 13;
-/// Instructions that the last call completed.
+/// Instructions completed by the last call that was not refused: a refused `resume` leaves all numbers as they were.
 pub const COUNT: usize = 14;
-/// The value's bits where the last call's answer was 0.
+/// The value's bits where that call's answer was 0.
 pub const VALUE: usize = 15;
 
 /// Bytes that a program slice needs for a formula of so many bytes.
@@ -87,7 +87,7 @@ pub fn run(program: &[u8], inputs: &[f64], registers: &mut [f64], path: &mut [u8
     }
 }
 
-/// Goes on with a run, with a value for the question that pends or without.
+/// Goes on with a run, with a value for the question that pends or without. Refused with 1, 5, 10 or 11 it leaves state and registers.
 pub fn resume(
     program: &[u8], inputs: &[f64], registers: &mut [f64], path: &mut [u8], budget: usize, state: &mut [u64], value: Option<f64>,
 ) -> usize {

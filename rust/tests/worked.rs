@@ -86,6 +86,7 @@ fn budgets() {
     assert_eq!(run.resume(&[0.0], 5), Ok(Answer::Value(2.0)));
     assert_eq!(run.completed(), 2);
     assert_eq!(run.resume(&[0.0], 5).unwrap_err().refusal, Refusal::State);
+    assert_eq!(run.completed(), 0);
     assert_eq!(run.start(&[0.0], 0).unwrap_err().refusal, Refusal::InvalidInput);
 }
 

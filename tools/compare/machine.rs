@@ -70,14 +70,14 @@ impl State {
 }
 
 impl Reply<'_> {
-    /// The sixteen numbers after the call; a refused resume leaves the state's own as they are.
+    /// The sixteen numbers after the call; a refused resume leaves them as they are.
     pub fn to_cells(&self, before: &[u64], run: bool) -> [u64; STATE] {
         let mut cells: [u64; STATE] = before[..STATE].try_into().expect("a state has sixteen numbers");
         if run || !matches!(self.number, 1 | 5 | 10 | 11) {
             self.state.to_cells(&mut cells);
+            cells[COUNT] = self.count;
+            cells[VALUE] = self.value;
         }
-        cells[COUNT] = self.count;
-        cells[VALUE] = self.value;
         cells
     }
 }

@@ -1,5 +1,5 @@
 //! Compares the library with the Rust reference on random and damaged formulas: compare SEED COUNT [LEGS], or
-//! compare SEED COUNT record FOLDER, which also writes a sample of the answers to FOLDER/stdin.
+//! compare SEED COUNT record FOLDER, which also writes a sample of the answers to FOLDER/library_cases and FOLDER/demand_cases.
 //!
 //! For each formula: compile and derive (refusal, path, every instruction, the tree's bytes, what each slice holds after), runs
 //! of both programs (values, questions, Domains, counts, registers), cut by budgets, with refused calls and forged states. With

@@ -1,12 +1,16 @@
-//! Records cases for the gate: crates/library_cases replays them without any Rust. Its first lines say what a record holds.
+//! Records cases for the gate, without any Rust there: crates/library_cases replays each call on the state that it was made with,
+//! crates/demand_cases whole lists of calls. Their first lines say what a record holds.
 use crate::formulas::Case;
+use vebrostin::slices::PATH;
 
-/// A call as it was made and answered: 38 numbers, the path's text, the registers before and after.
+/// A call as it was made and answered: 38 numbers, the path's text, the registers before and after; whether it went on from what the
+/// last such call left.
 pub struct Call {
     pub numbers: Vec<u64>,
     pub text: String,
     pub before: Vec<u64>,
     pub after: Vec<u64>,
+    pub listed: bool,
 }
 
 /// What compile or derive answered and left. A symbol above 32 bits stands for compile.
@@ -44,11 +48,19 @@ impl Default for Made<'_> {
 
 /// The records so far, and how many of each answer.
 pub struct Recorder {
-    file: String,
+    folder: String,
     bytes: Vec<u8>,
+    lists: Vec<u8>,
+    listed: usize,
     answers: std::collections::BTreeMap<(bool, usize, bool), usize>,
     pub cases: usize,
     pub calls: usize,
+}
+
+fn extend(bytes: &mut Vec<u8>, numbers: impl IntoIterator<Item = u64>) {
+    for number in numbers {
+        bytes.extend(number.to_le_bytes());
+    }
 }
 
 /// Cases of one answer at most: more where calls follow.
@@ -56,14 +68,12 @@ const REFUSED: usize = 12;
 const ANSWERED: usize = 45;
 
 impl Recorder {
-    pub fn new(file: String) -> Self {
-        Self { file, bytes: Vec::new(), answers: Default::default(), cases: 0, calls: 0 }
+    pub fn new(folder: String) -> Self {
+        Self { folder, bytes: Vec::new(), lists: Vec::new(), listed: 0, answers: Default::default(), cases: 0, calls: 0 }
     }
 
     fn numbers(&mut self, numbers: impl IntoIterator<Item = u64>) {
-        for number in numbers {
-            self.bytes.extend(number.to_le_bytes());
-        }
+        extend(&mut self.bytes, numbers);
     }
 
     /// Takes a case that is small and of an answer that is still wanted.
@@ -98,10 +108,42 @@ impl Recorder {
             self.bytes.extend(call.text.bytes());
             self.numbers(call.before.iter().chain(&call.after).copied());
         }
+        self.add_list(case, made);
+    }
+
+    /// The same case as a list of calls, each on what the one before it left.
+    fn add_list(&mut self, case: &Case, made: &Made) {
+        let calls: Vec<&Call> = made.calls.iter().filter(|call| call.listed).collect();
+        let registers = calls.first().map_or(0, |call| call.before.first().copied().unwrap_or(0));
+        let path = if made.answer == 0 { PATH + 8 } else { made.lengths[0] };
+        let sizes = [case.formula.len(), case.names.len(), made.symbol as usize, path, made.lengths[1], made.lengths[2], made.answer, made.text.len()];
+        extend(&mut self.lists, sizes.map(|n| n as u64));
+        extend(&mut self.lists, [made.inputs.len() as u64, made.registers as u64, registers, calls.len() as u64]);
+        for part in [case.formula.as_slice(), &case.names, made.text.as_bytes()] {
+            self.lists.extend(part);
+        }
+        extend(&mut self.lists, made.inputs.iter().map(|x| x.to_bits()));
+        extend(&mut self.lists, calls.iter().map(|call| call.numbers[1]));
+        extend(&mut self.lists, calls.iter().map(|call| call.numbers[2]));
+        self.lists.extend(calls.iter().map(|call| u8::from(call.numbers[0] == 2)));
+        extend(&mut self.lists, calls.iter().map(|call| call.numbers[3]));
+        let mut text = "";
+        for call in &calls {
+            text = if call.text.is_empty() { text } else { &call.text };
+            extend(&mut self.lists, call.numbers[20..37].iter().copied().chain([text.len() as u64]));
+            self.lists.extend(text.bytes());
+            extend(&mut self.lists, call.after.iter().copied());
+        }
+        self.listed += calls.len();
+    }
+
+    fn write_to(&self, name: &str, bytes: &[u8], calls: usize) -> std::io::Result<()> {
+        std::fs::write(format!("{}/{name}/stdin", self.folder), bytes)?;
+        std::fs::write(format!("{}/{name}/stdout", self.folder), format!("{} cases, {calls} calls\nok\n", self.cases))
     }
 
     pub fn write(&self) -> std::io::Result<()> {
-        std::fs::write(format!("{}/stdin", self.file), &self.bytes)?;
-        std::fs::write(format!("{}/stdout", self.file), format!("{} cases, {} calls\nok\n", self.cases, self.calls))
+        self.write_to("library_cases", &self.bytes, self.calls)?;
+        self.write_to("demand_cases", &self.lists, self.listed)
     }
 }

@@ -117,7 +117,7 @@ impl Player<'_> {
         let text = expected.place.unwrap_or_default().to_string();
         numbers.push(text.len() as u64);
         let after = self.registers.iter().map(|x| bits(*x)).collect();
-        self.calls.push(Call { numbers, text, before, after });
+        self.calls.push(Call { numbers, text, before, after, listed: true });
         let registers_differ = self.registers.iter().zip(&registers).any(|(a, b)| bits(*a) != bits(*b));
         if number != expected.number || self.cells != cells || registers_differ || !crate::is_path(&self.path[..room], expected.place) {
             let place = slices::text(&self.path[..room]);
@@ -141,8 +141,18 @@ impl Player<'_> {
             1 => self.call(false, PATH, 0, None).map(drop),
             2 if pending => self.call(false, PATH + 8, 7, None).map(drop),
             2 => self.call(false, PATH, 7, Some(1.0)).map(drop),
-            _ => self.call(true, PATH, 0, None).map(drop),
+            _ => self.aside(self.cells, |player| player.call(true, PATH, 0, None)),
         }
+    }
+
+    /// A call from other cells, after which the list goes on as if it had not been made.
+    fn aside(&mut self, cells: [u64; STATE], call: impl FnOnce(&mut Self) -> Result<usize, String>) -> Result<(), String> {
+        let (own, registers) = (self.cells, self.registers.clone());
+        self.cells = cells;
+        call(self)?;
+        (self.cells, self.registers) = (own, registers);
+        self.calls.last_mut().expect("a call was made").listed = false;
+        Ok(())
     }
 }
 
@@ -194,7 +204,7 @@ fn compare_damaged(bytes: &[u8], random: &mut Random, tally: &mut Tally) -> Resu
         return Err(format!("a run of what is no program is not refused with 10: {bytes:x?}"));
     }
     let untouched = registers == [7.25; 4] && path.iter().all(|byte| *byte == FILL);
-    if here || (untouched && cells[..COUNT] == [1; COUNT]) { Ok(()) } else { Err("10 changed something".into()) }
+    if here || (untouched && cells == [1; STATE]) { Ok(()) } else { Err("10 changed something".into()) }
 }
 
 /// What a run was given, and the calls that were made.
@@ -246,16 +256,15 @@ fn play(player: &mut Player, whole: &Whole, loose: bool, random: &mut Random, ta
     let mut completed = player.cells[COUNT];
     loop {
         if rough && number > 11 && random.chance(0.3) {
-            let (cells, registers) = (player.cells, player.registers.clone());
             if random.chance(0.5) {
                 player.disturb(random, number == ASK)?;
             } else {
-                player.cells = forged(random, &cells, code);
+                let cells = forged(random, &player.cells, code);
                 let given = random.chance(0.4).then(|| f64::from_bits(formulas::value(random, 0.1)));
-                player.call(false, PATH, 1 + random.below(4), given)?;
+                let budget = 1 + random.below(4);
+                player.aside(cells, |player| player.call(false, PATH, budget, given))?;
                 tally.forged += 1;
             }
-            (player.cells, player.registers) = (cells, registers);
         }
         number = match number {
             0 => return Ok((End::Value(f64::from_bits(player.cells[VALUE])), completed)),

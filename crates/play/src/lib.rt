@@ -8,7 +8,7 @@ ghost use Rattle.play.specs.Owed.{Demand};
 use run::Reply;
 use run::Supplied;
 
-fn budget_at(budgets: &[usize], i: usize) -> usize
+pub fn budget_at(budgets: &[usize], i: usize) -> usize
     ensures { λ r. ⌜ r ≡ getD (now (budgets .entry)) i 0 ⌝ }
 {
     if i < budgets.len() {
@@ -18,7 +18,7 @@ fn budget_at(budgets: &[usize], i: usize) -> usize
 }
 
 // The value that the call i supplies, where its flag is not zero.
-fn supplied_at(flags: &[u8], values: &[f64], i: usize) -> Supplied
+pub fn supplied_at(flags: &[u8], values: &[f64], i: usize) -> Supplied
     ensures { λ r. ⌜ supplied-of r ≡ value-at (now (flags .entry)) (now (values .entry)) i ⌝ }
 {
     let flag = reader::byte(flags, i);
@@ -29,7 +29,7 @@ fn supplied_at(flags: &[u8], values: &[f64], i: usize) -> Supplied
 }
 
 // How many bytes of the path slice the call i is lent: all of them at most.
-fn room_at(rooms: &[usize], n: usize, i: usize) -> usize
+pub fn room_at(rooms: &[usize], n: usize, i: usize) -> usize
     ensures { λ r. ⌜ (r ≡ room-at n (now (rooms .entry)) i) × (r ≤ n) ⌝ }
 {
     if i < rooms.len() {

@@ -1,2 +1,4 @@
 pub mod Written
+pub mod Asking
+pub mod Crossing
 pub mod Outcomes

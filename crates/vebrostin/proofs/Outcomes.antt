@@ -1,23 +1,26 @@
 -- What a call leaves, from what run and resume promise.
 use mathlib.Core.Path.{_≡_, refl, sym, ap, _∙_, subst}
-use mathlib.Core.Bool.{Bool, true, false, cond}
+use mathlib.Core.Bool.{Bool, true, false, cond, true≢false}
 use mathlib.Core.List.{List, [], _∷_, _++_}
 use mathlib.Core.Option.{Option}
 use Prim.Native.Nat.{ℕ, _<_, _≤_}
-use lib.ListN.{length, take, drop}
-use lib.Dec.{ltb}
+use native.Mathlib.Omega.{arith}
+use lib.ListN.{length, drop}
 use lib.Ieee.{Float}
 use borrow.Author.Tests.{le-ltb, lt-ltb}
+use Rattle.refusals.specs.Numbers.{slice-too-short}
 use Rattle.formula.specs.Path.{placed}
 use Rattle.machine.specs.Machine.{place-of}
 use Rattle.machine.specs.Machine as Machine
 use Rattle.run.specs.declared.Answer.{Answer}
 use Rattle.run.specs.declared.Answer.the-variants as Answer
 use Rattle.run.specs.declared.Reply.{Reply}
-use Rattle.run.specs.Views.{answer-of, reply-of, state-of}
+use Rattle.run.specs.declared.State.{State}
+use Rattle.run.specs.Views.{Hands-back, answer-of, pending-of, reply-of, state-of}
 use Rattle.run.specs.Calls.{resume-at, run-at}
-use Rattle.vebrostin.specs.Cells.{number-of, state-cells, state-in, value-cell}
-use Rattle.vebrostin.specs.Calls.{Leaves, Outcome, after, followed, is-refused, resume-outcome, run-outcome, told, with-room}
+use Rattle.vebrostin.specs.Cells.{Askable, number-of, state-cells, state-in, value-cell}
+use Rattle.vebrostin.specs.Calls.{Carries, Leaves, Outcome, after, is-refused, resume-outcome, run-outcome, told, with-room, written}
+use Rattle.vebrostin.proofs.Asking.{resume-asks, run-asks}
 
 -- ---- the numbers of an answer don't go by the program
 
@@ -45,77 +48,108 @@ same-refusal b Answer.Spent = refl
 same-refusal b (Answer.Domain k) = refl
 same-refusal b (Answer.Refused n) = refl
 
+-- a refused resume hands back the very state
+handed : (r : Reply) (a : Answer) (st : State) → r .answer ≡ a → is-refused (answer-of [] a) ≡ true → Hands-back st r → r .state ≡ st
+handed r (Answer.Value v) st e t h = absurd (true≢false (sym t))
+handed r (Answer.Elementary f x) st e t h = absurd (true≢false (sym t))
+handed r (Answer.Power x y) st e t h = absurd (true≢false (sym t))
+handed r Answer.Spent st e t h = absurd (true≢false (sym t))
+handed r (Answer.Domain k) st e t h = absurd (true≢false (sym t))
+handed r (Answer.Refused n) st e t h = h n e
+
 -- ---- one reply
 
-module _ (b : List ℕ) (r : Reply) (regs′ : List Float) (cells path s cells′ path′ : List ℕ) (n : ℕ)
+module _ (b : List ℕ) (r : Reply) (regs′ : List Float) (path cells′ path′ : List ℕ) (n : ℕ)
     (hn : n ≡ number-of (answer-of [] (r .answer)))
-    (hc : cells′ ≡ (s ++ (r .count ∷ value-cell (answer-of [] (r .answer)) ∷ [])) ++ drop 16 cells)
     (hp : path′ ≡ placed (place-of (answer-of b (r .answer))) path) where
-  leaves : Leaves (followed (told (reply-of b r regs′) s path) cells) n cells′ regs′ path′
-  leaves =
-      (hn ∙ same-number b (r .answer), hc ∙ ap (λ (v : ℕ). (s ++ (r .count ∷ v ∷ [])) ++ drop 16 cells) (same-value b (r .answer)), refl, hp)
+  leaves : Leaves (told (reply-of b r regs′) cells′ path) n cells′ regs′ path′
+  leaves = (hn ∙ same-number b (r .answer), refl, refl, hp)
+
+-- the sixteen cells are those of the machine's reply
+shown : (b : List ℕ) (r : Reply) (regs′ : List Float) (cells cells′ : List ℕ)
+    → cells′ ≡ (state-cells (state-of (r .state)) ++ (r .count ∷ value-cell (answer-of [] (r .answer)) ∷ [])) ++ drop 16 cells
+    → cells′ ≡ written (reply-of b r regs′) cells
+shown b r regs′ cells cells′ h =
+    h ∙ ap (λ (v : ℕ). (state-cells (state-of (r .state)) ++ (r .count ∷ v ∷ [])) ++ drop 16 cells) (same-value b (r .answer))
 
 roomy : (cells : List ℕ) (regs : List Float) (path : List ℕ) (o : Outcome) → 16 ≤ length cells → o ≡ with-room cells regs path o
 roomy cells regs path o h = rw (le-ltb (length cells) 16 h)
 
 short : (cells : List ℕ) (regs : List Float) (path : List ℕ) (o : Outcome) → length cells < 16
-    → Leaves (with-room cells regs path o) 1 cells regs path
+    → Leaves (with-room cells regs path o) slice-too-short cells regs path
 short cells regs path o h =
-    subst (λ (x : Bool). Leaves (cond x (record { number = 1; cells = cells; registers = regs; path = path }) o) 1 cells regs path) (sym (lt-ltb (length cells) 16 h))
-    (refl, refl, refl, refl)
+    subst (λ (x : Bool). Leaves (cond x (record { number = slice-too-short; cells = cells; registers = regs; path = path }) o) slice-too-short cells regs path)
+    (sym (lt-ltb (length cells) 16 h)) (refl, refl, refl, refl)
 
 -- ---- run
 
 module _ (inputs : List Float) (b : List ℕ) (budget : ℕ) (regs : List Float) (cells path : List ℕ) where
-  pub run-short : length cells < 16 → Leaves (run-outcome inputs b budget regs cells path) 1 cells regs path
+  pub run-short : length cells < 16
+      → Leaves (run-outcome inputs b budget regs cells path) slice-too-short cells regs path × Carries cells (run-at inputs b (length path) budget regs)
   unfolding run-outcome
-  run-short h = short cells regs path _ h
+  run-short h = (short cells regs path _ h, λ l. absurd (omega arith))
 
   module _ (r : Reply) (regs′ : List Float) (cells′ path′ : List ℕ) (n : ℕ)
       (h : 16 ≤ length cells)
       (hr : reply-of b r regs′ ≡ run-at inputs b (length path) budget regs)
       (hp : path′ ≡ placed (place-of (answer-of b (r .answer))) path)
       (hc : cells′ ≡ (state-cells (state-of (r .state)) ++ (r .count ∷ value-cell (answer-of [] (r .answer)) ∷ [])) ++ drop 16 cells)
+      (hs : Askable (pending-of (r .state .pending)) → state-in cells′ ≡ state-of (r .state))
       (hn : n ≡ number-of (answer-of [] (r .answer))) where
-    pub run-leaves : Leaves (run-outcome inputs b budget regs cells path) n cells′ regs′ path′
+    pub run-leaves : Leaves (run-outcome inputs b budget regs cells path) n cells′ regs′ path′ × Carries cells′ (run-at inputs b (length path) budget regs)
     unfolding run-outcome
-    run-leaves =
-        subst (λ (o : Outcome). Leaves o n cells′ regs′ path′)
-        (ap (λ (x : Machine.Reply). followed (told x (state-cells (x .state)) path) cells) hr ∙ roomy cells regs path _ h)
-        (leaves b r regs′ cells path (state-cells (state-of (r .state))) cells′ path′ n hn hc hp)
+    run-leaves = (
+      subst (λ (o : Outcome). Leaves o n cells′ regs′ path′)
+      (ap (λ (x : List ℕ). told (reply-of b r regs′) x path) (shown b r regs′ cells cells′ hc)
+      ∙ ap (λ (x : Machine.Reply). told x (written x cells) path) hr ∙ roomy cells regs path _ h)
+      (leaves b r regs′ path cells′ path′ n hn hp),
+      λ l. hs (subst (λ (x : Machine.Reply). Askable (x .state .pending)) (sym hr) (run-asks inputs b (length path) budget regs .0)) ∙ ap (λ (x : Machine.Reply). x .state) hr,
+    )
 
 -- ---- resume
 
 module _ (inputs : List Float) (b : List ℕ) (budget : ℕ) (given : Option Float) (regs : List Float) (cells path : List ℕ) where
-  pub resume-short : length cells < 16 → Leaves (resume-outcome inputs b budget given regs cells path) 1 cells regs path
+  abbrev answered : Machine.Reply
+  answered = resume-at inputs b (length path) budget given (state-in cells) regs
+
+  pub resume-short : length cells < 16
+      → Leaves (resume-outcome inputs b budget given regs cells path) slice-too-short cells regs path × Carries cells answered
   unfolding resume-outcome
-  resume-short h = short cells regs path _ h
+  resume-short h = (short cells regs path _ h, λ l. absurd (omega arith))
 
   module _ (r : Reply) (regs′ : List Float) (cells′ path′ : List ℕ) (n : ℕ)
       (h : 16 ≤ length cells)
-      (st : Machine.State)
-      (hs : st ≡ state-in cells)
-      (hr : reply-of b r regs′ ≡ resume-at inputs b (length path) budget given st regs)
+      (st : State)
+      (hs : state-of st ≡ state-in cells)
+      (hr : reply-of b r regs′ ≡ resume-at inputs b (length path) budget given (state-of st) regs)
       (hp : path′ ≡ placed (place-of (answer-of b (r .answer))) path)
       (hn : n ≡ number-of (answer-of [] (r .answer))) where
-    resume-leaves : (s : List ℕ) → s ≡ after (reply-of b r regs′) cells
-        → cells′ ≡ (s ++ (r .count ∷ value-cell (answer-of [] (r .answer)) ∷ [])) ++ drop 16 cells
-        → Leaves (resume-outcome inputs b budget given regs cells path) n cells′ regs′ path′
-    unfolding resume-outcome
-    resume-leaves s e hc =
-        subst (λ (o : Outcome). Leaves o n cells′ regs′ path′)
-        (ap (λ (x : List ℕ). followed (told (reply-of b r regs′) x path) cells) e
-        ∙ ap (λ (x : Machine.Reply). followed (told x (after x cells) path) cells)
-        (hr ∙ ap (λ (x : Machine.State). resume-at inputs b (length path) budget given x regs) hs)
-        ∙ roomy cells regs path _ h)
-        (leaves b r regs′ cells path s cells′ path′ n hn hc hp)
+    is-answered : reply-of b r regs′ ≡ answered
+    is-answered = hr ∙ ap (λ (x : Machine.State). resume-at inputs b (length path) budget given x regs) hs
 
-    pub resume-refused : is-refused (answer-of [] (r .answer)) ≡ true
-        → cells′ ≡ (take 14 cells ++ (r .count ∷ value-cell (answer-of [] (r .answer)) ∷ [])) ++ drop 16 cells
-        → Leaves (resume-outcome inputs b budget given regs cells path) n cells′ regs′ path′
-    resume-refused t hc = resume-leaves (take 14 cells) (rw (sym (same-refusal b (r .answer)), t)) hc
+    resume-leaves : cells′ ≡ after (reply-of b r regs′) cells → Leaves (resume-outcome inputs b budget given regs cells path) n cells′ regs′ path′
+    unfolding resume-outcome
+    resume-leaves e =
+        subst (λ (o : Outcome). Leaves o n cells′ regs′ path′)
+        (ap (λ (x : List ℕ). told (reply-of b r regs′) x path) e
+        ∙ ap (λ (x : Machine.Reply). told x (after x cells) path) is-answered
+        ∙ roomy cells regs path _ h)
+        (leaves b r regs′ path cells′ path′ n hn hp)
+
+    pub resume-refused : is-refused (answer-of [] (r .answer)) ≡ true → Hands-back st r → cells′ ≡ cells
+        → Leaves (resume-outcome inputs b budget given regs cells path) n cells′ regs′ path′ × Carries cells′ answered
+    resume-refused t hb hc = (
+      resume-leaves (hc ∙ rw (sym (same-refusal b (r .answer)), t)),
+      λ l. ap state-in hc ∙ sym hs ∙ ap state-of (sym (handed r (r .answer) st refl t hb)) ∙ ap (λ (x : Machine.Reply). x .state) is-answered,
+    )
 
     pub resume-goes-on : is-refused (answer-of [] (r .answer)) ≡ false
         → cells′ ≡ (state-cells (state-of (r .state)) ++ (r .count ∷ value-cell (answer-of [] (r .answer)) ∷ [])) ++ drop 16 cells
-        → Leaves (resume-outcome inputs b budget given regs cells path) n cells′ regs′ path′
-    resume-goes-on t hc = resume-leaves (state-cells (state-of (r .state))) (rw (sym (same-refusal b (r .answer)), t)) hc
+        → (Askable (pending-of (r .state .pending)) → state-in cells′ ≡ state-of (r .state))
+        → Leaves (resume-outcome inputs b budget given regs cells path) n cells′ regs′ path′ × Carries cells′ answered
+    resume-goes-on t hc ha =
+        let f : is-refused (answer-of b (r .answer)) ≡ false = sym (same-refusal b (r .answer)) ∙ t in
+        let a : Askable (answered .state .pending) = resume-asks inputs b (length path) budget given (state-in cells) regs (ap (λ (x : Machine.Reply). is-refused (x .answer)) (sym is-answered) ∙ f) .0 in (
+          resume-leaves (shown b r regs′ cells cells′ hc ∙ rw f),
+          λ l. ha (subst (λ (x : Machine.Reply). Askable (x .state .pending)) (sym is-answered) a) ∙ ap (λ (x : Machine.Reply). x .state) is-answered,
+        )

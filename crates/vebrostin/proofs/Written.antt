@@ -1,15 +1,13 @@
 -- The cells that the code writes are those of the state, and those that it reads are the state.
-use mathlib.Core.Path.{_≡_, refl, sym, ap, _∙_}
+use mathlib.Core.Path.{_≡_, refl, sym}
 use mathlib.Core.Bool.{Bool, true, false, cond}
-use mathlib.Core.List.{List, [], _∷_, _++_, append-assoc, append-nil}
+use mathlib.Core.List.{List, [], _∷_, _++_}
 use mathlib.Core.Option.{Option, none, some}
 use Prim.Native.Nat.{ℕ, zero, suc, _+_, _-_, _<_, _≤_, min}
 use native.Mathlib.Omega.{arith}
-use lib.ListN.{length, getD, take, drop, drop-of-length-le, length-drop, length-take}
-use lib.Seq.{drop-drop, take-all}
+use lib.ListN.{length, take, length-take}
 use lib.Dec.{eqb, ltb}
 use lib.Ieee.{Float, binary64, ofBits, toBits}
-use borrow.Rule.Slice.PartMut.{midOf, postOf, putMid}
 use borrow.Author.Tests.{eq-eqb, le-ltb, lt-ltb, ne-eqb}
 use Rattle.meaning.specs.Work.{Question, elementary, power}
 use Rattle.work.specs.declared.Kept.{Kept}
@@ -53,23 +51,6 @@ module _ (k : Kept) (q : Option Question) (at count v kc k0 k1 k2 k3 k4 k5 k6 k7
       ≡ (at ∷ length (kept-values k) ∷ padded 9 (kept-values k) ++ question-cells q) ++ (count ∷ v ∷ [])
   reply-cells c e0 e1 e2 e3 e4 e5 e6 e7 e8 e =
       rw (sym e, kept-shown (k .count) k, length-take (k .count) (places k), c, e0, e1, e2, e3, e4, e5, e6, e7, e8)
-
--- the last two of sixteen cells, written through the part from the fourteenth on
-module _ (cells : List ℕ) (h : 16 ≤ length cells) where
-  mid : midOf 14 (length cells - 14) cells ≡ drop 14 cells
-  mid = let k : length (drop 14 cells) ≤ length cells - 14 = omega (arith, length-drop 14 cells) in take-all (length cells - 14) (drop 14 cells) k
-
-  post : postOf 14 (length cells - 14) cells ≡ []
-  post = let k : length (drop 14 cells) ≤ length cells - 14 = omega (arith, length-drop 14 cells) in drop-of-length-le (drop 14 cells) k
-
-  pub outcome-put : (y : List ℕ) (count v v′ : ℕ) → v ≡ v′ → y ≡ (count ∷ v ∷ []) ++ drop 2 (midOf 14 (length cells - 14) cells)
-      → putMid 14 (length cells - 14) cells y ≡ (take 14 cells ++ (count ∷ v′ ∷ [])) ++ drop 16 cells
-  outcome-put y count v v′ e w =
-      let z : y ≡ (count ∷ v′ ∷ []) ++ drop 16 cells =
-      w ∙ ap (λ (x : List ℕ). count ∷ v ∷ drop 2 x) mid ∙ ap (λ (x : List ℕ). count ∷ v ∷ x) (drop-drop 2 14 cells) ∙ ap (λ (x : ℕ). count ∷ x ∷ drop 16 cells) e in
-      ap (λ (x : List ℕ). take 14 cells ++ (y ++ x)) post
-      ∙ ap (λ (x : List ℕ). take 14 cells ++ x) (append-nil y ∙ z)
-      ∙ sym (append-assoc (take 14 cells) (count ∷ v′ ∷ []) (drop 16 cells))
 
 -- ---- read
 

@@ -3,10 +3,11 @@ use mathlib.Core.Path.{_≡_}
 use mathlib.Core.Bool.{Bool, true, false, cond}
 use mathlib.Core.List.{List, _++_}
 use mathlib.Core.Option.{Option}
-use Prim.Native.Nat.{ℕ}
-use lib.ListN.{length, take, drop}
+use Prim.Native.Nat.{ℕ, _≤_}
+use lib.ListN.{length, drop}
 use lib.Dec.{ltb}
 use lib.Ieee.{Float}
+use Rattle.refusals.specs.Numbers.{slice-too-short}
 use Rattle.formula.specs.Path.{placed}
 use Rattle.machine.specs.Machine.{Answer, Reply, place-of, refused, gives, asks, spent, outside}
 use Rattle.layout.specs.Image.{image}
@@ -55,14 +56,15 @@ abbrev pub told : Reply → List ℕ → List ℕ → Outcome
 told r cells path =
     record {
       number = number-of (r .answer);
-      cells = cells ++ outcome-cells r;
+      cells = cells;
       registers = r .registers;
       path = placed (place-of (r .answer)) path;
     }
 
 -- "1": fewer than sixteen cells
 abbrev pub with-room : List ℕ → List Float → List ℕ → Outcome → Outcome
-with-room cells regs path o = cond (ltb (length cells) 16) (record { number = 1; cells = cells; registers = regs; path = path }) o
+with-room cells regs path o =
+    cond (ltb (length cells) 16) (record { number = slice-too-short; cells = cells; registers = regs; path = path }) o
 
 abbrev pub is-refused : Answer → Bool
 is-refused (gives v) = false
@@ -71,23 +73,27 @@ is-refused spent = false
 is-refused (outside p) = false
 is-refused (refused n) = true
 
--- the state's cells after a call: "hand the state back unaltered"
-abbrev pub after : Reply → List ℕ → List ℕ
-after r cells = cond (is-refused (r .answer)) (take 14 cells) (state-cells (r .state))
+-- a reply in the first sixteen cells; what follows them stays
+abbrev pub written : Reply → List ℕ → List ℕ
+written r cells = (state-cells (r .state) ++ outcome-cells r) ++ drop 16 cells
 
--- what follows the sixteen cells stays
-abbrev pub followed : Outcome → List ℕ → Outcome
-followed o cells = record { number = o .number; cells = o .cells ++ drop 16 cells; registers = o .registers; path = o .path }
+-- the cells after a resume: "hand the state back unaltered", count and value too
+abbrev pub after : Reply → List ℕ → List ℕ
+after r cells = cond (is-refused (r .answer)) cells (written r cells)
 
 unfoldable pub run-outcome : List Float → List ℕ → ℕ → List Float → List ℕ → List ℕ → Outcome
 run-outcome inputs b budget regs cells path =
     let r = run-at inputs b (length path) budget regs in
-    with-room cells regs path (followed (told r (state-cells (r .state)) path) cells)
+    with-room cells regs path (told r (written r cells) path)
 
 unfoldable pub resume-outcome : List Float → List ℕ → ℕ → Option Float → List Float → List ℕ → List ℕ → Outcome
 resume-outcome inputs b budget given regs cells path =
     let r = resume-at inputs b (length path) budget given (state-in cells) regs in
-    with-room cells regs path (followed (told r (after r cells) path) cells)
+    with-room cells regs path (told r (after r cells) path)
+
+-- "Run state: made by the run, read by the next call": what the next call reads from the cells is the state of the reply
+abbrev pub Carries : List ℕ → Reply → Type 0
+Carries cells r = 16 ≤ length cells → state-in cells ≡ r .state
 
 abbrev pub Leaves : Outcome → ℕ → List ℕ → List Float → List ℕ → Type 0
 Leaves o n c r p = (n ≡ o .number) × (c ≡ o .cells) × (r ≡ o .registers) × (p ≡ o .path)

@@ -5,7 +5,7 @@ ghost use mathlib.Core.Bool.{cond};
 ghost use mathlib.Core.List.{[], _∷_, _++_};
 ghost use mathlib.Core.Option.{none, some};
 ghost use Prim.Native.Nat.{_≤_, min};
-ghost use lib.ListN.{drop, getD, length, take};
+ghost use lib.ListN.{drop, getD, length};
 ghost use lib.Dec.{ltb};
 ghost use Rattle.formula.specs.Text.{word-at};
 ghost use Rattle.machine.specs.Program.{valid};
@@ -14,10 +14,13 @@ ghost use Rattle.derivative.specs.Derive.{derive};
 ghost use Rattle.layout.specs.Decode.{program-at};
 ghost use Rattle.work.specs.View.{kept-values};
 ghost use Rattle.run.specs.Views.{answer-of, pending-of, state-of, supplied-of};
-ghost use Rattle.vebrostin.specs.Cells.{bits, kept-in, number-of, question-cells, question-in, state-cells, state-in, value-at, value-cell};
-ghost use Rattle.vebrostin.specs.Calls.{Compiles, Derives, Leaves, compile-number, derive-number, is-refused, resume-outcome, run-outcome};
+ghost use Rattle.run.specs.Calls.{resume-at, run-at};
+ghost use Rattle.vebrostin.specs.Cells.{Arguments-back, Askable, Comes-back, bits, kept-in, number-of, question-cells, question-in, state-cells, state-in, value-at, value-cell};
+ghost use Rattle.vebrostin.specs.Calls.{Carries, Compiles, Derives, Leaves, compile-number, derive-number, is-refused, resume-outcome, run-outcome};
 use floats::value::bits_of;
 use floats::value::of_bits;
+use refusals::OUTSIDE_DOMAIN;
+use refusals::SLICE_TOO_SHORT;
 use run::Answer;
 use run::Pending;
 use run::Reply;
@@ -179,12 +182,20 @@ fn copy(b: &[u64], cells: &mut [u64])
     }
 }
 
+// A value's bits, from which it is read again.
+fn value_bits(x: f64) -> u64
+    ensures { λ r. ⌜ (r ≡ bits x) × Comes-back x ⌝ }
+{
+    bits_of(x)
+}
+
 // Of n values kept, the one at place i.
 fn kept_cell(n: usize, i: usize, x: f64) -> u64
-    ensures { λ r. ⌜ r ≡ cond (ltb i n) (bits x) 0 ⌝ }
+    ensures { λ r. ⌜ (r ≡ cond (ltb i n) (bits x) 0) × Comes-back x ⌝ }
 {
+    let bits = value_bits(x);
     if i < n {
-        return bits_of(x);
+        return bits;
     }
     0
 }
@@ -205,7 +216,7 @@ struct Cells {
 }
 
 fn question_cells(pending: Pending) -> Cells
-    ensures { λ r. ⌜ r .question ∷ r .first ∷ r .second ∷ [] ≡ question-cells (pending-of pending) ⌝ }
+    ensures { λ r. ⌜ (r .question ∷ r .first ∷ r .second ∷ [] ≡ question-cells (pending-of pending)) × Arguments-back (pending-of pending) ⌝ }
 {
     match pending {
         Pending::Nothing => Cells {
@@ -215,13 +226,13 @@ fn question_cells(pending: Pending) -> Cells
         },
         Pending::Elementary(f, x) => Cells {
             question: 1 + f as u64,
-            first: bits_of(x),
+            first: value_bits(x),
             second: 0,
         },
         Pending::Power(x, y) => Cells {
             question: 17,
-            first: bits_of(x),
-            second: bits_of(y),
+            first: value_bits(x),
+            second: value_bits(y),
         },
     }
 }
@@ -247,7 +258,7 @@ fn number_of(given: Answer) -> usize
         Answer::Elementary(f, x) => 100,
         Answer::Power(x, y) => 100,
         Answer::Spent => 101,
-        Answer::Domain(k) => 9,
+        Answer::Domain(k) => OUTSIDE_DOMAIN as usize,
         Answer::Refused(n) => n as usize,
     }
 }
@@ -255,7 +266,8 @@ fn number_of(given: Answer) -> usize
 // Writes all sixteen cells.
 fn put_reply(cells: &mut [u64], state: State, given: Answer, count: usize)
     requires { ⌜ 16 ≤ length (now cells) ⌝ }
-    ensures { λ _. ⌜ now (cells .exit) ≡ (state-cells (state-of state) ++ (count ∷ value-cell (answer-of [] given) ∷ [])) ++ drop 16 (now (cells .entry)) ⌝ }
+    ensures cells { λ _. ⌜ now (cells .exit) ≡ (state-cells (state-of state) ++ (count ∷ value-cell (answer-of [] given) ∷ [])) ++ drop 16 (now (cells .entry)) ⌝ }
+    ensures state { λ _. ⌜ (Askable (pending-of (state .pending)) → state-in (now (cells .exit)) ≡ state-of state) ⌝ }
 {
     let kept = state.kept;
     let n = kept.count;
@@ -280,15 +292,6 @@ fn put_reply(cells: &mut [u64], state: State, given: Answer, count: usize)
         value_of(given),
     ];
     copy(&b, cells);
-}
-
-// Writes the count of instructions completed and the value's bits; the state's cells stay.
-fn put_outcome(cells: &mut [u64], given: Answer, count: usize)
-    requires { ⌜ 16 ≤ length (now cells) ⌝ }
-    ensures { λ _. ⌜ now (cells .exit) ≡ (take 14 (now (cells .entry)) ++ (count ∷ value-cell (answer-of [] given) ∷ [])) ++ drop 16 (now (cells .entry)) ⌝ }
-{
-    let b = [count as u64, value_of(given)];
-    copy(&b, &mut cells[14..]);
 }
 
 fn is_refused(given: Answer) -> bool
@@ -316,10 +319,11 @@ pub extern "C" fn vebrostin_run(
     budget: usize,
     cells: &mut [u64],
 ) -> usize
-    ensures { λ r. ⌜ Leaves (run-outcome (now (inputs .entry)) (now (program .entry)) budget (now (registers .entry)) (now (cells .entry)) (now (path .entry))) r (now (cells .exit)) (now (registers .exit)) (now (path .exit)) ⌝ }
+    ensures outcome { λ r. ⌜ Leaves (run-outcome (now (inputs .entry)) (now (program .entry)) budget (now (registers .entry)) (now (cells .entry)) (now (path .entry))) r (now (cells .exit)) (now (registers .exit)) (now (path .exit)) ⌝ }
+    ensures state { λ r. ⌜ Carries (now (cells .exit)) (run-at (now (inputs .entry)) (now (program .entry)) (length (now (path .entry))) budget (now (registers .entry))) ⌝ }
 {
     if cells.len() < 16 {
-        return 1;
+        return SLICE_TOO_SHORT as usize;
     }
     let r = run::run(program, inputs, registers, path, budget);
     let state = r.state;
@@ -337,10 +341,11 @@ fn resumed(
     cells: &mut [u64],
     supplied: Supplied,
 ) -> usize
-    ensures { λ r. ⌜ Leaves (resume-outcome (now (inputs .entry)) (now (program .entry)) budget (supplied-of supplied) (now (registers .entry)) (now (cells .entry)) (now (path .entry))) r (now (cells .exit)) (now (registers .exit)) (now (path .exit)) ⌝ }
+    ensures outcome { λ r. ⌜ Leaves (resume-outcome (now (inputs .entry)) (now (program .entry)) budget (supplied-of supplied) (now (registers .entry)) (now (cells .entry)) (now (path .entry))) r (now (cells .exit)) (now (registers .exit)) (now (path .exit)) ⌝ }
+    ensures state { λ r. ⌜ Carries (now (cells .exit)) (resume-at (now (inputs .entry)) (now (program .entry)) (length (now (path .entry))) budget (supplied-of supplied) (state-in (now (cells .entry))) (now (registers .entry))) ⌝ }
 {
     if cells.len() < 16 {
-        return 1;
+        return SLICE_TOO_SHORT as usize;
     }
     let before = state_in(cells);
     let r = run::resume(program, inputs, registers, path, budget, before, supplied);
@@ -348,7 +353,6 @@ fn resumed(
     let state = r.state;
     let no = is_refused(given);
     if no {
-        put_outcome(cells, given, r.count);
         return number_of(given);
     }
     put_reply(cells, state, given, r.count);
@@ -365,7 +369,8 @@ pub extern "C" fn vebrostin_resume(
     budget: usize,
     cells: &mut [u64],
 ) -> usize
-    ensures { λ r. ⌜ Leaves (resume-outcome (now (inputs .entry)) (now (program .entry)) budget none (now (registers .entry)) (now (cells .entry)) (now (path .entry))) r (now (cells .exit)) (now (registers .exit)) (now (path .exit)) ⌝ }
+    ensures outcome { λ r. ⌜ Leaves (resume-outcome (now (inputs .entry)) (now (program .entry)) budget none (now (registers .entry)) (now (cells .entry)) (now (path .entry))) r (now (cells .exit)) (now (registers .exit)) (now (path .exit)) ⌝ }
+    ensures state { λ r. ⌜ Carries (now (cells .exit)) (resume-at (now (inputs .entry)) (now (program .entry)) (length (now (path .entry))) budget none (state-in (now (cells .entry))) (now (registers .entry))) ⌝ }
 {
     resumed(
         program,
@@ -389,7 +394,8 @@ pub extern "C" fn vebrostin_answer(
     cells: &mut [u64],
     value: f64,
 ) -> usize
-    ensures { λ r. ⌜ Leaves (resume-outcome (now (inputs .entry)) (now (program .entry)) budget (some value) (now (registers .entry)) (now (cells .entry)) (now (path .entry))) r (now (cells .exit)) (now (registers .exit)) (now (path .exit)) ⌝ }
+    ensures outcome { λ r. ⌜ Leaves (resume-outcome (now (inputs .entry)) (now (program .entry)) budget (some value) (now (registers .entry)) (now (cells .entry)) (now (path .entry))) r (now (cells .exit)) (now (registers .exit)) (now (path .exit)) ⌝ }
+    ensures state { λ r. ⌜ Carries (now (cells .exit)) (resume-at (now (inputs .entry)) (now (program .entry)) (length (now (path .entry))) budget (some value) (state-in (now (cells .entry))) (now (registers .entry))) ⌝ }
 {
     resumed(
         program,

@@ -3,8 +3,10 @@ use mathlib.Core.List.{List, [], _∷_, _++_}
 use Prim.Native.Nat.{ℕ}
 use lib.ListN.{drop}
 use Rattle.run.specs.Views.{pending-of, state-of}
-use Rattle.vebrostin.specs.Cells.{state-cells}
+use Rattle.work.specs.View.{places}
+use Rattle.vebrostin.specs.Cells.{state-cells, state-in}
 use Rattle.vebrostin.proofs.Written.{reply-cells}
+use Rattle.vebrostin.proofs.Crossing.{Held, written-back}
 use borrow.Author.Needs.{needs}
 use Rattle.vebrostin.proofs.put_reply.Statement.{statement}
 use Rattle.vebrostin.proofs.put_reply.Tie as tie
@@ -78,7 +80,16 @@ same-length c = search needs
 
 -- src/lib.rt:231:1
 returns : tie.Need-returns
-returns c = c .before .before .copy .ensures ∙ ap (λ (x : List ℕ). x ++ drop 16 (c .before .before .before .before .before .before .before .before .before .before .before .before .before .before .before .before .before .before .before .args .cells .now)) (reply-cells (c .before .before .before .before .before .before .before .before .before .before .before .before .before .before .before .before .before .before .before .args .state .kept) (pending-of (c .before .before .before .before .before .before .before .before .before .before .before .before .before .before .before .before .before .before .before .args .state .pending)) (c .before .before .before .before .before .before .before .before .before .before .before .before .before .before .before .before .before .before .before .args .state .position) (c .before .before .before .before .before .before .before .before .before .before .before .before .before .before .before .before .before .before .before .args .count) _ _ _ _ _ _ _ _ _ _ _ _ _ _ (c .before .before .before .before .before .before .before .before .before .before .before .before .before .before .before .kept-count .ensures) (c .before .before .before .before .before .before .before .before .before .before .before .before .before .before .kept-cell .ensures) (c .before .before .before .before .before .before .before .before .before .before .before .before .before .kept-cell2 .ensures) (c .before .before .before .before .before .before .before .before .before .before .before .before .kept-cell3 .ensures) (c .before .before .before .before .before .before .before .before .before .before .before .kept-cell4 .ensures) (c .before .before .before .before .before .before .before .before .before .before .kept-cell5 .ensures) (c .before .before .before .before .before .before .before .before .before .kept-cell6 .ensures) (c .before .before .before .before .before .before .before .before .kept-cell7 .ensures) (c .before .before .before .before .before .before .before .kept-cell8 .ensures) (c .before .before .before .before .before .before .kept-cell9 .ensures) (c .before .before .before .before .before .before .before .before .before .before .before .before .before .before .before .before .question-cells .ensures) ∙ ap (λ (v : ℕ). state-cells (state-of (c .before .before .before .before .before .before .before .before .before .before .before .before .before .before .before .before .before .before .before .args .state)) ++ (c .before .before .before .before .before .before .before .before .before .before .before .before .before .before .before .before .before .before .before .args .count ∷ v ∷ [])) (c .before .before .before .before .before .value-of .ensures))
+returns c =
+    let s = c .before .before .before .before .before .before .before .before .before .before .before .before .before .before .before .before .before .before .before .args .state in
+    let k = s .kept in
+    let q = pending-of (s .pending) in
+    let shown = c .before .before .copy .ensures
+    ∙ ap (λ (x : List ℕ). x ++ drop 16 (c .before .before .before .before .before .before .before .before .before .before .before .before .before .before .before .before .before .before .before .args .cells .now))
+    (reply-cells k q (s .position) (c .before .before .before .before .before .before .before .before .before .before .before .before .before .before .before .before .before .before .before .args .count) _ _ _ _ _ _ _ _ _ _ _ _ _ _ (c .before .before .before .before .before .before .before .before .before .before .before .before .before .before .before .kept-count .ensures) (c .before .before .before .before .before .before .before .before .before .before .before .before .before .before .kept-cell .ensures .0) (c .before .before .before .before .before .before .before .before .before .before .before .before .before .kept-cell2 .ensures .0) (c .before .before .before .before .before .before .before .before .before .before .before .before .kept-cell3 .ensures .0) (c .before .before .before .before .before .before .before .before .before .before .before .kept-cell4 .ensures .0) (c .before .before .before .before .before .before .before .before .before .before .kept-cell5 .ensures .0) (c .before .before .before .before .before .before .before .before .before .kept-cell6 .ensures .0) (c .before .before .before .before .before .before .before .before .kept-cell7 .ensures .0) (c .before .before .before .before .before .before .before .kept-cell8 .ensures .0) (c .before .before .before .before .before .before .kept-cell9 .ensures .0) (c .before .before .before .before .before .before .before .before .before .before .before .before .before .before .before .before .question-cells .ensures .0)
+    ∙ ap (λ (v : ℕ). state-cells (state-of s) ++ (c .before .before .before .before .before .before .before .before .before .before .before .before .before .before .before .before .before .before .before .args .count ∷ v ∷ [])) (c .before .before .before .before .before .value-of .ensures)) in
+    let held : Held (places k) = (c .before .before .before .before .before .before .before .before .before .before .before .before .before .before .kept-cell .ensures .1, (c .before .before .before .before .before .before .before .before .before .before .before .before .before .kept-cell2 .ensures .1, (c .before .before .before .before .before .before .before .before .before .before .before .before .kept-cell3 .ensures .1, (c .before .before .before .before .before .before .before .before .before .before .before .kept-cell4 .ensures .1, (c .before .before .before .before .before .before .before .before .before .before .kept-cell5 .ensures .1, (c .before .before .before .before .before .before .before .before .before .kept-cell6 .ensures .1, (c .before .before .before .before .before .before .before .before .kept-cell7 .ensures .1, (c .before .before .before .before .before .before .before .kept-cell8 .ensures .1, (c .before .before .before .before .before .before .kept-cell9 .ensures .1, tt))))))))) in
+    (shown, λ a. ap state-in shown ∙ written-back s (c .before .before .before .before .before .before .before .before .before .before .before .before .before .before .before .before .before .before .before .args .count) _ (drop 16 (c .before .before .before .before .before .before .before .before .before .before .before .before .before .before .before .before .before .before .before .args .cells .now)) held a (c .before .before .before .before .before .before .before .before .before .before .before .before .before .before .before .before .question-cells .ensures .1))
 
 pub put-reply-spec : {M : Type 1} → statement M
 put-reply-spec =

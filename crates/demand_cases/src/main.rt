@@ -1,0 +1,687 @@
+// Plays lists of calls that tools/compare recorded, every beginning of each, from slices filled anew: by `demand::make_and_play`, and by
+// `hosted::make_and_call`, which hands the cells from one C function to the next. The answers are the Rust reference's, and for budgets
+// and refused calls those of the model in tools/compare/machine.rs, whose whole runs agree with the reference's.
+//
+// Standard input has a record for each case; numbers are 8 bytes, the least first. A case has 12 numbers (`Head`), then formula, names,
+// the path text of a refusal, and the inputs. For its calls come each one's path room, each one's budget, a byte each for whether a value
+// is supplied, and the values; then for each call 18 numbers, its answer, the cells after it and the length of the path's text, then that
+// text and the registers after it.
+ghost use Prim.Native.Nat.{_≤_};
+ghost use lib.ListN.{length};
+use demand::Played;
+use floats::value::bits_of;
+use floats::value::of_bits;
+use run::Answer;
+use run::Reply;
+
+// A slice that was not written holds what it was filled with.
+const FILL: u8 = 170;
+
+// ---- bytes and numbers
+
+fn fill(b: &mut [u8]) {
+    let mut i = 0;
+    while i < b.len() {
+        b[i] = FILL;
+        i += 1;
+    }
+}
+
+fn fill_values(xs: &mut [f64], x: f64) {
+    let mut i = 0;
+    while i < xs.len() {
+        xs[i] = x;
+        i += 1;
+    }
+}
+
+// Whether the bytes from one place to another, or to the end, are this one.
+fn all_between(b: &[u8], from: usize, to: usize, byte: u8) -> bool {
+    let mut i = from;
+    while i < to {
+        if i >= b.len() {
+            return true;
+        }
+        if b[i] != byte {
+            return false;
+        }
+        i += 1;
+    }
+    true
+}
+
+fn begins(b: &[u8], text: &[u8], n: usize) -> bool {
+    let mut i = 0;
+    while i < n {
+        if reader::byte(b, i) != reader::byte(text, i) {
+            return false;
+        }
+        i += 1;
+    }
+    true
+}
+
+fn number(b: &[u8], i: usize) -> u64 {
+    if i < 4096 {
+        return reader::long(b, 8 * i);
+    }
+    0
+}
+
+fn size(b: &[u8], i: usize) -> usize {
+    number(b, i) as usize
+}
+
+fn read_sizes(b: &[u8], out: &mut [usize]) {
+    let mut i = 0;
+    while i < out.len() {
+        out[i] = size(b, i);
+        i += 1;
+    }
+}
+
+fn read_values(b: &[u8], out: &mut [f64]) {
+    let mut i = 0;
+    while i < out.len() {
+        out[i] = of_bits(number(b, i));
+        i += 1;
+    }
+}
+
+fn same_values(b: &[u8], xs: &[f64]) -> bool {
+    let mut i = 0;
+    while i < xs.len() {
+        let bits = bits_of(xs[i]);
+        if bits != number(b, i) {
+            return false;
+        }
+        i += 1;
+    }
+    true
+}
+
+fn same_cells(b: &[u8], at: usize, cells: &[u64]) -> bool
+    requires { ⌜ at ≤ 64 ⌝ }
+{
+    let mut i = 0;
+    while i < cells.len() {
+        if cells[i] != number(b, at + i) {
+            return false;
+        }
+        i += 1;
+    }
+    true
+}
+
+// Reads n bytes to the start of a buffer; false at the end of the input, or where they don't fit.
+fn take(b: &mut [u8], n: usize) -> bool {
+    if b.len() < n {
+        return false;
+    }
+    io::read_full(0, &mut b[..n]) == n
+}
+
+// ---- one case
+
+struct Head {
+    formula: usize,
+    names: usize,
+    symbol: u64,
+    path: usize,
+    tree: usize,
+    program: usize,
+    answer: usize,
+    text: usize,
+    inputs: usize,
+    registers: usize,
+    held: u64,
+    calls: usize,
+}
+
+fn head_of(b: &[u8]) -> Head {
+    Head {
+        formula: size(b, 0),
+        names: size(b, 1),
+        symbol: number(b, 2),
+        path: size(b, 3),
+        tree: size(b, 4),
+        program: size(b, 5),
+        answer: size(b, 6),
+        text: size(b, 7),
+        inputs: size(b, 8),
+        registers: size(b, 9),
+        held: number(b, 10),
+        calls: size(b, 11),
+    }
+}
+
+// The path slice: a text and zeros to the end of what was lent, or not written.
+fn is_placed(path: &[u8], text: &[u8], n: usize, room: usize) -> bool {
+    if n > 0 {
+        return begins(path, text, n)
+            && (all_between(path, n, room, 0) && all_between(path, room, path.len(), FILL));
+    }
+    all_between(path, 0, path.len(), FILL)
+}
+
+// ---- by the machine's own state
+
+fn by_machine(
+    h: Head,
+    formula: &[u8],
+    names: &[u8],
+    tree: &mut [u8],
+    program: &mut [u8],
+    inputs: &[f64],
+    registers: &mut [f64],
+    path: &mut [u8],
+    rooms: &[usize],
+    budgets: &[usize],
+    flags: &[u8],
+    values: &[f64],
+) -> Played {
+    fill(path);
+    fill(tree);
+    fill(program);
+    fill_values(registers, of_bits(h.held));
+    let wanted = if h.symbol < 4294967296 {
+        demand::Wanted::Derivative(h.symbol as usize)
+    } else {
+        demand::Wanted::Formula
+    };
+    demand::make_and_play(
+        formula, names, wanted, tree, program, inputs, registers, path, rooms, budgets, flags,
+        values,
+    )
+}
+
+// An answer as recorded: its number, the value's bits, the question.
+fn is_answer(b: &[u8], answer: Answer) -> bool {
+    let n = number(b, 0);
+    match answer {
+        Answer::Value(v) => n == 0 && bits_of(v) == number(b, 16),
+        Answer::Elementary(f, x) => {
+            n == 100 && (number(b, 12) == 1 + f as u64 && bits_of(x) == number(b, 13))
+        }
+        Answer::Power(x, y) => {
+            n == 100
+                && (number(b, 12) == 17
+                    && (bits_of(x) == number(b, 13) && bits_of(y) == number(b, 14)))
+        }
+        Answer::Spent => n == 101,
+        Answer::Domain(k) => n == 9,
+        Answer::Refused(m) => n == m as u64,
+    }
+}
+
+// A refused call completes nothing, and leaves the cells' count.
+fn is_count(b: &[u8], count: usize) -> bool {
+    let n = number(b, 0);
+    if n == 1 || (n == 5 || n == 11) {
+        return count == 0;
+    }
+    count as u64 == number(b, 15)
+}
+
+fn is_played(b: &[u8], p: Played) -> bool {
+    match p {
+        Played::Refused(n) => false,
+        Played::Replied(r) => is_answer(b, r.answer) && is_count(b, r.count),
+    }
+}
+
+fn is_turned_away(p: Played, answer: usize) -> bool {
+    match p {
+        Played::Refused(n) => n as usize == answer,
+        Played::Replied(r) => false,
+    }
+}
+
+// ---- by the C functions
+
+fn by_host(
+    h: Head,
+    formula: &[u8],
+    names: &[u8],
+    tree: &mut [u8],
+    program: &mut [u8],
+    inputs: &[f64],
+    registers: &mut [f64],
+    path: &mut [u8],
+    rooms: &[usize],
+    budgets: &[usize],
+    flags: &[u8],
+    values: &[f64],
+    cells: &mut [u64],
+) -> usize {
+    fill(path);
+    fill(tree);
+    fill(program);
+    fill_values(registers, of_bits(h.held));
+    let wanted = if h.symbol < 4294967296 {
+        hosted::Wanted::Derivative(h.symbol as u32)
+    } else {
+        hosted::Wanted::Formula
+    };
+    hosted::make_and_call(
+        formula, names, wanted, tree, program, inputs, registers, path, rooms, budgets, flags,
+        values, cells,
+    )
+}
+
+// ---- lists
+
+// Registers and path slice after the last call, as recorded.
+fn is_left(b: &[u8], text: &[u8], after: &[u8], registers: &[f64], path: &[u8]) -> bool {
+    same_values(after, registers) && is_placed(path, text, size(b, 17), 8192)
+}
+
+// A list whose record was read, played both ways.
+fn both(
+    h: Head,
+    b: &[u8],
+    text: &[u8],
+    after: &[u8],
+    formula: &[u8],
+    names: &[u8],
+    tree: &mut [u8],
+    program: &mut [u8],
+    inputs: &[f64],
+    registers: &mut [f64],
+    path: &mut [u8],
+    rooms: &[usize],
+    budgets: &[usize],
+    flags: &[u8],
+    values: &[f64],
+    cells: &mut [u64],
+) -> bool {
+    let p = by_machine(
+        h, formula, names, tree, program, inputs, registers, path, rooms, budgets, flags, values,
+    );
+    let same = is_played(b, p);
+    if !same {
+        return false;
+    }
+    let same = is_left(b, text, after, registers, path);
+    if !same {
+        return false;
+    }
+    let n = by_host(
+        h, formula, names, tree, program, inputs, registers, path, rooms, budgets, flags, values,
+        cells,
+    );
+    if n != size(b, 0) {
+        return false;
+    }
+    same_cells(b, 1, cells) && is_left(b, text, after, registers, path)
+}
+
+// Reads what is recorded of a list's last call; false also at the end of the input.
+fn read_last(b: &mut [u8], text: &mut [u8], after: &mut [u8], registers: usize) -> bool {
+    let read = take(b, 144);
+    if !read {
+        return false;
+    }
+    let read = take(text, size(b, 17));
+    if !read {
+        return false;
+    }
+    if registers > 256 {
+        return false;
+    }
+    take(after, 8 * registers)
+}
+
+fn beginning(
+    h: Head,
+    formula: &[u8],
+    names: &[u8],
+    tree: &mut [u8],
+    program: &mut [u8],
+    inputs: &[f64],
+    registers: &mut [f64],
+    path: &mut [u8],
+    rooms: &[usize],
+    budgets: &[usize],
+    flags: &[u8],
+    values: &[f64],
+) -> bool {
+    let mut b = [0u8; 144];
+    let mut text = [0u8; 512];
+    let mut after = [0u8; 2048];
+    let mut cells = [0u64; 16];
+    let read = read_last(&mut b, &mut text, &mut after, registers.len());
+    if !read {
+        return false;
+    }
+    both(
+        h, &b, &text, &after, formula, names, tree, program, inputs, registers, path, rooms,
+        budgets, flags, values, &mut cells,
+    )
+}
+
+// Whether every beginning of the list is as recorded.
+fn beginnings(
+    h: Head,
+    formula: &[u8],
+    names: &[u8],
+    tree: &mut [u8],
+    program: &mut [u8],
+    inputs: &[f64],
+    registers: &mut [f64],
+    path: &mut [u8],
+    rooms: &[usize],
+    budgets: &[usize],
+    flags: &[u8],
+    values: &[f64],
+) -> bool {
+    let mut k = 0;
+    while k < budgets.len() {
+        k += 1;
+        let same = beginning(
+            h,
+            formula,
+            names,
+            tree,
+            program,
+            inputs,
+            registers,
+            path,
+            rooms,
+            &budgets[..k],
+            flags,
+            values,
+        );
+        if !same {
+            return false;
+        }
+    }
+    true
+}
+
+// A formula that is refused, both ways.
+fn turned_away(
+    h: Head,
+    text: &[u8],
+    formula: &[u8],
+    names: &[u8],
+    tree: &mut [u8],
+    program: &mut [u8],
+    inputs: &[f64],
+    registers: &mut [f64],
+    path: &mut [u8],
+    rooms: &[usize],
+    budgets: &[usize],
+    flags: &[u8],
+    values: &[f64],
+    cells: &mut [u64],
+) -> bool {
+    let p = by_machine(
+        h, formula, names, tree, program, inputs, registers, path, rooms, budgets, flags, values,
+    );
+    let same = is_turned_away(p, h.answer);
+    if !same {
+        return false;
+    }
+    let same = is_placed(path, text, h.text, path.len());
+    if !same {
+        return false;
+    }
+    let n = by_host(
+        h, formula, names, tree, program, inputs, registers, path, rooms, budgets, flags, values,
+        cells,
+    );
+    n == h.answer && is_placed(path, text, h.text, path.len())
+}
+
+// ---- reading
+
+// Reads the inputs and the list; the slices are just as long as the case says.
+fn read_list(
+    b: &mut [u8],
+    inputs: &mut [f64],
+    rooms: &mut [usize],
+    budgets: &mut [usize],
+    flags: &mut [u8],
+    values: &mut [f64],
+) -> bool {
+    if inputs.len() > 256 {
+        return false;
+    }
+    let n = rooms.len();
+    if n > 16 {
+        return false;
+    }
+    let read = take(b, 8 * inputs.len());
+    if !read {
+        return false;
+    }
+    read_values(b, inputs);
+    let read = take(b, 8 * n);
+    if !read {
+        return false;
+    }
+    read_sizes(b, rooms);
+    let read = take(b, 8 * n);
+    if !read {
+        return false;
+    }
+    read_sizes(b, budgets);
+    let read = take(flags, n);
+    if !read {
+        return false;
+    }
+    let read = take(b, 8 * n);
+    if !read {
+        return false;
+    }
+    read_values(b, values);
+    true
+}
+
+// A case whose slices are just as long as it says.
+fn listed(
+    h: Head,
+    b: &mut [u8],
+    text: &[u8],
+    formula: &[u8],
+    names: &[u8],
+    tree: &mut [u8],
+    program: &mut [u8],
+    inputs: &mut [f64],
+    registers: &mut [f64],
+    path: &mut [u8],
+    rooms: &mut [usize],
+    budgets: &mut [usize],
+    flags: &mut [u8],
+    values: &mut [f64],
+) -> bool {
+    let read = read_list(b, inputs, rooms, budgets, flags, values);
+    if !read {
+        return false;
+    }
+    if h.answer == 0 {
+        return beginnings(
+            h, formula, names, tree, program, inputs, registers, path, rooms, budgets, flags,
+            values,
+        );
+    }
+    let mut cells = [0u64; 16];
+    turned_away(
+        h, text, formula, names, tree, program, inputs, registers, path, rooms, budgets, flags,
+        values, &mut cells,
+    )
+}
+
+fn with_list(
+    h: Head,
+    text: &[u8],
+    formula: &[u8],
+    names: &[u8],
+    tree: &mut [u8],
+    program: &mut [u8],
+    path: &mut [u8],
+) -> bool {
+    let mut b = [0u8; 2048];
+    let mut inputs = [0.0; 256];
+    let mut registers = [0.0; 256];
+    let mut rooms = [0usize; 16];
+    let mut budgets = [0usize; 16];
+    let mut flags = [0u8; 16];
+    let mut values = [0.0; 16];
+    if h.inputs > 256 {
+        return false;
+    }
+    if h.registers > 256 {
+        return false;
+    }
+    if h.calls > 16 {
+        return false;
+    }
+    listed(
+        h,
+        &mut b,
+        text,
+        formula,
+        names,
+        tree,
+        program,
+        &mut inputs[..h.inputs],
+        &mut registers[..h.registers],
+        path,
+        &mut rooms[..h.calls],
+        &mut budgets[..h.calls],
+        &mut flags[..h.calls],
+        &mut values[..h.calls],
+    )
+}
+
+fn case_in(
+    h: Head,
+    formula: &mut [u8],
+    names: &mut [u8],
+    text: &mut [u8],
+    path: &mut [u8],
+    tree: &mut [u8],
+    program: &mut [u8],
+) -> bool {
+    if h.path > path.len() {
+        return false;
+    }
+    if h.tree > tree.len() {
+        return false;
+    }
+    if h.program > program.len() {
+        return false;
+    }
+    if h.formula > formula.len() {
+        return false;
+    }
+    if h.names > names.len() {
+        return false;
+    }
+    let read = take(formula, h.formula);
+    if !read {
+        return false;
+    }
+    let read = take(names, h.names);
+    if !read {
+        return false;
+    }
+    let read = take(text, h.text);
+    if !read {
+        return false;
+    }
+    with_list(
+        h,
+        text,
+        &formula[..h.formula],
+        &names[..h.names],
+        &mut tree[..h.tree],
+        &mut program[..h.program],
+        &mut path[..h.path],
+    )
+}
+
+fn one_case(h: Head) -> bool {
+    let mut formula = [0u8; 8192];
+    let mut names = [0u8; 8192];
+    let mut text = [0u8; 2048];
+    let mut path = [0u8; 8200];
+    let mut tree = [0u8; 8192];
+    let mut program = [0u8; 65536];
+    case_in(
+        h,
+        &mut formula,
+        &mut names,
+        &mut text,
+        &mut path,
+        &mut tree,
+        &mut program,
+    )
+}
+
+// Whether there was a case, whether it is as recorded, and its calls.
+struct Shown {
+    there: bool,
+    right: bool,
+    calls: u64,
+}
+
+fn seen(head: &mut [u8]) -> Shown {
+    let read = take(head, 96);
+    if !read {
+        return Shown {
+            there: false,
+            right: true,
+            calls: 0,
+        };
+    }
+    let right = one_case(head_of(head));
+    Shown {
+        there: true,
+        right: right,
+        calls: number(head, 11),
+    }
+}
+
+fn next_case() -> Shown {
+    let mut head = [0u8; 96];
+    seen(&mut head)
+}
+
+fn plus(a: u64, b: u64) -> u64 {
+    if a < 1_000_000 {
+        if b < 1_000_000 {
+            return a + b;
+        }
+    }
+    1_000_000
+}
+
+fn main() {
+    let mut cases: u64 = 0;
+    let mut calls: u64 = 0;
+    let mut right = true;
+    while cases < 1_000_000 {
+        let s = next_case();
+        if !s.there {
+            break;
+        }
+        if !s.right {
+            right = false;
+            break;
+        }
+        calls = plus(calls, s.calls);
+        cases += 1;
+    }
+    io::print_decimal(1, cases);
+    io::write_all(1, b" cases, ");
+    io::print_decimal(1, calls);
+    io::write_all(1, b" calls\n");
+    if right {
+        io::write_all(1, b"ok\n");
+    } else {
+        io::write_all(1, b"wrong: the case after these\n");
+    }
+}

@@ -1,0 +1,62 @@
+use mathlib.Core.Path.{refl}
+use Rattle.hosted.proofs.Owing.{derivative-done, formula-done}
+use borrow.Author.Needs.{needs}
+use Rattle.hosted.proofs.write_program.Statement.{statement}
+use Rattle.hosted.proofs.write_program.Tie as tie
+
+enum-told : tie.Need-enum-told
+enum-told c = search needs
+
+vebrostin-compile-requires : tie.Need-vebrostin-compile-requires
+vebrostin-compile-requires c κs = search needs
+
+enum-known-wanted : tie.Need-enum-known-wanted
+enum-known-wanted c = search needs
+
+vebrostin-derive-requires : tie.Need-vebrostin-derive-requires
+vebrostin-derive-requires c κs = search needs
+
+same-length : tie.Need-same-length
+same-length c = search needs
+
+same-length-2 : tie.Need-same-length-2
+same-length-2 c = search needs
+
+returns : tie.Need-returns
+returns c =
+    let a = c .before .before .before .before .before .before .before .before .before .before .before .before .before .before .args in
+    let r = c .before .before .before .before .vebrostin-compile in
+    formula-done (a .formula .now) (a .names .now) (a .path .now) (r .last .1 .1 .0) (a .tree .now) (a .tree .now) (a .program .now) (r .last .1 .1 .1 .0) (r .result)
+    (a .wanted) (c .before .before .before .before .before .before .before .enum-told .given .1) refl (r .ensures)
+
+same-length-3 : tie.Need-same-length-3
+same-length-3 c = search needs
+
+same-length-4 : tie.Need-same-length-4
+same-length-4 c = search needs
+
+same-length-5 : tie.Need-same-length-5
+same-length-5 c = search needs
+
+returns-2 : tie.Need-returns-2
+returns-2 c =
+    let a = c .before .before .before .before .before .before .before .before .before .before .before .before .before .before .before .before .before .before .args in
+    let r = c .before .before .before .before .before .before .vebrostin-derive in
+    derivative-done (a .formula .now) (a .names .now) (a .path .now) (r .last .1 .1 .1 .0) (a .tree .now) (r .last .1 .1 .1 .1 .0) (a .program .now) (r .last .1 .1 .1 .1 .1 .0)
+    (r .result) (a .wanted) (c .before .before .before .before .before .before .before .before .before .before .before .wanted .given .0 .0) (c .before .before .before .before .before .before .before .before .before .before .before .wanted .given .1) (r .ensures)
+
+pub write-program-spec : {M : Type 1} → statement M
+write-program-spec =
+    tie.close
+    (tie.spec
+    enum-told
+    vebrostin-compile-requires
+    enum-known-wanted
+    vebrostin-derive-requires
+    same-length
+    same-length-2
+    returns
+    same-length-3
+    same-length-4
+    same-length-5
+    returns-2)

@@ -1,0 +1,134 @@
+// Demand 3 for a host that has only the C functions of `vebrostin`: compile or derive, then a list of calls that hand the cells on.
+ghost use mathlib.Core.Path.{_≡_};
+ghost use Prim.Native.Nat.{_≤_};
+ghost use lib.ListN.{length};
+ghost use Rattle.run.specs.Calls.{resume-at};
+ghost use Rattle.run.specs.Views.{supplied-of};
+ghost use Rattle.play.specs.Listed.{play-at};
+ghost use Rattle.demand.specs.Made.{make, program-left, tree-left};
+ghost use Rattle.vebrostin.specs.Cells.{state-in};
+ghost use Rattle.vebrostin.specs.Calls.{Carries, Leaves, resume-outcome};
+ghost use Rattle.hosted.specs.Hosted.{host-at, wanted-of};
+ghost use Rattle.hosted.specs.Owed.{Follows, Makes, Owes};
+use play::budget_at;
+use play::room_at;
+use play::supplied_at;
+use run::Supplied;
+use vebrostin::vebrostin_answer;
+use vebrostin::vebrostin_compile;
+use vebrostin::vebrostin_derive;
+use vebrostin::vebrostin_resume;
+use vebrostin::vebrostin_run;
+
+// "a formula that compiles, or its derivative by a named symbol where one is given"
+pub enum Wanted {
+    Formula,
+    Derivative(u32),
+}
+
+// 0 and the program of the formula or of its derivative, or the refusal.
+fn write_program(
+    formula: &[u8],
+    names: &[u8],
+    wanted: Wanted,
+    path: &mut [u8],
+    tree: &mut [u8],
+    program: &mut [u8],
+) -> usize
+    ensures made { λ r. ⌜ Makes (make (now (formula .entry)) (now (names .entry)) (wanted-of wanted) (length (now (path .entry))) (length (now (tree .entry))) (length (now (program .entry)))) r (now (path .entry)) (now (path .exit)) ⌝ }
+    ensures written { λ r. ⌜ (now (tree .exit) ≡ tree-left (now (formula .entry)) (now (names .entry)) (wanted-of wanted) (length (now (path .entry))) (now (tree .entry)) (length (now (program .entry)))) × (now (program .exit) ≡ program-left (now (formula .entry)) (now (names .entry)) (wanted-of wanted) (length (now (path .entry))) (length (now (tree .entry))) (now (program .entry))) ⌝ }
+{
+    match wanted {
+        Wanted::Formula => vebrostin_compile(formula, names, path, program),
+        Wanted::Derivative(symbol) => {
+            vebrostin_derive(formula, names, symbol, path, tree, program)
+        }
+    }
+}
+
+fn go_on(
+    program: &[u8],
+    inputs: &[f64],
+    registers: &mut [f64],
+    path: &mut [u8],
+    budget: usize,
+    cells: &mut [u64],
+    supplied: Supplied,
+) -> usize
+    ensures outcome { λ r. ⌜ Leaves (resume-outcome (now (inputs .entry)) (now (program .entry)) budget (supplied-of supplied) (now (registers .entry)) (now (cells .entry)) (now (path .entry))) r (now (cells .exit)) (now (registers .exit)) (now (path .exit)) ⌝ }
+    ensures state { λ r. ⌜ Carries (now (cells .exit)) (resume-at (now (inputs .entry)) (now (program .entry)) (length (now (path .entry))) budget (supplied-of supplied) (state-in (now (cells .entry))) (now (registers .entry))) ⌝ }
+{
+    match supplied {
+        Supplied::Nothing => vebrostin_resume(program, inputs, registers, path, budget, cells),
+        Supplied::Value(value) => {
+            vebrostin_answer(program, inputs, registers, path, budget, cells, value)
+        }
+    }
+}
+
+// The number of the last call of a list: as many calls as there are budgets, one at least. Each call is lent the first bytes of the
+// path slice, as many as `rooms` says, and the cells as the last call left them.
+fn call_all(
+    program: &[u8],
+    inputs: &[f64],
+    registers: &mut [f64],
+    path: &mut [u8],
+    rooms: &[usize],
+    budgets: &[usize],
+    flags: &[u8],
+    values: &[f64],
+    cells: &mut [u64],
+) -> usize
+    ensures outcome { λ r. ⌜ Leaves (host-at (now (inputs .entry)) (now (program .entry)) (now (cells .entry)) (now (path .entry)) (now (rooms .entry)) (now (budgets .entry)) (now (flags .entry)) (now (values .entry)) (now (registers .entry))) r (now (cells .exit)) (now (registers .exit)) (now (path .exit)) ⌝ }
+    ensures reply { λ r. ⌜ (16 ≤ length (now (cells .entry)) → Follows (play-at (now (inputs .entry)) (now (program .entry)) (now (path .entry)) (now (rooms .entry)) (now (budgets .entry)) (now (flags .entry)) (now (values .entry)) (now (registers .entry))) r (now (cells .exit)) (now (registers .exit)) (now (path .exit))) ⌝ }
+{
+    let n = path.len();
+    let first = room_at(rooms, n, 0);
+    let budget = budget_at(budgets, 0);
+    let mut number = vebrostin_run(program, inputs, registers, &mut path[..first], budget, cells);
+    let mut i = 1;
+    while i < budgets.len() {
+        let room = room_at(rooms, n, i);
+        let budget = budget_at(budgets, i);
+        let supplied = supplied_at(flags, values, i);
+        number = go_on(
+            program,
+            inputs,
+            registers,
+            &mut path[..room],
+            budget,
+            cells,
+            supplied,
+        );
+        i += 1;
+    }
+    number
+}
+
+// Compiles or derives, and makes a list of calls: `vebrostin_run`, then `vebrostin_resume` or, with a value, `vebrostin_answer`.
+pub fn make_and_call(
+    formula: &[u8],
+    names: &[u8],
+    wanted: Wanted,
+    tree: &mut [u8],
+    program: &mut [u8],
+    inputs: &[f64],
+    registers: &mut [f64],
+    path: &mut [u8],
+    rooms: &[usize],
+    budgets: &[usize],
+    flags: &[u8],
+    values: &[f64],
+    cells: &mut [u64],
+) -> usize
+    ensures written { λ r. ⌜ (now (tree .exit) ≡ tree-left (now (formula .entry)) (now (names .entry)) (wanted-of wanted) (length (now (path .entry))) (now (tree .entry)) (length (now (program .entry)))) × (now (program .exit) ≡ program-left (now (formula .entry)) (now (names .entry)) (wanted-of wanted) (length (now (path .entry))) (length (now (tree .entry))) (now (program .entry))) ⌝ }
+    ensures demand { λ r. ⌜ Owes (make (now (formula .entry)) (now (names .entry)) (wanted-of wanted) (length (now (path .entry))) (length (now (tree .entry))) (length (now (program .entry)))) (now (program .exit)) (now (inputs .entry)) (now (rooms .entry)) (now (budgets .entry)) (now (flags .entry)) (now (values .entry)) (now (registers .entry)) (now (registers .exit)) (now (path .entry)) (now (path .exit)) (now (cells .entry)) (now (cells .exit)) r ⌝ }
+{
+    let refusal = write_program(formula, names, wanted, path, tree, program);
+    if refusal != 0 {
+        return refusal;
+    }
+    call_all(
+        program, inputs, registers, path, rooms, budgets, flags, values, cells,
+    )
+}
