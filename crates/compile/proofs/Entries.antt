@@ -13,7 +13,7 @@ use Rattle.formula.specs.Text.{zeros}
 use Rattle.formula.specs.Path.{Path, placed, root}
 use Rattle.formula.specs.Formula.{Formula, depth, size, well-formed, within}
 use Rattle.formula.specs.Names.{Input, Parameter, State, Symbol, SymbolKind, Time, kinds, symbols-of}
-use Rattle.formula.specs.Node.{formula-of, tree-in}
+use Rattle.formula.specs.Node.{formula-of, tree-in, node-size}
 use Rattle.formula.proofs.Tests.{and-first, and-second, no-true, or-none}
 use Rattle.formula.specs.Term.{term, terms}
 use Rattle.machine.specs.Check.{Context, Fault, fault}
@@ -228,7 +228,7 @@ module _ (b : List ℕ) (f : Formula) (is-f : formula-of b ≡ some f) (limits :
   well : well-formed f ≡ true
   well = formula-in b f 32 is-f low .1
 
-  pub long : 16 * size f ≡ length b
+  pub long : node-size * size f ≡ length b
   long = formula-in b f 32 is-f low .2
 
   pub all-fit : (path program : ℕ) → 8192 ≤ path → 15 * length b ≤ program → Fits b 32 program path

@@ -11,14 +11,14 @@ use borrow.Author.Tests.{ltb-false, ltb-true}
 use Rattle.formula.specs.Text.{little-endian, word-at, zeros}
 use Rattle.formula.specs.Path.{Path, _▸_, placed, root, text}
 use Rattle.formula.specs.Formula.{Formula, size}
-use Rattle.formula.specs.Node.{tree-in}
+use Rattle.formula.specs.Node.{tree-in, node-size}
 use Rattle.formula.specs.Term.{Term, term}
 use Rattle.machine.specs.Check.{Context, Fault, fault, kind}
 use Rattle.machine.specs.Lower.{instruction-count, register-count, result-register}
 use Rattle.machine.proofs.Size.{narrow}
 use Rattle.layout.specs.Opcode.{kind-number}
-use Rattle.layout.specs.Image.{below, entry-count, header, image, lists, magic, path-count, rows}
-use Rattle.layout.proofs.Lengths.{bounds, image-room, length-below, length-image, length-lists, length-rows}
+use Rattle.layout.specs.Image.{below, entry-count, header, image, lists, magic, path-count, slots}
+use Rattle.layout.proofs.Lengths.{bounds, image-room, length-below, length-image, length-lists, length-slots}
 use Rattle.paths.specs.Over.{over, zeroed}
 use Rattle.paths.specs.Table.{Linked, length-in, linked, path-in-table}
 use Rattle.paths.proofs.Over.{over-before, over-length, over-over, text-zeroed}
@@ -132,11 +132,11 @@ module _ (b : List ℕ) (d m : ℕ) (p ks : List ℕ) (g : Bool) (code records e
     place-is : place L p₁ s ≡ root
     place-is = path-root p₁ table
 
-    module _ (p₂ : List ℕ) (r : Low) (S : Says (own-piece C t (place L p₁ s) 0 c (0 + 16 * size f)) L c p₁ p₂ r) where
+    module _ (p₂ : List ℕ) (r : Low) (S : Says (own-piece C t (place L p₁ s) 0 c (0 + node-size * size f)) L c p₁ p₂ r) where
       -- ---- refused
 
       module _ (n k : ℕ) (e : r ≡ Faulty n k) where
-        pub R : Refused (own-piece C t (place L p₁ s) 0 c (0 + 16 * size f)) L c p₁ p₂ n k
+        pub R : Refused (own-piece C t (place L p₁ s) 0 c (0 + node-size * size f)) L c p₁ p₂ n k
         R = refused _ L c p₁ p₂ r n k S e
 
         pub is-fault : O ≡ some (R .x)
@@ -162,7 +162,7 @@ module _ (b : List ℕ) (d m : ℕ) (p ks : List ℕ) (g : Bool) (code records e
       -- ---- a program
 
       module _ (v : Value) (z : Cursor) (e : r ≡ Done v z) (kn : ℕ) (ek : kn ≡ kind-number (kind-if (v .boolean))) where
-        T : Taken (own-piece C t (place L p₁ s) 0 c (0 + 16 * size f)) L c p₁ p₂ v z
+        T : Taken (own-piece C t (place L p₁ s) 0 c (0 + node-size * size f)) L c p₁ p₂ v z
         T = taken _ L c p₁ p₂ r v z S e
 
         no-fault : O ≡ none
@@ -170,7 +170,7 @@ module _ (b : List ℕ) (d m : ℕ) (p ks : List ℕ) (g : Bool) (code records e
         no-fault = ap (λ (y : Path). fault C t y) (sym place-is) ∙ T .faultless
 
         abbrev X : List ℕ
-        X = rows t 0 1 0 0 0
+        X = slots t 0 1 0 0 0
 
         abbrev Y : List ℕ
         Y = below t root 0 1
@@ -206,7 +206,7 @@ module _ (b : List ℕ) (d m : ℕ) (p ks : List ℕ) (g : Bool) (code records e
         head-is = rw (ec, z-reg, v-a, sym (length-map ks), ek, v-boolean, kind-back (kind t), er, ee)
 
         len-x : length X ≡ 24 * code
-        len-x = length-rows t 0 1 0 0 0 ∙ ap (λ (y : ℕ). 24 * y) (sym ec)
+        len-x = length-slots t 0 1 0 0 0 ∙ ap (λ (y : ℕ). 24 * y) (sym ec)
 
         len-y : length Y + 12 ≡ 12 * records
         len-y = omega (arith, length-below t root 0 1, er, inner-is t)
@@ -218,7 +218,7 @@ module _ (b : List ℕ) (d m : ℕ) (p ks : List ℕ) (g : Bool) (code records e
         R₀ = little-endian 4 0 ++ little-endian 4 0 ++ little-endian 4 4
 
         assembled : (p₃ : List ℕ) → p₃ ≡ over p₂ 0 H → p₃ ≡ over p 0 (image C f)
-        unfolding image rows below lists
+        unfolding image slots below lists
         assembled p₃ e₃ =
             let q₁ : over p₁ 32 X ≡ over p 32 (X ++ R₀) =
             ap (λ (y : List ℕ). over y 32 X) (e₁ ∙ ap (λ (i : ℕ). over p i R₀) (let w : table ≡ 32 + length X = omega (arith, len-x) in w))

@@ -1,4 +1,15 @@
 // Formula bytes and a name line in, program bytes out; reference `compile_prepared`.
+use layout::CODE_AT;
+use layout::ENTRIES_AT;
+use layout::ENTRY_SIZE;
+use layout::HEADER_SIZE;
+use layout::INPUTS_AT;
+use layout::KIND_AT;
+use layout::PATHS_AT;
+use layout::RECORD_SIZE;
+use layout::REGISTERS_AT;
+use layout::RESULT_AT;
+use layout::SLOT_SIZE;
 use lower::Cursor;
 use lower::Layout;
 use lower::Low;
@@ -9,6 +20,7 @@ use names::read_names;
 use paths::write_path;
 use paths::write_root;
 use paths::zero_from;
+use reader::NODE_SIZE;
 use reader::is_formula;
 use reader::within_limits;
 use refusals::EXPRESSION_LIMIT;
@@ -40,6 +52,13 @@ ghost use Rattle.compile.specs.Entry.{answer};
 ghost use Rattle.compile.specs.Preparation.{Formed, preparation};
 ghost use Rattle.compile.specs.Outcome.{Fits, answer-to, fault-place, lowered-to, slice-after};
 
+// "240 bytes for each 16 bytes of formula, a last part counted as 16"
+pub const NODE_ROOM: usize = 240;
+
+const LAST_PART: usize = NODE_SIZE - 1;
+
+const BYTE_ROOM: usize = NODE_ROOM / NODE_SIZE;
+
 // A program stands in its slice, or compile refused by a number.
 pub enum Answer {
     Program,
@@ -61,13 +80,13 @@ fn put_header(
     ensures { λ _. ⌜ now (p .exit) ≡ over (now (p .entry)) 0 (little-endian 4 magic ++ little-endian 4 code ++ little-endian 4 registers ++ little-endian 4 result ++ little-endian 4 inputs ++ little-endian 4 kind ++ little-endian 4 paths ++ little-endian 4 entries) ⌝ }
 {
     put_word(p, 0, 0x3152_4256);
-    put_word(p, 4, code);
-    put_word(p, 8, registers);
-    put_word(p, 12, result);
-    put_word(p, 16, inputs);
-    put_word(p, 20, kind);
-    put_word(p, 24, paths);
-    put_word(p, 28, entries);
+    put_word(p, CODE_AT, code);
+    put_word(p, REGISTERS_AT, registers);
+    put_word(p, RESULT_AT, result);
+    put_word(p, INPUTS_AT, inputs);
+    put_word(p, KIND_AT, kind);
+    put_word(p, PATHS_AT, paths);
+    put_word(p, ENTRIES_AT, entries);
 }
 
 // A kind's number.
@@ -94,8 +113,8 @@ fn write_counted(
     requires { ⌜ (code ≡ instruction-count (term (tree-in d (now b) 0))) × (records ≡ path-count (term (tree-in d (now b) 0))) × (entries ≡ entry-count (term (tree-in d (now b) 0))) ⌝ }
     ensures { λ r. ⌜ (r ≡ answer-to (fault (context-of (now (kinds .entry)) generated) (term (tree-in d (now (b .entry)) 0)) root)) × (now (p .exit) ≡ slice-after (context-of (now (kinds .entry)) generated) (tree-in d (now (b .entry)) 0) (fault (context-of (now (kinds .entry)) generated) (term (tree-in d (now (b .entry)) 0)) root) (now (p .entry))) × (now (path .exit) ≡ placed (fault-place (fault (context-of (now (kinds .entry)) generated) (term (tree-in d (now (b .entry)) 0)) root)) (now (path .entry))) ⌝ }
 {
-    let table = 32 + 24 * code;
-    let lists = table + 12 * records;
+    let table = HEADER_SIZE + SLOT_SIZE * code;
+    let lists = table + RECORD_SIZE * records;
     put_record(p, table, 0, 0, 4);
     let l = Layout {
         paths: table,
@@ -115,7 +134,7 @@ fn write_counted(
         Low::Done(v, e) => {
             let kind = kind_of(v.boolean);
             put_header(p, code, e.reg, v.a, kinds.len(), kind, records, entries);
-            zero_from(p, lists + 4 * entries);
+            zero_from(p, lists + ENTRY_SIZE * entries);
             Answer::Program
         }
         Low::Fault(n, k) => {
@@ -172,7 +191,7 @@ pub fn prepare(formula: &[u8], names: &[u8], path: usize, program: usize) -> Pre
     if path < 8192 {
         return unprepared(SLICE_TOO_SHORT);
     }
-    if program / 240 < (formula.len() + 15) / 16 {
+    if program / NODE_ROOM < (formula.len() + LAST_PART) / NODE_SIZE {
         return unprepared(SLICE_TOO_SHORT);
     }
     let read = is_formula(formula);
@@ -237,14 +256,14 @@ fn lower_into(formula: &[u8], kinds: &[u8], path: &mut [u8], own: &mut [u8]) -> 
 {
     let a = write(
         formula,
-        &mut own[..15 * formula.len()],
+        &mut own[..BYTE_ROOM * formula.len()],
         path,
         kinds,
         false,
         32,
     );
     match a {
-        Answer::Program => Lowered::Kind(own[20] == 1),
+        Answer::Program => Lowered::Kind(own[KIND_AT] == 1),
         Answer::Refused(n) => Lowered::Refused(n),
     }
 }

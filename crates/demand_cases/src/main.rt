@@ -190,7 +190,17 @@ fn by_machine(
         demand::Wanted::Formula
     };
     demand::make_and_play(
-        formula, names, wanted, tree, program, inputs, registers, path, rooms, budgets, flags,
+        formula,
+        names,
+        wanted,
+        tree,
+        program,
+        inputs,
+        registers,
+        path,
+        rooms,
+        budgets,
+        flags,
         values,
     )
 }
@@ -264,8 +274,19 @@ fn by_host(
         hosted::Wanted::Formula
     };
     hosted::make_and_call(
-        formula, names, wanted, tree, program, inputs, registers, path, rooms, budgets, flags,
-        values, cells,
+        formula,
+        names,
+        wanted,
+        tree,
+        program,
+        inputs,
+        registers,
+        path,
+        rooms,
+        budgets,
+        flags,
+        values,
+        cells,
     )
 }
 
@@ -296,7 +317,18 @@ fn both(
     cells: &mut [u64],
 ) -> bool {
     let p = by_machine(
-        h, formula, names, tree, program, inputs, registers, path, rooms, budgets, flags, values,
+        h,
+        formula,
+        names,
+        tree,
+        program,
+        inputs,
+        registers,
+        path,
+        rooms,
+        budgets,
+        flags,
+        values,
     );
     let same = is_played(b, p);
     if !same {
@@ -307,7 +339,18 @@ fn both(
         return false;
     }
     let n = by_host(
-        h, formula, names, tree, program, inputs, registers, path, rooms, budgets, flags, values,
+        h,
+        formula,
+        names,
+        tree,
+        program,
+        inputs,
+        registers,
+        path,
+        rooms,
+        budgets,
+        flags,
+        values,
         cells,
     );
     if n != size(b, 0) {
@@ -355,8 +398,22 @@ fn beginning(
         return false;
     }
     both(
-        h, &b, &text, &after, formula, names, tree, program, inputs, registers, path, rooms,
-        budgets, flags, values, &mut cells,
+        h,
+        &b,
+        &text,
+        &after,
+        formula,
+        names,
+        tree,
+        program,
+        inputs,
+        registers,
+        path,
+        rooms,
+        budgets,
+        flags,
+        values,
+        &mut cells,
     )
 }
 
@@ -417,7 +474,18 @@ fn turned_away(
     cells: &mut [u64],
 ) -> bool {
     let p = by_machine(
-        h, formula, names, tree, program, inputs, registers, path, rooms, budgets, flags, values,
+        h,
+        formula,
+        names,
+        tree,
+        program,
+        inputs,
+        registers,
+        path,
+        rooms,
+        budgets,
+        flags,
+        values,
     );
     let same = is_turned_away(p, h.answer);
     if !same {
@@ -428,7 +496,18 @@ fn turned_away(
         return false;
     }
     let n = by_host(
-        h, formula, names, tree, program, inputs, registers, path, rooms, budgets, flags, values,
+        h,
+        formula,
+        names,
+        tree,
+        program,
+        inputs,
+        registers,
+        path,
+        rooms,
+        budgets,
+        flags,
+        values,
         cells,
     );
     n == h.answer && is_placed(path, text, h.text, path.len())
@@ -502,14 +581,36 @@ fn listed(
     }
     if h.answer == 0 {
         return beginnings(
-            h, formula, names, tree, program, inputs, registers, path, rooms, budgets, flags,
+            h,
+            formula,
+            names,
+            tree,
+            program,
+            inputs,
+            registers,
+            path,
+            rooms,
+            budgets,
+            flags,
             values,
         );
     }
     let mut cells = [0u64; 16];
     turned_away(
-        h, text, formula, names, tree, program, inputs, registers, path, rooms, budgets, flags,
-        values, &mut cells,
+        h,
+        text,
+        formula,
+        names,
+        tree,
+        program,
+        inputs,
+        registers,
+        path,
+        rooms,
+        budgets,
+        flags,
+        values,
+        &mut cells,
     )
 }
 

@@ -11,6 +11,7 @@ ghost use Prim.Native.Nat.{_*_, _≤_};
 ghost use lib.ListN.{length};
 use check::same;
 use differentiate::write_derivative;
+use reader::NODE_SIZE;
 use reader::half;
 use reader::is_formula;
 use reader::within_limits;
@@ -40,7 +41,7 @@ fn derive(f: &[u8], by: By, out: &mut [u8]) -> Answer {
                 if whole.levels > 128 {
                     return Answer::Refused(4);
                 }
-                if out.len() / 16 < whole.nodes {
+                if out.len() / NODE_SIZE < whole.nodes {
                     return Answer::Refused(1);
                 }
                 return Answer::Tree(write_derivative(f, 32, by, &table, out));
@@ -115,13 +116,21 @@ fn next_case() -> Case {
     let mut f = [0u8; 4096];
     let mut tree = [0u8; 16384];
     let mut out = [255u8; 16384];
-    fill(&mut f, 16 * nodes);
-    fill(&mut tree, 16 * size);
+    fill(&mut f, NODE_SIZE * nodes);
+    fill(&mut tree, NODE_SIZE * size);
     let by = By {
         symbol: wide(head[1]),
         state: head[2] == 1,
     };
-    let right = compare(&f, 16 * nodes, by, head[0], &tree, 16 * size, &mut out);
+    let right = compare(
+        &f,
+        NODE_SIZE * nodes,
+        by,
+        head[0],
+        &tree,
+        NODE_SIZE * size,
+        &mut out,
+    );
     if right { Case::Same } else { Case::Other }
 }
 

@@ -14,6 +14,7 @@ use Rattle.formula.specs.Formula.{Formula, derivative-limit, size}
 use Rattle.formula.specs.Names.{Parameter, Symbol, kinds}
 use Rattle.formula.specs.Path.{Path, placed, root}
 use Rattle.formula.specs.Term.{term}
+use Rattle.formula.specs.Node.{node-size}
 use Rattle.machine.specs.Check.{Fault, fault, kind}
 use Rattle.machine.specs.Compile.{Compiled, compile, lowered-or, own-context, program-room}
 use Rattle.machine.specs.Compile as Compile
@@ -59,22 +60,22 @@ module _ (tree program : ℕ) (ss : List Symbol) (o : Option Formula) where
     module _ (h : derivative-limit d ≡ true) where
       pub tree-short : tree / 16 < size d → fitted tree program ss o ≡ refused 1 none
       tree-short k =
-          let x : ltb tree (16 * size d) ≡ true = lt-ltb tree (16 * size d) (omega arith) in
+          let x : ltb tree (node-size * size d) ≡ true = lt-ltb tree (node-size * size d) (omega arith) in
           ap (fitted tree program ss) e ∙ rw (h, x)
 
       pub program-short : program / 240 < size d → fitted tree program ss o ≡ refused 1 none
       program-short k =
-          let y : ltb program (program-room (16 * size d)) ≡ true = lt-ltb program (program-room (16 * size d)) (omega arith) in
-          ap (fitted tree program ss) e ∙ either (ltb tree (16 * size d)) refl y
+          let y : ltb program (program-room (node-size * size d)) ≡ true = lt-ltb program (program-room (node-size * size d)) (omega arith) in
+          ap (fitted tree program ss) e ∙ either (ltb tree (node-size * size d)) refl y
         where
-          either : (u : Bool) → ltb tree (16 * size d) ≡ u → ltb program (program-room (16 * size d)) ≡ true → fitted tree program ss (some d) ≡ refused 1 none
+          either : (u : Bool) → ltb tree (node-size * size d) ≡ u → ltb program (program-room (node-size * size d)) ≡ true → fitted tree program ss (some d) ≡ refused 1 none
           either true x y = rw (h, x)
           either false x y = rw (h, x, y)
 
       pub long-enough : size d ≤ tree / 16 → size d ≤ program / 240 → fitted tree program ss o ≡ derived d ss
       long-enough j k =
-          let x : ltb tree (16 * size d) ≡ false = le-ltb tree (16 * size d) (omega arith) in
-          let y : ltb program (program-room (16 * size d)) ≡ false = le-ltb program (program-room (16 * size d)) (omega arith) in
+          let x : ltb tree (node-size * size d) ≡ false = le-ltb tree (node-size * size d) (omega arith) in
+          let y : ltb program (program-room (node-size * size d)) ≡ false = le-ltb program (program-room (node-size * size d)) (omega arith) in
           ap (fitted tree program ss) e ∙ rw (h, x, y)
 
 -- ---- after a formula within the limits, over its symbols

@@ -12,7 +12,7 @@ use borrow.Author.Tests.{leb-true}
 use Rattle.formula.specs.Text.{zeros}
 use Rattle.formula.specs.Formula.{Formula, depth, size, well-formed}
 use Rattle.formula.specs.Names.{Symbol}
-use Rattle.formula.specs.Node.{encode, formula-of, tree-in}
+use Rattle.formula.specs.Node.{encode, formula-of, tree-in, node-size}
 use Rattle.formula.specs.Path.{placed, root}
 use Rattle.formula.specs.Term.{term}
 use Rattle.machine.specs.Check.{Context, Fault, fault}
@@ -61,11 +61,11 @@ module _ (b K : List ℕ) (s : ℕ) (st : Bool) (program : ℕ) (f : Formula) (s
     pub derivative-read : formula-of (encode d) ≡ some d
     derivative-read = formula-encode d (derivative-writable s (by-state ss s) f d formula-writable (D .derives))
 
-    module _ (t t₁ t₂ : List ℕ) (n : ℕ) (room : 16 * size d ≤ length t) (W : Writes (encode d) t t₁ n) (e : t₂ ≡ zeroed t₁ n) where
+    module _ (t t₁ t₂ : List ℕ) (n : ℕ) (room : node-size * size d ≤ length t) (W : Writes (encode d) t t₁ n) (e : t₂ ≡ zeroed t₁ n) where
       abbrev l : ℕ
       l = length (encode d)
 
-      n-is : n ≡ 16 * size d
+      n-is : n ≡ node-size * size d
       n-is = W .count ∙ encode-length d
 
       long : length t₁ ≡ length t

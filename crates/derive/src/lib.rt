@@ -19,6 +19,7 @@ ghost use Rattle.differentiate.specs.Written.{Job};
 ghost use Rattle.compile.specs.Preparation.{Formed};
 ghost use Rattle.derive.specs.Outcome.{Derivable, Derives, Leaves};
 use compile::Lowered;
+use compile::NODE_ROOM;
 use compile::Reading;
 use compile::lower_own;
 use compile::prepare;
@@ -27,6 +28,7 @@ use compile::write;
 use differentiate::write_derivative;
 use paths::write_root;
 use paths::zero_from;
+use reader::NODE_SIZE;
 use refusals::EXPRESSION_LIMIT;
 use refusals::SLICE_TOO_SHORT;
 use refusals::UNKNOWN_SYMBOL;
@@ -67,7 +69,7 @@ fn write_both(
     let n = write_derivative(formula, 32, by, table, tree);
     zero_from(tree, n);
     write(&tree[..n], program, path, kinds, true, 128);
-    n / 16
+    n / NODE_SIZE
 }
 
 // Of a formula that compiles to a Number: "8 at `root` from the rules, 4 at `root` if the finished tree is too large, 1 if the
@@ -100,11 +102,11 @@ fn derive_number(
         refuse_at_root(path, tree);
         return Answer::Refused(EXPRESSION_LIMIT);
     }
-    if tree.len() / 16 < whole.nodes {
+    if tree.len() / NODE_SIZE < whole.nodes {
         zero_from(tree, 0);
         return Answer::Refused(SLICE_TOO_SHORT);
     }
-    if program.len() / 240 < whole.nodes {
+    if program.len() / NODE_ROOM < whole.nodes {
         zero_from(tree, 0);
         return Answer::Refused(SLICE_TOO_SHORT);
     }

@@ -7,7 +7,7 @@ use native.Mathlib.Omega.{arith}
 use lib.ListN.{length, getD, take, drop, length-append}
 use Rattle.formula.specs.Text.{half-at}
 use Rattle.formula.specs.Formula.{Formula, number, node, last, size, well-formed}
-use Rattle.formula.specs.Node.{Fields, encode, node-bytes, inner-fields, tree-in}
+use Rattle.formula.specs.Node.{Fields, encode, node-bytes, inner-fields, tree-in, node-size}
 use Rattle.reader.proofs.Bytes.{Bytes}
 use Rattle.reader.proofs.Encode.{copied-tree, encode-length}
 use Rattle.survey.specs.Derived.{child-of, zero-literal}
@@ -36,22 +36,22 @@ unfolding encode node-bytes
 literal-is b x0 x1 x2 x3 x4 x5 x6 x7 e0 e1 e2 e3 e4 e5 e6 e7 = rw (e0, e1, e2, e3, e4, e5, e6, e7)
 
 module _ (f T : List ℕ) (k : ℕ) (o : Owned f T k) where
-  pub tree-room : 16 * k + 16 * getD T (8 * k) 0 ≤ length f
+  pub tree-room : node-size * k + node-size * getD T (8 * k) 0 ≤ length f
   tree-room = omega (arith, own-row f T k o .nodes, tree-ends f k (o .formed))
 
-  pub tree-bytes : Bytes f → (n : ℕ) → n ≡ 16 * getD T (8 * k) 0 → take n (drop (16 * k) f) ≡ encode (tree f k)
+  pub tree-bytes : Bytes f → (n : ℕ) → n ≡ node-size * getD T (8 * k) 0 → take n (drop (node-size * k) f) ≡ encode (tree f k)
   unfolding tree
   tree-bytes h n e =
-      let p : n ≡ 16 * size (tree f k) = omega (arith, own-row f T k o .nodes) in
-      ap (λ (m : ℕ). take m (drop (16 * k) f)) p ∙ sym (copied-tree f h (length f) (16 * k) (o .formed))
+      let p : n ≡ node-size * size (tree f k) = omega (arith, own-row f T k o .nodes) in
+      ap (λ (m : ℕ). take m (drop (node-size * k) f)) p ∙ sym (copied-tree f h (length f) (node-size * k) (o .formed))
 
-  pub tree-fits : (out : List ℕ) → length (encode (tree f k)) ≤ length out → 16 * getD T (8 * k) 0 ≤ length out
+  pub tree-fits : (out : List ℕ) → length (encode (tree f k)) ≤ length out → node-size * getD T (8 * k) 0 ≤ length out
   tree-fits out h = omega (arith, own-row f T k o .nodes, encode-length (tree f k))
 
 pub child-text : (f : List ℕ) (k i r : ℕ) → IsChild f k i r → encode (tree f r) ≡ encode (child-of (tree f k) i)
 child-text f k i r c = ap encode (sym (child-is f k i r c))
 
-pub none-text : (f : List ℕ) (k i : ℕ) → well-formed (tree f k) ≡ true → half-at f (16 * k + 2) ≤ i → literal-bytes 0 ≡ encode (child-of (tree f k) i)
+pub none-text : (f : List ℕ) (k i : ℕ) → well-formed (tree f k) ≡ true → half-at f (node-size * k + 2) ≤ i → literal-bytes 0 ≡ encode (child-of (tree f k) i)
 none-text f k i w h = ap encode (sym (child-none f k i w h))
 
 pub literal-room : (x : List ℕ) (n b : ℕ) → literal-bytes b ≡ x → length x ≤ n → 16 ≤ n

@@ -11,7 +11,7 @@ use borrow.Author.Tests.{eq-eqb, ne-eqb}
 use Rattle.formula.specs.Operator.{binary, Add, Multiply}
 use Rattle.formula.specs.Text.{half-at}
 use Rattle.formula.specs.Formula.{Head, Formula, Formulas, number, operation, node, last, next, of-list, count, size, depth, depends, well-formed}
-use Rattle.formula.specs.Node.{Fields, encode, encode-all, node-bytes, inner-fields, fields-of}
+use Rattle.formula.specs.Node.{Fields, encode, encode-all, node-bytes, inner-fields, fields-of, node-size}
 use Rattle.derivative.specs.Rules.{Rule, Rules, child, whole, diff, make, lit, 0·0, instance, instances, add-of, mul-of, extremum-from, unless-zero}
 use Rattle.derivative.specs.Differentiate.{formulas, the-rule}
 use Rattle.derivative.specs.Attributes.{Attributes, attribute-algebra, attributes-of}
@@ -248,7 +248,7 @@ module _ (s : ℕ) (b : Bool) (f T : List ℕ) (k : ℕ) (o : Known s b f T k) w
 pub diff-text : (s : ℕ) (b : Bool) (f : List ℕ) (k i r : ℕ) → IsChild f k i r → encode (derived s b (tree f r)) ≡ encode (derived-of s b (tree f k) i)
 diff-text s b f k i r c = ap encode (sym (derived-is s b f k i r c))
 
-pub no-diff : (s : ℕ) (b : Bool) (f : List ℕ) (k i : ℕ) → well-formed (tree f k) ≡ true → half-at f (16 * k + 2) ≤ i → literal-bytes 0 ≡ encode (derived-of s b (tree f k) i)
+pub no-diff : (s : ℕ) (b : Bool) (f : List ℕ) (k i : ℕ) → well-formed (tree f k) ≡ true → half-at f (node-size * k + 2) ≤ i → literal-bytes 0 ≡ encode (derived-of s b (tree f k) i)
 no-diff s b f k i w h = ap encode (sym (derived-none s b f k i w h))
 
 pub task-as : (s : ℕ) (b : Bool) (f T : List ℕ) (k d : ℕ) (x y out : List ℕ) → x ≡ y → Task s b f T k d y out → Task s b f T k d x out

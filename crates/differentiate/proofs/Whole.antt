@@ -9,7 +9,7 @@ use lib.ListN.{length}
 use lib.Dec.{leb}
 use borrow.Author.Tests.{leb-true}
 use Rattle.formula.specs.Formula.{Formula, size, depth, within}
-use Rattle.formula.specs.Node.{encode, node-bytes, inner-fields, tree-at, formula-of}
+use Rattle.formula.specs.Node.{encode, node-bytes, inner-fields, tree-at, formula-of, node-size}
 use Rattle.derivative.specs.Differentiate.{differentiate, derivative, and-then, with-primal}
 use Rattle.derivative.specs.Attributes.{Attributes, Survey, attributes-of, survey, primal-attributes}
 use Rattle.derivative.proofs.Attributes.{survey-right, map-option}
@@ -112,7 +112,7 @@ module _ (s : ℕ) (b : Bool) (f T T′ : List ℕ) (levels : ℕ) (room : Room 
       p ∙ ap (λ (x : Attributes). primal-attributes x (reading (r .diff)) .nodes) own ∙ ap (λ (x : Attributes). primal-attributes (attributes-of u) x .nodes) df
       ∙ omega (arith, ap size w)
 
-  pub job-of : (n : ℕ) (out : List ℕ) → n ≡ primal-attributes (reading (r .own)) (reading (r .diff)) .nodes → n ≤ 16384 → 16 * n ≤ length out → Job s b f T′ levels out
+  pub job-of : (n : ℕ) (out : List ℕ) → n ≡ primal-attributes (reading (r .own)) (reading (r .diff)) .nodes → n ≤ 16384 → node-size * n ≤ length out → Job s b f T′ levels out
   job-of n out p h k =
       record {
         known = known-of s b f T T′ levels room l i;

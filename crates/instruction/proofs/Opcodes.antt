@@ -11,7 +11,7 @@ use Rattle.arithmetic.specs.Value.{0f, is-zero}
 use Rattle.formula.specs.Text.{byte-at, half-at, long-at, word-at}
 use Rattle.meaning.specs.Work.{advance, give}
 use Rattle.machine.specs.Program.{jump}
-use Rattle.layout.specs.Decode.{op-at, ops, row-at}
+use Rattle.layout.specs.Decode.{op-at, ops, slot-at}
 use Rattle.work.specs.View.{shown}
 use Rattle.work.specs.Opcode.{work-of}
 use Rattle.work.specs.declared.Outcome.{Outcome}
@@ -87,58 +87,58 @@ module _ (b : List ℕ) (at : ℕ) (kept regs : List Float) where
 
 module _ (inputs : List Float) (b : List ℕ) (n : ℕ) (kept regs : List Float) where
   -- the instruction n by its opcode
-  by-op : (op : ℕ) {e : Effect} → op ≡ byte-at b (row-at n) → e ≡ shown-effect inputs (op-of b n op) n kept regs → e ≡ effect-at inputs b n kept regs
+  by-op : (op : ℕ) {e : Effect} → op ≡ byte-at b (slot-at n) → e ≡ shown-effect inputs (op-of b n op) n kept regs → e ≡ effect-at inputs b n kept regs
   unfolding effect-at op-at op-of
   by-op op eo e = e ∙ ap (λ (o : ℕ). shown-effect inputs (op-of b n o) n kept regs) eo
 
-  pub operation-is : (op : ℕ) {e : Effect} → op ≡ byte-at b (row-at n) → 4 < op → e ≡ operation-at b (row-at n) op kept regs → e ≡ effect-at inputs b n kept regs
+  pub operation-is : (op : ℕ) {e : Effect} → op ≡ byte-at b (slot-at n) → 4 < op → e ≡ operation-at b (slot-at n) op kept regs → e ≡ effect-at inputs b n kept regs
   unfolding operation-at op-of
   operation-is op eo l e = by-op op eo (e ∙ ⊎-elim (λ h. inside op l h) (λ h. past op h) (lt-or-ge op 35))
     where
       inside : (o : ℕ) → 4 < o → o < 35
-          → shown-effect [] (getD (ops b 0 (half-at b (row-at n + 2)) (word-at b (row-at n + 8)) (word-at b (row-at n + 12)) (word-at b (row-at n + 16))) o (jump 0)) 0 kept regs
+          → shown-effect [] (getD (ops b 0 (half-at b (slot-at n + 2)) (word-at b (slot-at n + 8)) (word-at b (slot-at n + 12)) (word-at b (slot-at n + 16))) o (jump 0)) 0 kept regs
           ≡ shown-effect inputs (op-of b n o) n kept regs
       inside o l h =
-          one-of (λ (m : ℕ). shown-effect [] (getD (ops b 0 (half-at b (row-at n + 2)) (word-at b (row-at n + 8)) (word-at b (row-at n + 12)) (word-at b (row-at n + 16))) m (jump 0)) 0 kept regs
+          one-of (λ (m : ℕ). shown-effect [] (getD (ops b 0 (half-at b (slot-at n + 2)) (word-at b (slot-at n + 8)) (word-at b (slot-at n + 12)) (word-at b (slot-at n + 16))) m (jump 0)) 0 kept regs
           ≡ shown-effect inputs (op-of b n m) n kept regs) 30 5 o (omega arith) (omega arith)
           (refl, (refl, (refl, (refl, (refl, (refl, (refl, (refl, (refl, (refl, (refl, (refl, (refl, (refl, (refl, (refl, (refl, (refl, (refl, (refl, (refl, (refl, (refl, (refl, (refl, (refl, (refl, (refl, (refl, (refl, tt))))))))))))))))))))))))))))))
 
       past : (o : ℕ) → 35 ≤ o
-          → shown-effect [] (getD (ops b 0 (half-at b (row-at n + 2)) (word-at b (row-at n + 8)) (word-at b (row-at n + 12)) (word-at b (row-at n + 16))) o (jump 0)) 0 kept regs
+          → shown-effect [] (getD (ops b 0 (half-at b (slot-at n + 2)) (word-at b (slot-at n + 8)) (word-at b (slot-at n + 12)) (word-at b (slot-at n + 16))) o (jump 0)) 0 kept regs
           ≡ shown-effect inputs (op-of b n o) n kept regs
       past o h =
           ap (λ p. shown-effect [] p 0 kept regs)
-          (getD-past (ops b 0 (half-at b (row-at n + 2)) (word-at b (row-at n + 8)) (word-at b (row-at n + 12)) (word-at b (row-at n + 16))) o (jump 0) h)
+          (getD-past (ops b 0 (half-at b (slot-at n + 2)) (word-at b (slot-at n + 8)) (word-at b (slot-at n + 12)) (word-at b (slot-at n + 16))) o (jump 0) h)
           ∙ ap (λ p. shown-effect inputs p n kept regs)
-          (sym (getD-past (ops b (long-at b (row-at n + 8)) (half-at b (row-at n + 2)) (word-at b (row-at n + 8)) (word-at b (row-at n + 12)) (word-at b (row-at n + 16))) o (jump 0) h))
+          (sym (getD-past (ops b (long-at b (slot-at n + 8)) (half-at b (slot-at n + 2)) (word-at b (slot-at n + 8)) (word-at b (slot-at n + 12)) (word-at b (slot-at n + 16))) o (jump 0) h))
 
-  pub constant-is : (op bits : ℕ) (v : Float) → op ≡ byte-at b (row-at n) → op ≡ 0 → bits ≡ long-at b (row-at n + 8) → v ≡ ofBits binary64 bits → Work (Value v) ≡ effect-at inputs b n kept regs
+  pub constant-is : (op bits : ℕ) (v : Float) → op ≡ byte-at b (slot-at n) → op ≡ 0 → bits ≡ long-at b (slot-at n + 8) → v ≡ ofBits binary64 bits → Work (Value v) ≡ effect-at inputs b n kept regs
   unfolding op-of
   constant-is op bits v eo z eb e = by-op op eo (rw (z, e, eb))
 
-  pub load-is : (op i : ℕ) (v : Float) → op ≡ byte-at b (row-at n) → op ≡ 1 → i ≡ word-at b (row-at n + 8) → v ≡ getD inputs i 0f → Work (Value v) ≡ effect-at inputs b n kept regs
+  pub load-is : (op i : ℕ) (v : Float) → op ≡ byte-at b (slot-at n) → op ≡ 1 → i ≡ word-at b (slot-at n + 8) → v ≡ getD inputs i 0f → Work (Value v) ≡ effect-at inputs b n kept regs
   unfolding op-of
   load-is op i v eo z ei e = by-op op eo (rw (z, e, ei))
 
-  pub copy-is : (op i : ℕ) (v : Float) → op ≡ byte-at b (row-at n) → op ≡ 2 → i ≡ word-at b (row-at n + 8) → v ≡ getD regs i 0f → Work (Value v) ≡ effect-at inputs b n kept regs
+  pub copy-is : (op i : ℕ) (v : Float) → op ≡ byte-at b (slot-at n) → op ≡ 2 → i ≡ word-at b (slot-at n + 8) → v ≡ getD regs i 0f → Work (Value v) ≡ effect-at inputs b n kept regs
   unfolding op-of
   copy-is op i v eo z ei e = by-op op eo (rw (z, e, ei))
 
-  pub jump-is : (op t : ℕ) → op ≡ byte-at b (row-at n) → op ≡ 4 → t ≡ word-at b (row-at n + 16) → Jump t ≡ effect-at inputs b n kept regs
+  pub jump-is : (op t : ℕ) → op ≡ byte-at b (slot-at n) → op ≡ 4 → t ≡ word-at b (slot-at n + 16) → Jump t ≡ effect-at inputs b n kept regs
   unfolding op-of
   jump-is op t eo z et = by-op op eo (rw (z, et))
 
-  branch : (op i t : ℕ) (v : Float) (x : Bool) → op ≡ byte-at b (row-at n) → op ≡ 3 → i ≡ word-at b (row-at n + 8) → v ≡ getD regs i 0f → is-zero v ≡ x → t ≡ cond x (word-at b (row-at n + 16)) (suc n)
+  branch : (op i t : ℕ) (v : Float) (x : Bool) → op ≡ byte-at b (slot-at n) → op ≡ 3 → i ≡ word-at b (slot-at n + 8) → v ≡ getD regs i 0f → is-zero v ≡ x → t ≡ cond x (word-at b (slot-at n + 16)) (suc n)
       → Jump t ≡ effect-at inputs b n kept regs
   unfolding op-of
   branch op i t v x eo z ei e ex et =
-      let q : is-zero (getD regs (word-at b (row-at n + 8)) 0f) ≡ x = ap (λ (k : ℕ). is-zero (getD regs k 0f)) (sym ei) ∙ ap is-zero (sym e) ∙ ex in
+      let q : is-zero (getD regs (word-at b (slot-at n + 8)) 0f) ≡ x = ap (λ (k : ℕ). is-zero (getD regs k 0f)) (sym ei) ∙ ap is-zero (sym e) ∙ ex in
       by-op op eo (rw (z, q, et))
 
-  pub taken-is : (op i t : ℕ) (v : Float) → op ≡ byte-at b (row-at n) → op ≡ 3 → i ≡ word-at b (row-at n + 8) → v ≡ getD regs i 0f → is-zero v ≡ true → t ≡ word-at b (row-at n + 16)
+  pub taken-is : (op i t : ℕ) (v : Float) → op ≡ byte-at b (slot-at n) → op ≡ 3 → i ≡ word-at b (slot-at n + 8) → v ≡ getD regs i 0f → is-zero v ≡ true → t ≡ word-at b (slot-at n + 16)
       → Jump t ≡ effect-at inputs b n kept regs
   taken-is op i t v eo z ei e ex et = branch op i t v true eo z ei e ex et
 
-  pub passed-is : (op i t : ℕ) (v : Float) → op ≡ byte-at b (row-at n) → op ≡ 3 → i ≡ word-at b (row-at n + 8) → v ≡ getD regs i 0f → is-zero v ≡ false → t ≡ suc n
+  pub passed-is : (op i t : ℕ) (v : Float) → op ≡ byte-at b (slot-at n) → op ≡ 3 → i ≡ word-at b (slot-at n + 8) → v ≡ getD regs i 0f → is-zero v ≡ false → t ≡ suc n
       → Jump t ≡ effect-at inputs b n kept regs
   passed-is op i t v eo z ei e ex et = branch op i t v false eo z ei e ex et

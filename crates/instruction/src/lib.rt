@@ -7,6 +7,12 @@ ghost use Rattle.arithmetic.specs.Extremum.{held};
 ghost use Rattle.work.specs.View.{kept-values};
 ghost use Rattle.instruction.specs.Effects.{beyond, effect-at, extremum-at, operation-at};
 ghost use Rattle.instruction.specs.Progressing.{Progressed, machine-effect};
+use layout::CODE_AT;
+use layout::ENTRY_SIZE;
+use layout::HEADER_SIZE;
+use layout::PATHS_AT;
+use layout::RECORD_SIZE;
+use layout::SLOT_SIZE;
 use reader::byte;
 use reader::half;
 use reader::long;
@@ -62,11 +68,11 @@ fn extremum(most: bool, p: &[u8], count: usize, a: usize, regs: &[f64]) -> f64
     if count == 0 {
         return 0.0 / 0.0;
     }
-    let first = 32 + 24 * word(p, 4) + 12 * word(p, 24);
-    let mut extreme = value_at(regs, word(p, first + 4 * a));
+    let first = HEADER_SIZE + SLOT_SIZE * word(p, CODE_AT) + RECORD_SIZE * word(p, PATHS_AT);
+    let mut extreme = value_at(regs, word(p, first + ENTRY_SIZE * a));
     let mut i = 1;
     while i < count {
-        let next = value_at(regs, word(p, first + 4 * (a + i)));
+        let next = value_at(regs, word(p, first + ENTRY_SIZE * (a + i)));
         extreme = hold(most, extreme, next);
         i += 1;
     }
@@ -105,7 +111,7 @@ pub fn effect_at(p: &[u8], n: usize, inputs: &[f64], regs: &[f64], kept: Kept) -
     requires { ⌜ n < 4294967296 ⌝ }
     ensures { λ r. ⌜ r ≡ effect-at (now (inputs .entry)) (now (p .entry)) n (kept-values kept) (now (regs .entry)) ⌝ }
 {
-    let at = 32 + 24 * n;
+    let at = HEADER_SIZE + SLOT_SIZE * n;
     let op = byte(p, at) as usize;
     if 4 < op {
         return operation(op, p, at, regs, kept);
@@ -129,7 +135,7 @@ pub fn step(p: &[u8], n: usize, inputs: &[f64], regs: &mut [f64], kept: Kept) ->
     requires { ⌜ n < 4294967296 ⌝ }
     ensures { λ r. ⌜ Progressed (now (p .entry)) n (machine-effect (now (inputs .entry)) (now (p .entry)) n (kept-values kept) (now (regs .entry))) r (now (regs .entry)) (now (regs .exit)) ⌝ }
 {
-    let at = 32 + 24 * n;
+    let at = HEADER_SIZE + SLOT_SIZE * n;
     let e = effect_at(p, n, inputs, regs, kept);
     match e {
         Effect::Jump(to) => Progress::Next(to),

@@ -13,26 +13,26 @@ use Rattle.formula.specs.Term.{Term, Terms, _and_, apply, branch, branch-term, 
 use Rattle.machine.specs.Check.{Context}
 use Rattle.machine.specs.Lower.{instruction-count, instruction-counts, register-count, register-counts, result-registers}
 use Rattle.layout.specs.Opcode.{listing}
-use Rattle.layout.specs.Image.{below, below-all, entries, entry-count, entry-counts, header, image, lists, lists-all, operation-row, own-entries, path-count, path-counts, path-record, rows, rows-all}
+use Rattle.layout.specs.Image.{below, below-all, entries, entry-count, entry-counts, header, image, lists, lists-all, operation-slot, own-entries, path-count, path-counts, path-record, slots, slots-all}
 
 length-cond : (c : Bool) (a b : List ℕ) (n : ℕ) → length a ≡ n → length b ≡ n → length (cond c a b) ≡ n
 length-cond true a b n h l = h
 length-cond false a b n h l = l
 
-pub length-operation-row : (o : Operation) (is : List ℕ) (e d k : ℕ) → length (operation-row o is e d k) ≡ 24
-length-operation-row o is e d k = length-cond (listing o) _ _ 24 refl refl
+pub length-operation-slot : (o : Operation) (is : List ℕ) (e d k : ℕ) → length (operation-slot o is e d k) ≡ 24
+length-operation-slot o is e d k = length-cond (listing o) _ _ 24 refl refl
 
 mutual
-  unfolding rows
+  unfolding slots
 
-  pub length-rows : (t : Term) (k q r n e : ℕ) → length (rows t k q r n e) ≡ 24 * instruction-count t
-  length-rows (literal b) k q r n e = refl
-  length-rows (truth b) k q r n e = refl
-  length-rows (symbol i) k q r n e = refl
-  length-rows (apply o ts) k q r n e =
+  pub length-slots : (t : Term) (k q r n e : ℕ) → length (slots t k q r n e) ≡ 24 * instruction-count t
+  length-slots (literal b) k q r n e = refl
+  length-slots (truth b) k q r n e = refl
+  length-slots (symbol i) k q r n e = refl
+  length-slots (apply o ts) k q r n e =
       simp length-append
-      (omega (arith, length-rows-all ts k q r n e, length-operation-row o (result-registers ts r) (e + entry-counts ts) (r + register-counts ts) k))
-  length-rows (branch c y z) k q r n e =
+      (omega (arith, length-slots-all ts k q r n e, length-operation-slot o (result-registers ts r) (e + entry-counts ts) (r + register-counts ts) k))
+  length-slots (branch c y z) k q r n e =
       let q₁ = q + path-count c in
       let q₂ = q₁ + path-count y in
       let r₁ = suc (r + register-count c) in
@@ -41,17 +41,17 @@ mutual
       simp length-append
       (omega (
         arith,
-        length-rows c q (suc q) r n e,
-        length-rows y q₁ (suc q₁) r₁ n₁ e₁,
-        length-rows z q₂ (suc q₂) (suc (suc (r₁ + register-count y))) (suc (suc (n₁ + instruction-count y))) (e₁ + entry-count y),
+        length-slots c q (suc q) r n e,
+        length-slots y q₁ (suc q₁) r₁ n₁ e₁,
+        length-slots z q₂ (suc q₂) (suc (suc (r₁ + register-count y))) (suc (suc (n₁ + instruction-count y))) (e₁ + entry-count y),
       ))
-  length-rows miscounted k q r n e = refl
+  length-slots miscounted k q r n e = refl
 
-  pub length-rows-all : (ts : Terms) (k q r n e : ℕ) → length (rows-all ts k q r n e) ≡ 24 * instruction-counts ts
-  length-rows-all end k q r n e = refl
-  length-rows-all (t and ts) k q r n e =
+  pub length-slots-all : (ts : Terms) (k q r n e : ℕ) → length (slots-all ts k q r n e) ≡ 24 * instruction-counts ts
+  length-slots-all end k q r n e = refl
+  length-slots-all (t and ts) k q r n e =
       simp length-append
-      (omega (arith, length-rows t q (suc q) r n e, length-rows-all ts k (q + path-count t) (r + register-count t) (n + instruction-count t) (e + entry-count t)))
+      (omega (arith, length-slots t q (suc q) r n e, length-slots-all ts k (q + path-count t) (r + register-count t) (n + instruction-count t) (e + entry-count t)))
 
 pub length-path-record : (k : ℕ) (p : Path) → length (path-record k p) ≡ 12
 length-path-record k p = refl
@@ -129,7 +129,7 @@ pub length-image : (C : Context) (f : Formula)
 unfolding image
 length-image C f =
     let t = term f in
-    simp length-append (omega (arith, length-rows t 0 1 0 0 0, length-below t root 0 1, length-lists t 0))
+    simp length-append (omega (arith, length-slots t 0 1 0 0 0, length-below t root 0 1, length-lists t 0))
 
 -- ---- bounds: a leaf adds one of each, an operation too; a branch 4, 3 and 1; And and Or of m 5, 4 and 2 for each but one
 

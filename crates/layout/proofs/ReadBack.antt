@@ -22,12 +22,12 @@ use Rattle.machine.proofs.Laws.{length-lowered, length-lowered-all, none-left, 
 use Rattle.machine.proofs.Size.{Narrow, longest-path, narrow}
 use Rattle.machine.proofs.Valid.{program-valid}
 use Rattle.layout.specs.Opcode.{kind-number, listing}
-use Rattle.layout.specs.Image.{below, entries, entry-count, entry-counts, header, image, lists, lists-all, magic, path-count, path-counts, path-record, row, rows, rows-all, truth-bits}
-use Rattle.layout.specs.Decode.{code-count, entries-from, entry-at, entry-total, input-count, instructions, path-total, program-at, raw-program, record-at, records-ok, register-total, result-at, row-at, rows-ok, well-formed}
+use Rattle.layout.specs.Image.{below, entries, entry-count, entry-counts, header, image, lists, lists-all, magic, path-count, path-counts, path-record, slot, slots, slots-all, truth-bits}
+use Rattle.layout.specs.Decode.{code-count, entries-from, entry-at, entry-total, input-count, instructions, path-total, program-at, raw-program, record-at, records-ok, register-total, result-at, slot-at, slots-ok, well-formed}
 use Rattle.layout.proofs.Bytes.{Holds, head-word, holds-here, holds-left, holds-right, holds-seven, holds-word}
-use Rattle.layout.proofs.Lengths.{bounds, length-below, length-image, length-lists, length-lists-all, length-result-registers, length-rows, length-rows-all}
+use Rattle.layout.proofs.Lengths.{bounds, length-below, length-image, length-lists, length-lists-all, length-result-registers, length-slots, length-slots-all}
 use Rattle.layout.proofs.Literals.{All-literals, Literals}
-use Rattle.layout.proofs.Rows.{Reads, one-constant, one-copy, one-jump, one-jump-if-false, one-load, one-operation, reads-append, reads-instructions, reads-ok, reads-one}
+use Rattle.layout.proofs.Slots.{Reads, one-constant, one-copy, one-jump, one-jump-if-false, one-load, one-operation, reads-append, reads-instructions, reads-ok, reads-one}
 use Rattle.layout.proofs.Records.{Placed, Placed-all, named-path, named-root, placed}
 
 truth-back : (v : Bool) → ofBits binary64 (truth-bits v) ≡ truth-value v
@@ -64,9 +64,9 @@ module _ (C : Context) (b : List ℕ) (few : path-total b < 4294967296) (known :
   Within r n e q = (r < 4294967296) × (n < 4294967296) × (e < 65536) × (q ≤ path-total b)
 
   mutual
-    unfolding rows lists entry-at
+    unfolding slots lists entry-at
 
-    reads : (t : Term) (p : Path) (k r n e : ℕ) → fault C t p ≡ none → Literals t → Placed b t p k → Holds b (row-at n) (rows t k (suc k) r n e)
+    reads : (t : Term) (p : Path) (k r n e : ℕ) → fault C t p ≡ none → Literals t → Placed b t p k → Holds b (slot-at n) (slots t k (suc k) r n e)
         → Holds b (entry-at b e) (lists t r) → Within (r + register-count t) (n + instruction-count t) (e + entry-count t) (k + path-count t)
         → Reads b (lowered t p r n) n e (e + entry-count t)
     reads (literal v) p k r n e ok lit N h g fit =
@@ -82,7 +82,7 @@ module _ (C : Context) (b : List ℕ) (few : path-total b < 4294967296) (known :
         let nₒ = n + instruction-counts ts in
         let eₒ = e + entry-counts ts in
         let rₒ = r + register-counts ts in
-        let code = rows-all ts k (suc k) r n e in
+        let code = slots-all ts k (suc k) r n e in
         let many = length-result-registers ts r in
         let arity-ok = unless-none (arity o (term-count ts)) 5 p (none-left _ _ (none-right (faults C ts p 0) _ ok)) in
         let own = cond (listing o) (length is) 0 in
@@ -90,10 +90,10 @@ module _ (C : Context) (b : List ℕ) (few : path-total b < 4294967296) (known :
         let small = results-below ts r 4294967296 (omega arith) in
         let lists-there = holds-right b (entry-at b e) (lists-all ts r) _ (entry-at b eₒ) (omega (arith, length-lists-all ts r)) g in
         reads-append b (lowered-all ts p 0 r n) _ n nₒ e eₒ _ (omega (arith, length-lowered-all ts p 0 r n))
-        (reads-all ts p 0 k (suc k) r n e (none-left _ _ ok) lit (N .1) (holds-left b (row-at n) code _ h) (holds-left b (entry-at b e) (lists-all ts r) _ g) (omega arith))
+        (reads-all ts p 0 k (suc k) r n e (none-left _ _ ok) lit (N .1) (holds-left b (slot-at n) code _ h) (holds-left b (entry-at b e) (lists-all ts r) _ g) (omega arith))
         (reads-one b _ nₒ eₒ (eₒ + own) _ (omega arith)
         (one-operation b few nₒ eₒ k p (named-path b k p (N .0)) (omega arith) o is rₒ
-        (holds-right b (row-at n) code _ (row-at nₒ) (omega (arith, length-rows-all ts k (suc k) r n e)) h) (rw many arity-ok)
+        (holds-right b (slot-at n) code _ (slot-at nₒ) (omega (arith, length-slots-all ts k (suc k) r n e)) h) (rw many arity-ok)
         (λ l. entries-back b is eₒ (subst (λ c. Holds b (entry-at b eₒ) (entries (cond c is []))) l lists-there) small) (omega arith) (omega arith)
         (λ l. let all-own : own ≡ length is = ap (λ c. cond c (length is) 0) l in omega arith) small))
     reads (branch c y z) p k r n e ok lit N h g fit =
@@ -115,14 +115,14 @@ module _ (C : Context) (b : List ℕ) (few : path-total b < 4294967296) (known :
         let ok₄ = none-right (fault C y p₁) _ ok₃ in
         let named = named-path b k p (N .0) in
         let there : k < path-total b = omega arith in
-        let lc = length-rows c q (suc q) r n e in
-        let ly = length-rows y q₁ (suc q₁) r₁ n₁ e₁ in
-        let lz = length-rows z q₂ (suc q₂) (suc (suc r₂)) n₂ e₂ in
+        let lc = length-slots c q (suc q) r n e in
+        let ly = length-slots y q₁ (suc q₁) r₁ n₁ e₁ in
+        let lz = length-slots z q₂ (suc q₂) (suc (suc r₂)) n₂ e₂ in
         let H =
-        holds-seven b (row-at n) (rows c q (suc q) r n e) (row 3 0 (r + register-count c) (result-register c r) 0 n₂ k) (rows y q₁ (suc q₁) r₁ n₁ e₁)
-        (row 2 0 r₂ (result-register y r₁) 0 0 k) (row 4 0 (suc r₂) 0 0 (suc (n₂ + instruction-count z)) k) (rows z q₂ (suc q₂) (suc (suc r₂)) n₂ e₂)
-        (row-at (n + instruction-count c)) (row-at n₁) (row-at (n₁ + instruction-count y)) (row-at (suc (n₁ + instruction-count y))) (row-at n₂) (omega arith) (omega arith)
-        (omega arith) (omega arith) (omega arith) (row 2 0 r₂ (result-register z (suc (suc r₂))) 0 0 k) (row-at (n₂ + instruction-count z)) (omega arith) h in
+        holds-seven b (slot-at n) (slots c q (suc q) r n e) (slot 3 0 (r + register-count c) (result-register c r) 0 n₂ k) (slots y q₁ (suc q₁) r₁ n₁ e₁)
+        (slot 2 0 r₂ (result-register y r₁) 0 0 k) (slot 4 0 (suc r₂) 0 0 (suc (n₂ + instruction-count z)) k) (slots z q₂ (suc q₂) (suc (suc r₂)) n₂ e₂)
+        (slot-at (n + instruction-count c)) (slot-at n₁) (slot-at (n₁ + instruction-count y)) (slot-at (suc (n₁ + instruction-count y))) (slot-at n₂) (omega arith) (omega arith)
+        (omega arith) (omega arith) (omega arith) (slot 2 0 r₂ (result-register z (suc (suc r₂))) 0 0 k) (slot-at (n₂ + instruction-count z)) (omega arith) h in
         let g₂ = holds-left b (entry-at b e) (lists c r ++ lists y r₁) _ g in
         let mc = length-lists c r in
         let my = length-lists y r₁ in
@@ -151,20 +151,20 @@ module _ (C : Context) (b : List ℕ) (few : path-total b < 4294967296) (known :
     reads miscounted p k r n e ok lit N h g fit = absurd (let z : _≡_ {A = ℕ} 0 1 = cc in omega arith)
 
     reads-all : (ts : Terms) (p : Path) (i k q r n e : ℕ) → faults C ts p i ≡ none → All-literals ts → Placed-all b ts p i q
-        → Holds b (row-at n) (rows-all ts k q r n e) → Holds b (entry-at b e) (lists-all ts r)
+        → Holds b (slot-at n) (slots-all ts k q r n e) → Holds b (entry-at b e) (lists-all ts r)
         → Within (r + register-counts ts) (n + instruction-counts ts) (e + entry-counts ts) (q + path-counts ts) → Reads b (lowered-all ts p i r n) n e (e + entry-counts ts)
     reads-all end p i k q r n e ok lit N h g fit = omega arith
     reads-all (t and ts) p i k q r n e ok lit N h g fit =
         let pᵢ = p ▸ argument i in
-        let code = rows t q (suc q) r n e in
+        let code = slots t q (suc q) r n e in
         let r₁ = r + register-count t in
         let n₁ = n + instruction-count t in
         let e₁ = e + entry-count t in
         rw (let f : e + (entry-count t + entry-counts ts) ≡ e₁ + entry-counts ts = omega arith in f)
         (reads-append b (lowered t pᵢ r n) _ n n₁ e e₁ _ (omega (arith, length-lowered t pᵢ r n))
-        (reads t pᵢ q r n e (none-left _ _ ok) (lit .0) (N .0) (holds-left b (row-at n) code _ h) (holds-left b (entry-at b e) (lists t r) _ g) (omega arith))
+        (reads t pᵢ q r n e (none-left _ _ ok) (lit .0) (N .0) (holds-left b (slot-at n) code _ h) (holds-left b (entry-at b e) (lists t r) _ g) (omega arith))
         (reads-all ts p (suc i) k (q + path-count t) r₁ n₁ e₁ (none-right (fault C t pᵢ) _ ok) (lit .1) (N .1)
-        (holds-right b (row-at n) code _ (row-at n₁) (omega (arith, length-rows t q (suc q) r n e)) h)
+        (holds-right b (slot-at n) code _ (slot-at n₁) (omega (arith, length-slots t q (suc q) r n e)) h)
         (holds-right b (entry-at b e) (lists t r) _ (entry-at b e₁) (omega (arith, length-lists t r)) g) (omega arith)))
 
 -- ---- the header
@@ -213,7 +213,7 @@ header-back b C t small h =
 -- bytes with the four parts of a term's program
 pub record Written (b : List ℕ) (C : Context) (t : Term) : Type 0 where
   pub head : Holds b 0 (header C t)
-  pub code : Holds b 32 (rows t 0 1 0 0 0)
+  pub code : Holds b 32 (slots t 0 1 0 0 0)
   pub records : Holds b (32 + 24 * instruction-count t) (path-record 0 root ++ below t root 0 1)
   pub registers : Holds b (32 + 24 * instruction-count t + 12 * path-count t) (lists t 0)
   pub long : 32 + 24 * instruction-count t + 12 * path-count t + 4 * entry-count t ≤ length b
@@ -250,7 +250,7 @@ module _ (b : List ℕ) (C : Context) (t : Term) (W : Written b C t) (small : Sm
   written-well-formed =
       let H = head-read in
       let room : 32 + 24 * code-count b + 12 * path-total b + 4 * entry-total b ≤ length b = omega (arith, H .codes, H .paths, H .entries-all, W .long) in
-      let lines : rows-ok b (instruction-count t) 0 0 ≡ true =
+      let lines : slots-ok b (instruction-count t) 0 0 ≡ true =
       rw (length-lowered t root 0 0) at (reads-ok b (lowered t root 0 0) 0 0 _ code-read (omega (arith, H .entries-all))) in
       rw (
         le-leb 32 (length b) (omega arith),
@@ -281,11 +281,11 @@ written C f rest =
     let t = term f in
     let b = image C f ++ rest in
     let I = holds-here [] (image C f) rest in
-    let code = rows t 0 1 0 0 0 in
+    let code = slots t 0 1 0 0 0 in
     let records = path-record 0 root ++ below t root 0 1 in
     let h₂ = holds-left b 0 (header C t ++ code ++ records) (lists t 0) I in
     let h₁ = holds-left b 0 (header C t ++ code) records h₂ in
-    let lc = length-rows t 0 1 0 0 0 in
+    let lc = length-slots t 0 1 0 0 0 in
     let lb = length-below t root 0 1 in
     let l₁ : length (header C t ++ code) ≡ 32 + 24 * instruction-count t = length-append (header C t) code ∙ omega arith in
     let l₂ : length (header C t ++ code ++ records) ≡ 32 + 24 * instruction-count t + 12 * path-count t =

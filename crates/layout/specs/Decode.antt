@@ -32,15 +32,28 @@ path-total b = word-at b 24
 unfoldable pub entry-total : List ℕ → ℕ
 entry-total b = word-at b 28
 
--- where the parts stand
-abbrev pub row-at : ℕ → ℕ
-row-at n = 32 + 24 * n
+-- how long the parts are
+abbrev pub header-size : ℕ
+header-size = 32
+
+abbrev pub slot-size : ℕ
+slot-size = 24
+
+abbrev pub record-size : ℕ
+record-size = 12
+
+abbrev pub entry-size : ℕ
+entry-size = 4
+
+-- where they stand
+abbrev pub slot-at : ℕ → ℕ
+slot-at n = header-size + slot-size * n
 
 unfoldable pub record-at : List ℕ → ℕ → ℕ
-record-at b k = 32 + 24 * code-count b + 12 * k
+record-at b k = header-size + slot-size * code-count b + record-size * k
 
 unfoldable pub entry-at : List ℕ → ℕ → ℕ
-entry-at b j = 32 + 24 * code-count b + 12 * path-total b + 4 * j
+entry-at b j = header-size + slot-size * code-count b + record-size * path-total b + entry-size * j
 
 -- ---- lists
 
@@ -81,14 +94,14 @@ ops b bits count x y z =
 -- the operation of the instruction n; an opcode past the last is a jump to 0, which no program has
 unfoldable pub op-at : List ℕ → ℕ → Op
 op-at b n =
-    let at = row-at n in
+    let at = slot-at n in
     getD (ops b (long-at b (at + 8)) (half-at b (at + 2)) (word-at b (at + 8)) (word-at b (at + 12)) (word-at b (at + 16))) (byte-at b at) (jump 0)
 
 unfoldable pub destination-at : List ℕ → ℕ → ℕ
-destination-at b n = word-at b (row-at n + 4)
+destination-at b n = word-at b (slot-at n + 4)
 
 unfoldable pub path-number : List ℕ → ℕ → ℕ
-path-number b n = word-at b (row-at n + 20)
+path-number b n = word-at b (slot-at n + 20)
 
 -- ---- paths
 
@@ -138,9 +151,9 @@ abbrev pub zero-unless : Bool → ℕ → Bool
 zero-unless used n = used || eqb n 0
 
 -- opcode, a zero, unused fields, and a path number that there is
-unfoldable pub row-ok : List ℕ → ℕ → Bool
-row-ok b n =
-    let at = row-at n in
+unfoldable pub slot-ok : List ℕ → ℕ → Bool
+slot-ok b n =
+    let at = slot-at n in
     let o = byte-at b at in
     ltb o 35 && eqb (byte-at b (at + 1)) 0 && zero-unless (uses-list o) (half-at b (at + 2)) && zero-unless (uses-a o) (word-at b (at + 8))
     && zero-unless (uses-b o) (word-at b (at + 12)) && zero-unless (uses-c o) (word-at b (at + 16)) && ltb (path-number b n) (path-total b)
@@ -148,12 +161,12 @@ row-ok b n =
 -- the entry after an instruction's list, where its list begins at the next free one and has at least two entries
 unfoldable pub list-ok : List ℕ → ℕ → ℕ → Bool
 list-ok b n next =
-    cond (uses-list (byte-at b (row-at n))) (eqb (word-at b (row-at n + 8)) next && leb 2 (half-at b (row-at n + 2))) true
+    cond (uses-list (byte-at b (slot-at n))) (eqb (word-at b (slot-at n + 8)) next && leb 2 (half-at b (slot-at n + 2))) true
 
 -- `half-at` is zero where there is no list
-abbrev pub rows-ok : List ℕ → ℕ → ℕ → ℕ → Bool
-rows-ok b zero n next = eqb next (entry-total b)
-rows-ok b (suc left) n next = row-ok b n && list-ok b n next && rows-ok b left (suc n) (next + half-at b (row-at n + 2))
+abbrev pub slots-ok : List ℕ → ℕ → ℕ → ℕ → Bool
+slots-ok b zero n next = eqb next (entry-total b)
+slots-ok b (suc left) n next = slot-ok b n && list-ok b n next && slots-ok b left (suc n) (next + half-at b (slot-at n + 2))
 
 -- ---- the whole
 
@@ -174,8 +187,8 @@ raw-program b =
 -- magic, kind, all parts there, records and instructions as they may stand; what follows the parts is not looked at
 unfoldable pub well-formed : List ℕ → Bool
 well-formed b =
-    leb 32 (length b) && eqb (word-at b 0) magic && ltb (word-at b 20) 2 && leb (entry-at b (entry-total b)) (length b)
-    && records-ok b (path-total b) 0 && rows-ok b (code-count b) 0 0
+    leb header-size (length b) && eqb (word-at b 0) magic && ltb (word-at b 20) 2 && leb (entry-at b (entry-total b)) (length b)
+    && records-ok b (path-total b) 0 && slots-ok b (code-count b) 0 0
 
 abbrev pub no-program : Program
 no-program = record { code = []; registers = 0; result = 0; inputs = 0; kind = Number }

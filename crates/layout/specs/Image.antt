@@ -50,15 +50,15 @@ abbrev mutual
   entry-counts end = 0
   entry-counts (t and ts) = entry-count t + entry-counts ts
 
--- ---- an instruction, 24 bytes: opcode, a zero, the list's length in 2 bytes, destination, a, b, c, path number in 4 bytes each
+-- ---- an instruction's slot, 24 bytes: opcode, a zero, the list's length in 2 bytes, destination, a, b, c, path number in 4 bytes each
 
-abbrev pub row : ℕ → ℕ → ℕ → ℕ → ℕ → ℕ → ℕ → List ℕ
-row opcode count destination a b c path =
+abbrev pub slot : ℕ → ℕ → ℕ → ℕ → ℕ → ℕ → ℕ → List ℕ
+slot opcode count destination a b c path =
     opcode ∷ 0 ∷ little-endian 2 count ++ little-endian 4 destination ++ little-endian 4 a ++ little-endian 4 b ++ little-endian 4 c ++ little-endian 4 path
 
 -- a constant's bits stand in a and b
-abbrev pub constant-row : ℕ → ℕ → ℕ → List ℕ
-constant-row bits destination path =
+abbrev pub constant-slot : ℕ → ℕ → ℕ → List ℕ
+constant-slot bits destination path =
     0 ∷ 0 ∷ little-endian 2 0 ++ little-endian 4 destination ++ little-endian 8 bits ++ little-endian 4 0 ++ little-endian 4 path
 
 -- 1.0 or 0.0
@@ -66,23 +66,23 @@ abbrev pub truth-bits : Bool → ℕ
 truth-bits b = cond b 0x3ff0000000000000 0
 
 -- an operation reads three registers at most, or a list that begins at an entry
-abbrev pub fixed-row : Operation → List ℕ → ℕ → ℕ → List ℕ
-fixed-row o is destination path = row (operation-number o) 0 destination (getD is 0 0) (getD is 1 0) (getD is 2 0) path
+abbrev pub fixed-slot : Operation → List ℕ → ℕ → ℕ → List ℕ
+fixed-slot o is destination path = slot (operation-number o) 0 destination (getD is 0 0) (getD is 1 0) (getD is 2 0) path
 
-abbrev pub operation-row : Operation → List ℕ → ℕ → ℕ → ℕ → List ℕ
-operation-row o is first destination path =
-    cond (listing o) (row (operation-number o) (length is) destination first 0 0 path) (fixed-row o is destination path)
+abbrev pub operation-slot : Operation → List ℕ → ℕ → ℕ → ℕ → List ℕ
+operation-slot o is first destination path =
+    cond (listing o) (slot (operation-number o) (length is) destination first 0 0 path) (fixed-slot o is destination path)
 
 -- the instructions of a term whose own path number is k, where q is the next free one, r the first free register, n the place of the first instruction
 -- and e the next free entry
 unfoldable mutual
-  pub rows : Term → ℕ → ℕ → ℕ → ℕ → ℕ → List ℕ
-  rows (literal b) k q r n e = constant-row b r k
-  rows (truth b) k q r n e = constant-row (truth-bits b) r k
-  rows (symbol i) k q r n e = row 1 0 r i 0 0 k
-  rows (apply o ts) k q r n e =
-      rows-all ts k q r n e ++ operation-row o (result-registers ts r) (e + entry-counts ts) (r + register-counts ts) k
-  rows (branch c y z) k q r n e =
+  pub slots : Term → ℕ → ℕ → ℕ → ℕ → ℕ → List ℕ
+  slots (literal b) k q r n e = constant-slot b r k
+  slots (truth b) k q r n e = constant-slot (truth-bits b) r k
+  slots (symbol i) k q r n e = slot 1 0 r i 0 0 k
+  slots (apply o ts) k q r n e =
+      slots-all ts k q r n e ++ operation-slot o (result-registers ts r) (e + entry-counts ts) (r + register-counts ts) k
+  slots (branch c y z) k q r n e =
       let r₁ = suc (r + register-count c) in
       let n₁ = suc (n + instruction-count c) in
       let r₂ = r₁ + register-count y in
@@ -91,16 +91,16 @@ unfoldable mutual
       let q₂ = q₁ + path-count y in
       let e₁ = e + entry-count c in
       let e₂ = e₁ + entry-count y in
-      rows c q (suc q) r n e ++ row 3 0 (r + register-count c) (result-register c r) 0 n₂ k
-      ++ rows y q₁ (suc q₁) r₁ n₁ e₁ ++ row 2 0 r₂ (result-register y r₁) 0 0 k ++ row 4 0 (suc r₂) 0 0 (suc (n₂ + instruction-count z)) k
-      ++ rows z q₂ (suc q₂) (suc (suc r₂)) n₂ e₂ ++ row 2 0 r₂ (result-register z (suc (suc r₂))) 0 0 k
-  rows miscounted k q r n e = constant-row 0 r k
+      slots c q (suc q) r n e ++ slot 3 0 (r + register-count c) (result-register c r) 0 n₂ k
+      ++ slots y q₁ (suc q₁) r₁ n₁ e₁ ++ slot 2 0 r₂ (result-register y r₁) 0 0 k ++ slot 4 0 (suc r₂) 0 0 (suc (n₂ + instruction-count z)) k
+      ++ slots z q₂ (suc q₂) (suc (suc r₂)) n₂ e₂ ++ slot 2 0 r₂ (result-register z (suc (suc r₂))) 0 0 k
+  slots miscounted k q r n e = constant-slot 0 r k
 
   -- children one after another, each with the next free path number for its own
-  pub rows-all : Terms → ℕ → ℕ → ℕ → ℕ → ℕ → List ℕ
-  rows-all end k q r n e = []
-  rows-all (t and ts) k q r n e =
-      rows t q (suc q) r n e ++ rows-all ts k (q + path-count t) (r + register-count t) (n + instruction-count t) (e + entry-count t)
+  pub slots-all : Terms → ℕ → ℕ → ℕ → ℕ → ℕ → List ℕ
+  slots-all end k q r n e = []
+  slots-all (t and ts) k q r n e =
+      slots t q (suc q) r n e ++ slots-all ts k (q + path-count t) (r + register-count t) (n + instruction-count t) (e + entry-count t)
 
 -- ---- a path record, 12 bytes: the parent's number, the step, the text's length
 
@@ -159,5 +159,5 @@ header C t =
 
 -- the root's path has the number 0
 unfoldable pub image : Context → Formula → List ℕ
-unfolding rows below lists
-image C f = let t = term f in header C t ++ rows t 0 1 0 0 0 ++ (path-record 0 root ++ below t root 0 1) ++ lists t 0
+unfolding slots below lists
+image C f = let t = term f in header C t ++ slots t 0 1 0 0 0 ++ (path-record 0 root ++ below t root 0 1) ++ lists t 0

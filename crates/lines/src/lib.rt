@@ -18,6 +18,8 @@ ghost use Rattle.lines.specs.Owed.{Keeps-on, Opens, Text-length, line-nu
 ghost use Rattle.lines.specs.Record.{Ready};
 ghost use Rattle.lines.specs.Text.{Wrote};
 use compile::Answer;
+use layout::INPUTS_AT;
+use layout::REGISTERS_AT;
 use values::Reading;
 
 // Where a listing stands: in the name line, of which so many bytes are kept; in the line of values with this number, as far
@@ -104,10 +106,10 @@ fn so_far(number: u64, reading: Reading, used: usize, length: usize) -> Listed
 fn is_ready(p: &[u8], values: usize, regs: usize) -> bool
     ensures { λ r. ⌜ (r ≡ true → Ready (now (p .entry)) values regs) × (r ≡ false → Ready (now (p .entry)) values regs → ⊥) ⌝ }
 {
-    if values < program::word(p, 16) {
+    if values < program::word(p, INPUTS_AT) {
         return false;
     }
-    if regs < program::word(p, 8) {
+    if regs < program::word(p, REGISTERS_AT) {
         return false;
     }
     program::is_program(p)

@@ -3,6 +3,8 @@ use crate::text::put_line;
 use crate::values::Found;
 use crate::values::Reading;
 use crate::values::finish;
+use layout::CODE_AT;
+use layout::REGISTERS_AT;
 use run::Answer;
 ghost use mathlib.Core.Path.{_≡_};
 ghost use mathlib.Core.Bool.{true};
@@ -37,8 +39,8 @@ fn run_values(p: &[u8], inputs: &[f64], regs: &mut [f64]) -> Outcome
     ensures { λ r. ⌜ Runs (now (p .entry)) (now (inputs .entry)) r ⌝ }
     ensures place { λ r. ⌜ Writable (now (p .entry)) 8192 (r .answer) ⌝ }
 {
-    let budget = program::word(p, 4);
-    let n = program::word(p, 8);
+    let budget = program::word(p, CODE_AT);
+    let n = program::word(p, REGISTERS_AT);
     zero_registers(regs, n);
     let state = run::fresh_state();
     let r = run::run_reply(p, inputs, &mut regs[..n], 8192, budget, state);

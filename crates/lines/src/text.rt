@@ -1,5 +1,10 @@
 // The text of an output line: "line number, answer (`value`, `domain`, `ask`, `bad`), detail (bits, path, function number in
 // decimal and bits joined by `:` with 16 for Power, refusal number), instructions completed".
+use layout::CODE_AT;
+use layout::HEADER_SIZE;
+use layout::PATHS_AT;
+use layout::RECORD_SIZE;
+use layout::SLOT_SIZE;
 use run::Answer;
 use steps::put_bytes;
 use steps::put_decimal;
@@ -68,10 +73,10 @@ fn path_length(p: &[u8], k: usize) -> usize
     requires { ⌜ k < path-total (now p) ⌝ }
     ensures { λ r. ⌜ r ≡ length-at (now (p .entry)) k ⌝ }
 {
-    let code = program::word(p, 4);
-    let paths = program::word(p, 24);
+    let code = program::word(p, CODE_AT);
+    let paths = program::word(p, PATHS_AT);
     if k < paths {
-        return program::word(p, 32 + 24 * code + 12 * k + 8);
+        return program::word(p, HEADER_SIZE + SLOT_SIZE * code + RECORD_SIZE * k + 8);
     }
     0
 }

@@ -11,8 +11,8 @@ use Rattle.formula.specs.Path.{Path, _▸_, condition, else-arm, then-arm}
 use Rattle.formula.specs.Term.{Term, branch}
 use Rattle.machine.specs.Check.{Context, Fault, dynamic, fault, kind}
 use Rattle.machine.specs.Lower.{instruction-count, register-count, result-register}
-use Rattle.layout.specs.Image.{below, entry-count, lists, path-count, path-record, row, rows}
-use Rattle.layout.proofs.Lengths.{length-below, length-lists, length-rows}
+use Rattle.layout.specs.Image.{below, entry-count, lists, path-count, path-record, slot, slots}
+use Rattle.layout.proofs.Lengths.{length-below, length-lists, length-slots}
 use Rattle.lower.specs.Bytes.{Chunk}
 use Rattle.lower.specs.Piece.{Kept, Piece, Says, branch-piece, is-boolean, kind-if, own-piece, term-piece}
 use Rattle.lower.specs.Ready.{Ready}
@@ -72,7 +72,7 @@ module _ {L : Layout} {p : List ℕ} {s : Site} {c : Cursor} {I Q E : ℕ} (R : 
       cc
 
   same-code : W .chunk .code ≡ A .chunk .code ++ B .chunk .code
-  unfolding own-piece branch-piece term-piece rows
+  unfolding own-piece branch-piece term-piece slots
   same-code =
       let r = c .reg in
       let n = c .code in
@@ -89,11 +89,11 @@ module _ {L : Layout} {p : List ℕ} {s : Site} {c : Cursor} {I Q E : ℕ} (R : 
       let b₂ : suc (q + path-count t) ≡ q + path-count t + 1 = omega arith in
       let b₃ : suc (q + path-count t + path-count y) ≡ q + path-count t + path-count y + 1 = omega arith in
       rw (a₁, a₂, a₃, a₄, a₅, a₆, b₁, b₂, b₃)
-      (seven (rows t q (q + 1) r n (c .entry)) (row 3 0 (r + register-count t) (result-register t r) 0 (m₂ + 2) k)
-      (rows y (q + path-count t) (q + path-count t + 1) (r + register-count t + 1) (n + instruction-count t + 1) (c .entry + entry-count t))
-      (row 2 0 r₂ (result-register y (r + register-count t + 1)) 0 0 k) (row 4 0 (r₂ + 1) 0 0 (m₂ + 2 + instruction-count z + 1) k)
-      (rows z (q + path-count t + path-count y) (q + path-count t + path-count y + 1) (r₂ + 2) (m₂ + 2) (c .entry + entry-count t + entry-count y))
-      (row 2 0 r₂ (result-register z (r₂ + 2)) 0 0 k))
+      (seven (slots t q (q + 1) r n (c .entry)) (slot 3 0 (r + register-count t) (result-register t r) 0 (m₂ + 2) k)
+      (slots y (q + path-count t) (q + path-count t + 1) (r + register-count t + 1) (n + instruction-count t + 1) (c .entry + entry-count t))
+      (slot 2 0 r₂ (result-register y (r + register-count t + 1)) 0 0 k) (slot 4 0 (r₂ + 1) 0 0 (m₂ + 2 + instruction-count z + 1) k)
+      (slots z (q + path-count t + path-count y) (q + path-count t + path-count y + 1) (r₂ + 2) (m₂ + 2) (c .entry + entry-count t + entry-count y))
+      (slot 2 0 r₂ (result-register z (r₂ + 2)) 0 0 k))
 
   same-records : W .chunk .records ≡ A .chunk .records ++ B .chunk .records
   unfolding own-piece branch-piece term-piece below
@@ -128,7 +128,7 @@ module _ {L : Layout} {p : List ℕ} {s : Site} {c : Cursor} {I Q E : ℕ} (R : 
           fits-room R (W .chunk) (instruction-count (branch t y z)) (path-count t + path-count y + path-count z) (entry-count (branch t y z)) l₁ l₂ l₃ hi hq he
         where
           l₁ : length (W .chunk .code) ≡ 24 * instruction-count (branch t y z)
-          l₁ = unfold own-piece in length-rows (branch t y z) k (c .path) (c .reg) (c .code) (c .entry)
+          l₁ = unfold own-piece in length-slots (branch t y z) k (c .path) (c .reg) (c .code) (c .entry)
 
           l₂ : length (W .chunk .records) ≡ 12 * (path-count t + path-count y + path-count z)
           l₂ = unfold own-piece in omega (arith, length-below (branch t y z) P k (c .path))
@@ -138,7 +138,7 @@ module _ {L : Layout} {p : List ℕ} {s : Site} {c : Cursor} {I Q E : ℕ} (R : 
 
   len-code : length (A .chunk .code) ≡ 24 * instruction-count t
   unfolding term-piece
-  len-code = length-rows t (c .path) (c .path + 1) (c .reg) (c .code) (c .entry)
+  len-code = length-slots t (c .path) (c .path + 1) (c .reg) (c .code) (c .entry)
 
   len-records : length (A .chunk .records) ≡ 12 * path-count t
   unfolding term-piece

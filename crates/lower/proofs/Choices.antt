@@ -11,8 +11,8 @@ use Rattle.formula.specs.Path.{Path, _▸_, else-arm, then-arm}
 use Rattle.formula.specs.Term.{Term}
 use Rattle.machine.specs.Check.{Context, Fault, dynamic, fault, kind}
 use Rattle.machine.specs.Lower.{instruction-count, register-count, result-register}
-use Rattle.layout.specs.Image.{below, entry-count, lists, path-count, path-record, row}
-use Rattle.layout.proofs.Lengths.{length-below, length-lists, length-rows}
+use Rattle.layout.specs.Image.{below, entry-count, lists, path-count, path-record, slot}
+use Rattle.layout.proofs.Lengths.{length-below, length-lists, length-slots}
 use Rattle.paths.specs.Over.{over}
 use Rattle.paths.proofs.Over.{over-length}
 use Rattle.lower.specs.Bytes.{Chunk, laid, written}
@@ -49,7 +49,7 @@ chunk-of : (ks : Context) (y z : Term) (v : Value) (P : Path) (k : ℕ) (c : Cur
     → let Y = term-piece ks y (P ▸ then-arm) k (record { node = c .node; reg = c .reg + 1; code = c .code + 1; path = c .path; entry = c .entry }) n₁ in
     let Z = term-piece ks z (Q ▸ else-arm) k (record { node = e .node; reg = e .reg + 2; code = e .code + 2; path = e .path; entry = e .entry }) n₂ in
     record {
-      code = row 3 0 (c .reg) (v .a) 0 (e .code + 2) k ++ Y .chunk .code ++ row 2 0 (e .reg) (vy .a) 0 0 k ++ row 4 0 (e .reg + 1) 0 0 (h .code + 1) k ++ Z .chunk .code ++ row 2 0 (e .reg) (vz .a) 0 0 k;
+      code = slot 3 0 (c .reg) (v .a) 0 (e .code + 2) k ++ Y .chunk .code ++ slot 2 0 (e .reg) (vy .a) 0 0 k ++ slot 4 0 (e .reg + 1) 0 0 (h .code + 1) k ++ Z .chunk .code ++ slot 2 0 (e .reg) (vz .a) 0 0 k;
       records = Y .chunk .records ++ Z .chunk .records;
       lists = Y .chunk .lists ++ Z .chunk .lists;
     } ≡ branch-piece ks v y z P k c n₂ .chunk
@@ -203,7 +203,7 @@ module _ {L : Layout} {p : List ℕ} {s : Site} {c : Cursor} (A : Arms L p s c) 
       len-y : (length (Y .chunk .code) ≡ 24 * instruction-count y) × (length (Y .chunk .records) ≡ 12 * path-count y) × (length (Y .chunk .lists) ≡ 4 * entry-count y)
       unfolding term-piece
       len-y = (
-        length-rows y (c .path) (c .path + 1) (c .reg + 1) (c .code + 1) (c .entry),
+        length-slots y (c .path) (c .path + 1) (c .reg + 1) (c .code + 1) (c .entry),
         omega (arith, length-append (path-record k (P ▸ then-arm)) (below y (P ▸ then-arm) (c .path) (c .path + 1)), length-below y (P ▸ then-arm) (c .path) (c .path + 1)),
         length-lists y (c .reg + 1),
       )
@@ -218,10 +218,10 @@ module _ {L : Layout} {p : List ℕ} {s : Site} {c : Cursor} (A : Arms L p s c) 
       pub record Copied : Type 0 where
         pub p₂ : List ℕ
         pub p₃ : List ℕ
-        pub e₂ : p₂ ≡ over p₁ (32 + 24 * c .code) (row 3 0 (c .reg) (v .a) 0 (e .code + 2) k)
-        pub e₃ : p₃ ≡ over p₂ (32 + 24 * e .code) (row 2 0 (e .reg) (vy .a) 0 0 k)
+        pub e₂ : p₂ ≡ over p₁ (32 + 24 * c .code) (slot 3 0 (c .reg) (v .a) 0 (e .code + 2) k)
+        pub e₃ : p₃ ≡ over p₂ (32 + 24 * e .code) (slot 2 0 (e .reg) (vy .a) 0 0 k)
 
-      abbrev pub copied : (p₂ : List ℕ) (p₃ : List ℕ) (e₂ : p₂ ≡ over p₁ (32 + 24 * c .code) (row 3 0 (c .reg) (v .a) 0 (e .code + 2) k)) (e₃ : p₃ ≡ over p₂ (32 + 24 * e .code) (row 2 0 (e .reg) (vy .a) 0 0 k)) → Copied
+      abbrev pub copied : (p₂ : List ℕ) (p₃ : List ℕ) (e₂ : p₂ ≡ over p₁ (32 + 24 * c .code) (slot 3 0 (c .reg) (v .a) 0 (e .code + 2) k)) (e₃ : p₃ ≡ over p₂ (32 + 24 * e .code) (slot 2 0 (e .reg) (vy .a) 0 0 k)) → Copied
       copied p₂ p₃ e₂ e₃ = record { p₂ = p₂; p₃ = p₃; e₂ = e₂; e₃ = e₃ }
 
       module _ (K : Copied) where
@@ -231,10 +231,10 @@ module _ {L : Layout} {p : List ℕ} {s : Site} {c : Cursor} (A : Arms L p s c) 
         abbrev p₃ : List ℕ
         p₃ = K .p₃
 
-        abbrev e₂ : p₂ ≡ over p₁ (32 + 24 * c .code) (row 3 0 (c .reg) (v .a) 0 (e .code + 2) k)
+        abbrev e₂ : p₂ ≡ over p₁ (32 + 24 * c .code) (slot 3 0 (c .reg) (v .a) 0 (e .code + 2) k)
         e₂ = K .e₂
 
-        abbrev e₃ : p₃ ≡ over p₂ (32 + 24 * e .code) (row 2 0 (e .reg) (vy .a) 0 0 k)
+        abbrev e₃ : p₃ ≡ over p₂ (32 + 24 * e .code) (slot 2 0 (e .reg) (vy .a) 0 0 k)
         e₃ = K .e₃
 
         pub n₂′ : length p₂ ≡ length p
@@ -244,13 +244,13 @@ module _ {L : Layout} {p : List ℕ} {s : Site} {c : Cursor} (A : Arms L p s c) 
         n₃′ = ap length e₃ ∙ over-length p₂ (32 + 24 * e .code) _ (omega (arith, n₂′, is-code, R .code, R .records, R .lists)) ∙ n₂′
 
         -- the jump over the first arm, and its copy, stand in the code
-        same-rows : (q : ℕ) → Same (L .paths) p₁ p₃ q
-        same-rows q =
+        same-slots : (q : ℕ) → Same (L .paths) p₁ p₃ q
+        same-slots q =
             same-then (L .paths) p₁ p₂ p₃ q
             (subst (λ (x : List ℕ). Same (L .paths) p₁ x q) (sym e₂)
-            (same-below (L .paths) p₁ (32 + 24 * c .code) (row 3 0 (c .reg) (v .a) 0 (e .code + 2) k) q (omega (arith, n₁′, R .code, R .records, R .lists)) (omega (arith, R .code))))
+            (same-below (L .paths) p₁ (32 + 24 * c .code) (slot 3 0 (c .reg) (v .a) 0 (e .code + 2) k) q (omega (arith, n₁′, R .code, R .records, R .lists)) (omega (arith, R .code))))
             (subst (λ (x : List ℕ). Same (L .paths) p₂ x q) (sym e₃)
-            (same-below (L .paths) p₂ (32 + 24 * e .code) (row 2 0 (e .reg) (vy .a) 0 0 k) q (omega (arith, n₂′, is-code, R .code, R .records, R .lists)) (omega (arith, is-code, R .code))))
+            (same-below (L .paths) p₂ (32 + 24 * e .code) (slot 2 0 (e .reg) (vy .a) 0 0 k) q (omega (arith, n₂′, is-code, R .code, R .records, R .lists)) (omega (arith, is-code, R .code))))
 
         same₁ : Same (L .paths) p p₁ (c .path)
         same₁ =
@@ -258,7 +258,7 @@ module _ {L : Layout} {p : List ℕ} {s : Site} {c : Cursor} (A : Arms L p s c) 
             (same-written ready-first (Y .chunk) _ _ _ (len-y .0) (len-y .1) (len-y .2) (omega arith) (omega arith) (omega arith))
 
         pub same₃ : Same (L .paths) p p₃ (c .path)
-        same₃ = same-then (L .paths) p p₁ p₃ (c .path) same₁ (same-rows (c .path))
+        same₃ = same-then (L .paths) p p₁ p₃ (c .path) same₁ (same-slots (c .path))
 
         kept₁ : Kept L c p p₁
         kept₁ =
@@ -268,20 +268,20 @@ module _ {L : Layout} {p : List ℕ} {s : Site} {c : Cursor} (A : Arms L p s c) 
         kept₂ : Kept L c p₁ p₂
         kept₂ =
             subst (λ (x : List ℕ). Kept L c p₁ x) (sym e₂)
-            (kept-code L c p₁ (32 + 24 * c .code) (row 3 0 (c .reg) (v .a) 0 (e .code + 2) k) (omega (arith, n₁′, R .code, R .records, R .lists)) (omega arith) (omega (arith, R .code)) (omega (arith, R .records)))
+            (kept-code L c p₁ (32 + 24 * c .code) (slot 3 0 (c .reg) (v .a) 0 (e .code + 2) k) (omega (arith, n₁′, R .code, R .records, R .lists)) (omega arith) (omega (arith, R .code)) (omega (arith, R .records)))
 
         kept₃ : Kept L c p p₃
         kept₃ =
             kept-then (kept-then kept₁ kept₂ (omega arith) (omega arith) (omega arith))
             (subst (λ (x : List ℕ). Kept L c p₂ x) (sym e₃)
-            (kept-code L c p₂ (32 + 24 * e .code) (row 2 0 (e .reg) (vy .a) 0 0 k) (omega (arith, n₂′, is-code, R .code, R .records, R .lists)) (omega (arith, is-code)) (omega (arith, is-code, R .code)) (omega (arith, R .records))))
+            (kept-code L c p₂ (32 + 24 * e .code) (slot 2 0 (e .reg) (vy .a) 0 0 k) (omega (arith, n₂′, is-code, R .code, R .records, R .lists)) (omega (arith, is-code)) (omega (arith, is-code, R .code)) (omega (arith, R .records))))
             (omega arith) (omega arith) (omega arith)
 
         sound₁ : Sound L p₁ (e .path)
         sound₁ = subst (λ (x : Cursor). Sound L p₁ (x .path)) (sym (T .next)) (T .sound)
 
         sound₃ : Sound L p₃ (e .path)
-        sound₃ j l = same-linked (L .paths) p₁ p₃ (e .path) (same-rows (e .path)) j l (sound₁ j l)
+        sound₃ j l = same-linked (L .paths) p₁ p₃ (e .path) (same-slots (e .path)) j l (sound₁ j l)
 
         abbrev c₂ : Cursor
         c₂ = record { node = e .node; reg = e .reg + 2; code = e .code + 2; path = e .path; entry = e .entry }
@@ -360,7 +360,7 @@ module _ {L : Layout} {p : List ℕ} {s : Site} {c : Cursor} (A : Arms L p s c) 
           len-z : (length (Z .chunk .code) ≡ 24 * instruction-count z) × (length (Z .chunk .records) ≡ 12 * path-count z) × (length (Z .chunk .lists) ≡ 4 * entry-count z)
           unfolding term-piece
           len-z = (
-            length-rows z (e .path) (e .path + 1) (e .reg + 2) (e .code + 2) (e .entry),
+            length-slots z (e .path) (e .path + 1) (e .reg + 2) (e .code + 2) (e .entry),
             omega (arith, length-append (path-record k (place L p₃ s ▸ else-arm)) (below z (place L p₃ s ▸ else-arm) (e .path) (e .path + 1)), length-below z (place L p₃ s ▸ else-arm) (e .path) (e .path + 1)),
             length-lists z (e .reg + 2),
           )
@@ -416,8 +416,8 @@ module _ {L : Layout} {p : List ℕ} {s : Site} {c : Cursor} (A : Arms L p s c) 
               says-fault W L c p p₄ (Faulty 7 k) (record { number = 7; place = P }) k (rw (tb, fine, no-fault-y, no-fault-z, sym alike ∙ t)) refl place₄
               (λ j l. sound₄ j (omega (arith, z-path, is-path, R .site))) kept₄
 
-          pub both-done : (p₅ p₆ : List ℕ) (r : Low) (d : Bool) → b ≡ true → p₅ ≡ over p₄ (32 + 24 * (e .code + 1)) (row 4 0 (e .reg + 1) 0 0 (h .code + 1) k)
-              → p₆ ≡ over p₅ (32 + 24 * h .code) (row 2 0 (e .reg) (vz .a) 0 0 k) → d ≡ (v .dynamic || vy .dynamic || vz .dynamic)
+          pub both-done : (p₅ p₆ : List ℕ) (r : Low) (d : Bool) → b ≡ true → p₅ ≡ over p₄ (32 + 24 * (e .code + 1)) (slot 4 0 (e .reg + 1) 0 0 (h .code + 1) k)
+              → p₆ ≡ over p₅ (32 + 24 * h .code) (slot 2 0 (e .reg) (vz .a) 0 0 k) → d ≡ (v .dynamic || vy .dynamic || vz .dynamic)
               → r ≡ Done (record { a = e .reg; b = 0; c = 0; boolean = vy .boolean; dynamic = d }) (record { node = h .node; reg = h .reg; code = h .code + 1; path = h .path; entry = h .entry })
               → Says W L c p p₆ r
           both-done p₅ p₆ r d t e₅ e₆ ed er = says-done W L c p p₆ r no-fault (er ∙ same-done) same-bytes sound₆
@@ -458,9 +458,9 @@ module _ {L : Layout} {p : List ℕ} {s : Site} {c : Cursor} (A : Arms L p s c) 
               same₆ =
                   same-then (L .paths) p₄ p₅ p₆ (h .path)
                   (subst (λ (x : List ℕ). Same (L .paths) p₄ x (h .path)) (sym e₅)
-                  (same-below (L .paths) p₄ (32 + 24 * (e .code + 1)) (row 4 0 (e .reg + 1) 0 0 (h .code + 1) k) (h .path) (omega (arith, n₄′, is-code, R .code, R .records, R .lists)) (omega (arith, is-code, R .code))))
+                  (same-below (L .paths) p₄ (32 + 24 * (e .code + 1)) (slot 4 0 (e .reg + 1) 0 0 (h .code + 1) k) (h .path) (omega (arith, n₄′, is-code, R .code, R .records, R .lists)) (omega (arith, is-code, R .code))))
                   (subst (λ (x : List ℕ). Same (L .paths) p₅ x (h .path)) (sym e₆)
-                  (same-below (L .paths) p₅ (32 + 24 * h .code) (row 2 0 (e .reg) (vz .a) 0 0 k) (h .path) (omega (arith, n₅′, z-code, is-code, R .code, R .records, R .lists)) (omega (arith, z-code, is-code, R .code))))
+                  (same-below (L .paths) p₅ (32 + 24 * h .code) (slot 2 0 (e .reg) (vz .a) 0 0 k) (h .path) (omega (arith, n₅′, z-code, is-code, R .code, R .records, R .lists)) (omega (arith, z-code, is-code, R .code))))
 
               W-path : W .next .path ≡ c .path + path-count y + path-count z
               W-path = unfold branch-piece in refl
@@ -473,10 +473,10 @@ module _ {L : Layout} {p : List ℕ} {s : Site} {c : Cursor} (A : Arms L p s c) 
               same-bytes =
                   let b₀ = L .paths + 12 * c .path in
                   let d₀ = L .lists + 4 * c .entry in
-                  let r₃ = row 3 0 (c .reg) (v .a) 0 (e .code + 2) k in
-                  let r₂ = row 2 0 (e .reg) (vy .a) 0 0 k in
-                  let r₄ = row 4 0 (e .reg + 1) 0 0 (h .code + 1) k in
-                  let r₅ = row 2 0 (e .reg) (vz .a) 0 0 k in
+                  let r₃ = slot 3 0 (c .reg) (v .a) 0 (e .code + 2) k in
+                  let r₂ = slot 2 0 (e .reg) (vy .a) 0 0 k in
+                  let r₄ = slot 4 0 (e .reg + 1) 0 0 (h .code + 1) k in
+                  let r₅ = slot 2 0 (e .reg) (vz .a) 0 0 k in
                   let hc : 32 + 24 * c .code + 96 + length (Y .chunk .code) + length (Z .chunk .code) ≤ b₀ = omega (arith, len-y .0, len-z .0, R .code) in
                   let hr : b₀ + length (Y .chunk .records) + length (Z .chunk .records) ≤ d₀ = omega (arith, len-y .1, len-z .1, R .records) in
                   let hl : d₀ + length (Y .chunk .lists) + length (Z .chunk .lists) ≤ length p = omega (arith, len-y .2, len-z .2, R .lists) in
@@ -503,7 +503,7 @@ module _ {L : Layout} {p : List ℕ} {s : Site} {c : Cursor} (A : Arms L p s c) 
           module _ (p₆ : List ℕ) (r : Low) where
             arms-joined : (b′ : Bool) → b ≡ b′
                 → r ≡ cond b′ (Done (record { a = e .reg; b = 0; c = 0; boolean = vy .boolean; dynamic = v .dynamic || vy .dynamic || vz .dynamic }) (record { node = h .node; reg = h .reg; code = h .code + 1; path = h .path; entry = h .entry })) (Faulty 7 k)
-                → p₆ ≡ cond b′ (over (over p₄ (32 + 24 * (e .code + 1)) (row 4 0 (e .reg + 1) 0 0 (h .code + 1) k)) (32 + 24 * h .code) (row 2 0 (e .reg) (vz .a) 0 0 k)) p₄
+                → p₆ ≡ cond b′ (over (over p₄ (32 + 24 * (e .code + 1)) (slot 4 0 (e .reg + 1) 0 0 (h .code + 1) k)) (32 + 24 * h .code) (slot 2 0 (e .reg) (vz .a) 0 0 k)) p₄
                 → Says W L c p p₆ r
             arms-joined true t er ep = both-done _ p₆ r _ t refl ep refl er
             arms-joined false t er ep =

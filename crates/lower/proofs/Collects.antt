@@ -12,8 +12,8 @@ use Rattle.formula.specs.Path.{Path, _▸_, argument}
 use Rattle.formula.specs.Term.{Term, Terms, _and_, end, term-count}
 use Rattle.machine.specs.Check.{Context, Fault, all-kind, any-dynamic, dynamic, fault, faults, kind}
 use Rattle.machine.specs.Lower.{instruction-count, instruction-counts, register-count, register-counts, result-register, result-registers}
-use Rattle.layout.specs.Image.{below, below-all, entries, entry-count, entry-counts, lists, lists-all, path-count, path-counts, path-record, rows-all}
-use Rattle.layout.proofs.Lengths.{length-below, length-below-all, length-entries, length-lists, length-lists-all, length-result-registers, length-rows, length-rows-all}
+use Rattle.layout.specs.Image.{below, below-all, entries, entry-count, entry-counts, lists, lists-all, path-count, path-counts, path-record, slots-all}
+use Rattle.layout.proofs.Lengths.{length-below, length-below-all, length-entries, length-lists, length-lists-all, length-result-registers, length-slots, length-slots-all}
 use Rattle.paths.specs.Over.{over}
 use Rattle.paths.specs.Table.{Linked, path-in-table}
 use Rattle.paths.proofs.Over.{over-before, over-nil}
@@ -107,7 +107,7 @@ module _ (L : Layout) (i : ℕ) (C : Context) (w : Bool) (P : Path) (k n : ℕ) 
   end-value = refl
 
   end-bytes : p ≡ written L c p (O .chunk)
-  unfolding operands-piece laid rows-all below-all lists-all
+  unfolding operands-piece laid slots-all below-all lists-all
   end-bytes =
       sym (over-nil (over (over p (32 + 24 * c .code) []) (L .paths + 12 * c .path) []) (L .lists + 4 * c .entry)
       ∙ over-nil (over p (32 + 24 * c .code) []) (L .paths + 12 * c .path) ∙ over-nil p (32 + 24 * c .code))
@@ -190,7 +190,7 @@ module _ {L : Layout} {p : List ℕ} {s : Site} {c : Cursor} (b : Bool) (C : Con
     len-a : (length (A .chunk .code) ≡ 24 * instruction-count t) × (length (A .chunk .records) ≡ 12 * path-count t) × (length (A .chunk .lists) ≡ 4 * entry-count t)
     unfolding term-piece
     len-a = (
-      length-rows t (c .path) (c .path + 1) (c .reg) (c .code) (c .entry),
+      length-slots t (c .path) (c .path + 1) (c .reg) (c .code) (c .entry),
       omega (arith, length-append (path-record k (P ▸ argument i)) (below t (P ▸ argument i) (c .path) (c .path + 1)), length-below t (P ▸ argument i) (c .path) (c .path + 1)),
       length-lists t (c .reg),
     )
@@ -309,14 +309,14 @@ module _ {L : Layout} {p : List ℕ} {s : Site} {c : Cursor} (b : Bool) (C : Con
           λ j. record { a = v-a j; b = f₁ j; c = f₂ j; boolean = f₃ j; dynamic = f₄ j }
 
       chunk-is : W .chunk ≡ joined (A .chunk) (B .chunk)
-      unfolding operands-piece term-piece rows-all below-all lists-all
+      unfolding operands-piece term-piece slots-all below-all lists-all
       chunk-is =
           let b₁ : suc (c .path) ≡ c .path + 1 = omega arith in
           rw (b₁, one-more, same-place, is-path, is-reg, is-code, is-entry)
 
       len-w : (length (W .chunk .code) ≡ 24 * instruction-counts (t and ts)) × (length (W .chunk .records) ≡ 12 * path-counts (t and ts)) × (length (W .chunk .lists) ≡ 4 * entry-counts (t and ts))
       unfolding operands-piece
-      len-w = (length-rows-all (t and ts) k (c .path) (c .reg) (c .code) (c .entry), length-below-all (t and ts) P i k (c .path), length-lists-all (t and ts) (c .reg))
+      len-w = (length-slots-all (t and ts) k (c .path) (c .reg) (c .code) (c .entry), length-below-all (t and ts) P i k (c .path), length-lists-all (t and ts) (c .reg))
 
       w-fits : Fits (length p) (32 + 24 * c .code) (L .paths + 12 * c .path) (L .lists + 4 * c .entry) (W .chunk)
       w-fits = fits-room R (W .chunk) _ _ _ (len-w .0) (len-w .1) (len-w .2) (omega arith) (omega arith) (omega arith)

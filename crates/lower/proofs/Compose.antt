@@ -11,8 +11,8 @@ use Rattle.formula.specs.Term.{Term, Terms, _and_, apply, branch, end, literal,
 use Rattle.machine.specs.Check.{Context, Fault, fault}
 use Rattle.machine.specs.Lower.{instruction-count, instruction-counts, register-count, register-counts}
 use Rattle.layout.specs.Opcode.{step-of}
-use Rattle.layout.specs.Image.{below, entry-count, lists, path-count, path-record, rows}
-use Rattle.layout.proofs.Lengths.{length-below, length-lists, length-rows}
+use Rattle.layout.specs.Image.{below, entry-count, lists, path-count, path-record, slots}
+use Rattle.layout.proofs.Lengths.{length-below, length-lists, length-slots}
 use Rattle.paths.proofs.Decimal.{step-length-le}
 use Rattle.paths.specs.Over.{over}
 use Rattle.paths.specs.Table.{length-in, linked}
@@ -203,13 +203,13 @@ module _ {L : Layout} {p : List ℕ} {s : Site} {c : Cursor} {I Q E : ℕ} (R : 
         let e₁ = entered-place in
         let e₂ : path-record (s .path) (place L p s ▸ step-of step) ≡ three =
         entered-record (L .paths) p (c .path) (s .path) step long h₁ (R .site) few (omega arith) short (R .sound) is-long in
-        ap₂ (λ (x : List ℕ) (y : Path). record { code = rows t (c .path) (c .path + 1) (c .reg) (c .code) (c .entry); records = x ++ below t y (c .path) (c .path + 1); lists = lists t (c .reg) })
+        ap₂ (λ (x : List ℕ) (y : Path). record { code = slots t (c .path) (c .path + 1) (c .reg) (c .code) (c .entry); records = x ++ below t y (c .path) (c .path + 1); lists = lists t (c .reg) })
         e₂ (sym e₁)
 
     fits-all : Fits (length p) (32 + 24 * c .code) (L .paths + 12 * c .path) (L .lists + 4 * c .entry) (joined (A .chunk) (B .chunk))
     unfolding own-piece
     fits-all =
-        fits-room R (joined (A .chunk) (B .chunk)) (instruction-count t) (path-count t) (entry-count t) (length-rows t (c .path) (c .path + 1) (c .reg) (c .code) (c .entry))
+        fits-room R (joined (A .chunk) (B .chunk)) (instruction-count t) (path-count t) (entry-count t) (length-slots t (c .path) (c .path + 1) (c .reg) (c .code) (c .entry))
         (omega (arith, length-append three (below t (place L p₁ s₁) (c .path) (c .path + 1)), length-below t (place L p₁ s₁) (c .path) (c .path + 1)))
         (length-lists t (c .reg)) fitting fitting′ fitting″
 

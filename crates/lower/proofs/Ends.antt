@@ -14,7 +14,7 @@ use Rattle.arithmetic.specs.Constant as Constant
 use Rattle.formula.specs.Names.{Parameter, varies}
 use Rattle.formula.specs.Term.{Term, literal, symbol, truth}
 use Rattle.machine.specs.Check.{Context, fault}
-use Rattle.layout.specs.Image.{below, constant-row, lists, row, rows, truth-bits}
+use Rattle.layout.specs.Image.{below, constant-slot, lists, slot, slots, truth-bits}
 use Rattle.paths.specs.Over.{over}
 use Rattle.reader.specs.declared.Fields.{Fields}
 use Rattle.lower.specs.Operators.{arity-at, gives-boolean, listing-at, opcode-at, stepped-at}
@@ -27,7 +27,7 @@ use Rattle.lower.specs.declared.Site.{Site}
 use Rattle.lower.specs.declared.Value.{Value}
 use Rattle.lower.specs.declared.Low.{Low}
 use Rattle.lower.specs.declared.Low.the-variants.{Done, Fault as Faulty}
-use Rattle.lower.proofs.Says.{here, row-done}
+use Rattle.lower.proofs.Says.{here, slot-done}
 
 pub not-true : (b u : Bool) → u ≡ not b → u ≡ true → b ≡ false
 not-true true u e f = absurd (let z : _≡_ {A = ℕ} 0 1 = cc in omega arith)
@@ -79,20 +79,20 @@ module _ (L : Layout) (p : List ℕ) (s : Site) (c : Cursor) (I : ℕ) (R : Read
           unfolding finish-piece
           faultless = rw (sym ea ∙ ta, tb, not-false (L .generated || not (stepped-at K O && v .dynamic)) u alike tu)
 
-          pub listed-row : l ≡ true → p′ ≡ over p (32 + 24 * c .code) (row o (f .children) (c .reg) (c .entry) 0 0 (s .path))
+          pub listed-slot : l ≡ true → p′ ≡ over p (32 + 24 * c .code) (slot o (f .children) (c .reg) (c .entry) 0 0 (s .path))
               → r ≡ Done (record { a = c .reg; b = 0; c = 0; boolean = b; dynamic = v .dynamic }) (record { node = c .node; reg = c .reg + 1; code = c .code + 1; path = c .path; entry = c .entry + f .children })
               → Says P L c p p′ r
           unfolding finish-piece
-          listed-row tl e d =
-              row-done L p s c I 0 0 R (row o (f .children) (c .reg) (c .entry) 0 0 (s .path)) refl one p′ e P r faultless (rw (sym el ∙ tl, eo)) (d ∙ rw (sym el ∙ tl, eb)) refl
+          listed-slot tl e d =
+              slot-done L p s c I 0 0 R (slot o (f .children) (c .reg) (c .entry) 0 0 (s .path)) refl one p′ e P r faultless (rw (sym el ∙ tl, eo)) (d ∙ rw (sym el ∙ tl, eb)) refl
 
-          pub plain-row : l ≡ false → p′ ≡ over p (32 + 24 * c .code) (row o 0 (c .reg) (v .a) (v .b) (v .c) (s .path))
+          pub plain-slot : l ≡ false → p′ ≡ over p (32 + 24 * c .code) (slot o 0 (c .reg) (v .a) (v .b) (v .c) (s .path))
               → r ≡ Done (record { a = c .reg; b = 0; c = 0; boolean = b; dynamic = v .dynamic }) (record { node = c .node; reg = c .reg + 1; code = c .code + 1; path = c .path; entry = c .entry })
               → Says P L c p p′ r
           unfolding finish-piece
-          plain-row tl e d =
+          plain-slot tl e d =
               let z : c .entry ≡ c .entry + 0 = omega arith in
-              row-done L p s c I 0 0 R (row o 0 (c .reg) (v .a) (v .b) (v .c) (s .path)) refl one p′ e P r faultless (rw (sym el ∙ tl, eo))
+              slot-done L p s c I 0 0 R (slot o 0 (c .reg) (v .a) (v .b) (v .c) (s .path)) refl one p′ e P r faultless (rw (sym el ∙ tl, eo))
               (d ∙ rw (sym el ∙ tl, eb) (ap (λ (x : ℕ). Done (record { a = c .reg; b = 0; c = 0; boolean = gives-boolean K O; dynamic = v .dynamic }) (record { node = c .node; reg = c .reg + 1; code = c .code + 1; path = c .path; entry = x })) z)) refl
 
   -- ---- leaves
@@ -137,19 +137,19 @@ module _ (L : Layout) (p : List ℕ) (s : Site) (c : Cursor) (I : ℕ) (R : Read
         (here L p s c I 0 0 R (U (literal (f .value)) (is-number e)) 9 (rw h))
 
     pub number-made : (x : Float) (g : Bool) (p′ : List ℕ) (r : Low) → f .kind ≡ 0 → x ≡ ofBits binary64 (f .value) → g ≡ finite x → g ≡ true
-        → r ≡ made false false → p′ ≡ over p (32 + 24 * c .code) (constant-row (f .value) (c .reg) (s .path)) → Says T L c p p′ r
-    unfolding own-piece rows below lists
+        → r ≡ made false false → p′ ≡ over p (32 + 24 * c .code) (constant-slot (f .value) (c .reg) (s .path)) → Says T L c p p′ r
+    unfolding own-piece slots below lists
     number-made x g p′ r e ex eg t d b =
         let h : finite (ofBits binary64 (f .value)) ≡ true = ap finite (sym ex) ∙ sym eg ∙ t in
         as-leaf (literal (f .value)) (is-number e) p′ r
-        (row-done L p s c I 0 0 R (constant-row (f .value) (c .reg) (s .path)) refl one p′ b (U (literal (f .value)) (is-number e)) r (rw h) refl (d ∙ same-next false false) (omega arith))
+        (slot-done L p s c I 0 0 R (constant-slot (f .value) (c .reg) (s .path)) refl one p′ b (U (literal (f .value)) (is-number e)) r (rw h) refl (d ∙ same-next false false) (omega arith))
 
     pub truth-made : (n : Bool) (p′ : List ℕ) (r : Low) → (f .kind ≡ 0 → ⊥) → f .kind ≡ 1 → eqb (f .value) 1 ≡ n → r ≡ made true false
-        → p′ ≡ over p (32 + 24 * c .code) (constant-row (truth-bits n) (c .reg) (s .path)) → Says T L c p p′ r
-    unfolding own-piece rows below lists
+        → p′ ≡ over p (32 + 24 * c .code) (constant-slot (truth-bits n) (c .reg) (s .path)) → Says T L c p p′ r
+    unfolding own-piece slots below lists
     truth-made n p′ r m e t d b =
         as-leaf (truth n) (is-truth m e ∙ ap truth t) p′ r
-        (row-done L p s c I 0 0 R (constant-row (truth-bits n) (c .reg) (s .path)) refl one p′ b (U (truth n) (is-truth m e ∙ ap truth t)) r refl refl (d ∙ same-next true false) (omega arith))
+        (slot-done L p s c I 0 0 R (constant-slot (truth-bits n) (c .reg) (s .path)) refl one p′ b (U (truth n) (is-truth m e ∙ ap truth t)) r refl refl (d ∙ same-next true false) (omega arith))
 
     kind-varies : (x : ℕ) → varies (kind-of x) ≡ not (eqb x 0)
     kind-varies x = go (eqb x 0) (eqb x 1) (eqb x 2)
@@ -171,10 +171,10 @@ module _ (L : Layout) (p : List ℕ) (s : Site) (c : Cursor) (I : ℕ) (R : Read
 
     pub symbol-made : (b : Bool) (p′ : List ℕ) (r : Low) → (f .kind ≡ 0 → ⊥) → (f .kind ≡ 1 → ⊥) → ltb (f .symbol) (length kinds) ≡ b
         → Loads b kinds s (f .symbol) c p p′ r → Says T L c p p′ r
-    unfolding own-piece rows below lists
+    unfolding own-piece slots below lists
     symbol-made true p′ r m n e (d, x) =
         as-leaf (symbol (f .symbol)) (is-symbol m n) p′ r
-        (row-done L p s c I 0 0 R (row 1 0 (c .reg) (f .symbol) 0 0 (s .path)) refl one p′ x (U (symbol (f .symbol)) (is-symbol m n)) r (rw (length-kinds kinds, e)) refl
+        (slot-done L p s c I 0 0 R (slot 1 0 (c .reg) (f .symbol) 0 0 (s .path)) refl one p′ x (U (symbol (f .symbol)) (is-symbol m n)) r (rw (length-kinds kinds, e)) refl
         (d ∙ same-next false (not (eqb (getD kinds (f .symbol) 0) 0))
         ∙ rw (at-kinds kinds (f .symbol), kind-varies (getD kinds (f .symbol) 0))) (omega arith))
     symbol-made false p′ r m n e (d, x) =

@@ -12,7 +12,7 @@ use borrow.Author.Tests.{eq-eqb, eqb-true, leb-true}
 use Rattle.formula.specs.Operator.{And, Junction, Operation, Or, argument-kind, arity, binary, call, compare, result-kind, stepped, unary, Positive, Negative, Not, Add, Subtract, Multiply, Divide, Power, Modulo, Lt, Le, Gt, Ge, Eq, Ne, Exp, Log, Log10, Sqrt, Sin, Cos, Tan, Tanh, Abs, Floor, Ceil, Min, Max, Hill, InverseGaussianDensity}
 use Rattle.formula.specs.Formula.{Head, all-well-formed, conditional, ifelse, is-node, junction, last, next, number, operation, size, sizes, well-formed}
 use Rattle.formula.specs.Formula as Written
-use Rattle.formula.specs.Node.{Fields, binaries, booleans, calls, compares, fields-at, head-at, head-of, heads, inner-head, rooted, tree-in, unaries}
+use Rattle.formula.specs.Node.{Fields, binaries, booleans, calls, compares, fields-at, head-at, head-of, heads, inner-head, rooted, tree-in, unaries, node-size}
 use Rattle.formula.specs.Term.{_and_, branch, chain, end, symbol, term, truth}
 use Rattle.layout.specs.Opcode.{listing, operation-number}
 use Rattle.reader.specs.declared.Fields as Read
@@ -25,24 +25,24 @@ pub kids-none : (b : List ℕ) (d at left : ℕ) → left ≡ 0 → kids b d lef
 unfolding kids
 kids-none b d at left e = rw e
 
-kids-suc : (b : List ℕ) (d k at : ℕ) → kids b d (suc k) at ≡ next (tree-in d b at) (kids b d k (at + 16 * size (tree-in d b at)))
+kids-suc : (b : List ℕ) (d k at : ℕ) → kids b d (suc k) at ≡ next (tree-in d b at) (kids b d k (at + node-size * size (tree-in d b at)))
 unfolding kids
 kids-suc b d k at = refl
 
-pub kids-step : (b : List ℕ) (d left at : ℕ) → (left ≡ 0 → ⊥) → kids b d left at ≡ next (tree-in d b at) (kids b d (left - 1) (at + 16 * size (tree-in d b at)))
+pub kids-step : (b : List ℕ) (d left at : ℕ) → (left ≡ 0 → ⊥) → kids b d left at ≡ next (tree-in d b at) (kids b d (left - 1) (at + node-size * size (tree-in d b at)))
 kids-step b d zero at n = absurd (n refl)
 kids-step b d (suc k) at n = let e : suc k - 1 ≡ k = omega arith in rw e (kids-suc b d k at)
 
 pub past-none : (b : List ℕ) (d left at : ℕ) → left ≡ 0 → past b d left at ≡ at
 past-none b d left at e = rw (kids-none b d at left e) (omega arith)
 
-pub past-one : (b : List ℕ) (d left at : ℕ) → left ≡ 1 → past b d left at ≡ at + 16 * size (tree-in d b at)
+pub past-one : (b : List ℕ) (d left at : ℕ) → left ≡ 1 → past b d left at ≡ at + node-size * size (tree-in d b at)
 past-one b d left at e =
     let k = kids-step b d left at (λ z. omega arith) in
-    let n = kids-none b d (at + 16 * size (tree-in d b at)) (left - 1) (omega arith) in
+    let n = kids-none b d (at + node-size * size (tree-in d b at)) (left - 1) (omega arith) in
     rw (k, n) (omega arith)
 
-pub past-step : (b : List ℕ) (d left at : ℕ) → (left ≡ 0 → ⊥) → past b d (left - 1) (at + 16 * size (tree-in d b at)) ≡ past b d left at
+pub past-step : (b : List ℕ) (d left at : ℕ) → (left ≡ 0 → ⊥) → past b d (left - 1) (at + node-size * size (tree-in d b at)) ≡ past b d left at
 past-step b d left at n = omega (arith, ap sizes (kids-step b d left at n))
 
 both : (a c : Bool) → (a && c) ≡ true → (a ≡ true) × (c ≡ true)
@@ -53,12 +53,12 @@ pub first-well : (b : List ℕ) (d left at : ℕ) → (left ≡ 0 → ⊥) → a
 first-well b d left at n e = both (well-formed (tree-in d b at)) _ (rw (kids-step b d left at n) at e) .0
 
 pub rest-well : (b : List ℕ) (d left at : ℕ) → (left ≡ 0 → ⊥) → all-well-formed (kids b d left at) ≡ true
-    → all-well-formed (kids b d (left - 1) (at + 16 * size (tree-in d b at))) ≡ true
+    → all-well-formed (kids b d (left - 1) (at + node-size * size (tree-in d b at))) ≡ true
 rest-well b d left at n e = both (well-formed (tree-in d b at)) _ (rw (kids-step b d left at n) at e) .1
 
 pub one-well : (b : List ℕ) (d left at : ℕ) → left ≡ 1 → well-formed (tree-in d b at) ≡ true → all-well-formed (kids b d left at) ≡ true
 one-well b d left at e w =
-    rw (kids-step b d left at (λ z. omega arith), kids-none b d (at + 16 * size (tree-in d b at)) (left - 1) (omega arith), w)
+    rw (kids-step b d left at (λ z. omega arith), kids-none b d (at + node-size * size (tree-in d b at)) (left - 1) (omega arith), w)
 
 pub none-well : (b : List ℕ) (d left at : ℕ) → left ≡ 0 → all-well-formed (kids b d left at) ≡ true
 none-well b d left at e = rw (kids-none b d at left e)
@@ -72,46 +72,46 @@ arm-none b d left at c e = rw (kids-none b d at left e)
 pub arm-one : (b : List ℕ) (d left at : ℕ) (c : Bool) → left ≡ 1 → arm b d c left at ≡ term (tree-in d b at)
 unfolding arm
 arm-one b d left at c e =
-    rw (kids-step b d left at (λ z. omega arith), kids-none b d (at + 16 * size (tree-in d b at)) (left - 1) (omega arith)) (alone (junction-of c))
+    rw (kids-step b d left at (λ z. omega arith), kids-none b d (at + node-size * size (tree-in d b at)) (left - 1) (omega arith)) (alone (junction-of c))
   where
     alone : (j : Junction) → chain j (term (tree-in d b at)) end ≡ term (tree-in d b at)
     alone And = refl
     alone Or = refl
 
 pub arm-and : (b : List ℕ) (d left at : ℕ) → 2 ≤ left
-    → arm b d true left at ≡ branch (term (tree-in d b at)) (arm b d true (left - 1) (at + 16 * size (tree-in d b at))) (truth false)
+    → arm b d true left at ≡ branch (term (tree-in d b at)) (arm b d true (left - 1) (at + node-size * size (tree-in d b at))) (truth false)
 unfolding arm
 arm-and b d left at h =
-    let x = at + 16 * size (tree-in d b at) in
+    let x = at + node-size * size (tree-in d b at) in
     rw (kids-step b d left at (λ z. omega arith), kids-step b d (left - 1) x (λ z. omega arith))
 
 pub arm-or : (b : List ℕ) (d left at : ℕ) → 2 ≤ left
-    → arm b d false left at ≡ branch (term (tree-in d b at)) (truth true) (arm b d false (left - 1) (at + 16 * size (tree-in d b at)))
+    → arm b d false left at ≡ branch (term (tree-in d b at)) (truth true) (arm b d false (left - 1) (at + node-size * size (tree-in d b at)))
 unfolding arm
 arm-or b d left at h =
-    let x = at + 16 * size (tree-in d b at) in
+    let x = at + node-size * size (tree-in d b at) in
     rw (kids-step b d left at (λ z. omega arith), kids-step b d (left - 1) x (λ z. omega arith))
 
 -- ---- a node
 
 pub record Node (b : List ℕ) (d at : ℕ) : Type 0 where
   pub deep : 0 < d
-  pub inside : at + 16 ≤ length b
+  pub inside : at + node-size ≤ length b
   pub head : Head
   pub is-head : head-of (fields-at b at) ≡ some head
-  pub tree : tree-in d b at ≡ Written.node head (kids b (d - 1) (fields-at b at .children) (at + 16))
-  pub all : all-well-formed (kids b (d - 1) (fields-at b at .children) (at + 16)) ≡ true
+  pub tree : tree-in d b at ≡ Written.node head (kids b (d - 1) (fields-at b at .children) (at + node-size))
+  pub all : all-well-formed (kids b (d - 1) (fields-at b at .children) (at + node-size)) ≡ true
 
-some-inside : (b : List ℕ) (at : ℕ) (h : Head) → head-at b at ≡ some h → (at + 16 ≤ length b) × (head-of (fields-at b at) ≡ some h)
+some-inside : (b : List ℕ) (at : ℕ) (h : Head) → head-at b at ≡ some h → (at + node-size ≤ length b) × (head-of (fields-at b at) ≡ some h)
 unfolding head-at
-some-inside b at h e = go (leb (at + 16) (length b)) refl e
+some-inside b at h e = go (leb (at + node-size) (length b)) refl e
   where
-    go : (x : Bool) → leb (at + 16) (length b) ≡ x → cond x (head-of (fields-at b at)) none ≡ some h → (at + 16 ≤ length b) × (head-of (fields-at b at) ≡ some h)
-    go true t f = (leb-true (at + 16) (length b) t, f)
+    go : (x : Bool) → leb (at + node-size) (length b) ≡ x → cond x (head-of (fields-at b at)) none ≡ some h → (at + node-size ≤ length b) × (head-of (fields-at b at) ≡ some h)
+    go true t f = (leb-true (at + node-size) (length b) t, f)
     go false t f = absurd (let z : _≡_ {A = ℕ} 0 1 = cc in omega arith)
 
 stands-at : (b : List ℕ) (d at : ℕ) (o : Option Head) → head-at b at ≡ o
-    → well-formed (rooted (λ a. tree-in d b a) (fields-at b at .children) (at + 16) o) ≡ true → Node b (suc d) at
+    → well-formed (rooted (λ a. tree-in d b a) (fields-at b at .children) (at + node-size) o) ≡ true → Node b (suc d) at
 unfolding tree-in kids
 stands-at b d at none e w = absurd (let z : _≡_ {A = ℕ} 0 1 = cc in omega arith)
 stands-at b d at (some h) e w =

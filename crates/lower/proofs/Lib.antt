@@ -1,5 +1,5 @@
 pub mod Laid
-pub mod Rows
+pub mod Slots
 pub mod Leaves
 pub mod Frames
 pub mod Keeps

@@ -9,14 +9,14 @@ use lib.ListN.{length, length-append}
 use Rattle.formula.specs.Text.{little-endian}
 use Rattle.formula.specs.Path.{Path, _▸_, condition, step-text}
 use Rattle.formula.specs.Formula.{all-well-formed, size}
-use Rattle.formula.specs.Node.{tree-in}
+use Rattle.formula.specs.Node.{tree-in, node-size}
 use Rattle.formula.specs.Term.{Term, _and_, branch, term, terms, truth}
 use Rattle.machine.specs.Check.{Context, fault}
 use Rattle.machine.specs.Lower.{instruction-count, register-count}
 use Rattle.machine.proofs.Laws.{instruction-count-pos}
 use Rattle.layout.specs.Opcode.{step-of}
-use Rattle.layout.specs.Image.{below, constant-row, entry-count, lists, path-count, path-record, rows, truth-bits}
-use Rattle.layout.proofs.Lengths.{length-below, length-lists, length-rows}
+use Rattle.layout.specs.Image.{below, constant-slot, entry-count, lists, path-count, path-record, slots, truth-bits}
+use Rattle.layout.proofs.Lengths.{length-below, length-lists, length-slots}
 use Rattle.paths.specs.Over.{over}
 use Rattle.lower.specs.Piece.{Piece, Says, Sound, arm, branch-piece, ends, inner-count, junction-of, kids, own-piece, past, place, term-piece}
 use Rattle.lower.specs.Ready.{Ready}
@@ -28,7 +28,7 @@ use Rattle.lower.specs.declared.Low.{Low}
 use Rattle.lower.specs.declared.Low.the-variants.{Done, Fault as Faulty}
 use Rattle.lower.proofs.Laid.{laid-length}
 use Rattle.lower.proofs.Frames.{Same}
-use Rattle.lower.proofs.Says.{Refused, Taken, row-done}
+use Rattle.lower.proofs.Says.{Refused, Taken, slot-done}
 use Rattle.lower.proofs.Kids.{arm-and, arm-none, arm-one, arm-or, kids-step, past-none, past-one, past-step, rest-well}
 use Rattle.lower.proofs.Compose.{fewer-registers, fits-room, inner-is, place-same, ready-entered, ready-from, same-written, with-record}
 use Rattle.lower.proofs.Branches.{condition-refused, whole-branch}
@@ -72,7 +72,7 @@ module _ {L : Layout} {p : List ℕ} {s : Site} {c : Cursor} (b : List ℕ) (d :
 
     -- one child is itself
     pub one-done : left ≡ 1 → (p₂ : List ℕ) (r : Low)
-        → Says (own-piece C (term (tree-in d b (c .node))) (place L p₁ site) (site .path) c₁ (c .node + 16 * size (tree-in d b (c .node)))) L c₁ p₁ p₂ r → Says W L c p p₂ r
+        → Says (own-piece C (term (tree-in d b (c .node))) (place L p₁ site) (site .path) c₁ (c .node + node-size * size (tree-in d b (c .node)))) L c₁ p₁ p₂ r → Says W L c p p₂ r
     one-done e p₂ r S =
         own-done p₂ r
         (subst (λ (x : Term). Says (own-piece C x (place L p₁ site) (site .path) c₁ (past b d left (c .node))) L c₁ p₁ p₂ r) (sym (arm-one b d left (c .node) j e))
@@ -89,8 +89,8 @@ module _ {L : Layout} {p : List ℕ} {s : Site} {c : Cursor} (b : List ℕ) (d :
     unfolding own-piece
     truth-fault = refl
 
-    truth-chunk : O .chunk ≡ record { code = constant-row (truth-bits v) (c .reg) (site .path); records = []; lists = [] }
-    unfolding own-piece rows below lists
+    truth-chunk : O .chunk ≡ record { code = constant-slot (truth-bits v) (c .reg) (site .path); records = []; lists = [] }
+    unfolding own-piece slots below lists
     truth-chunk = refl
 
     truth-path : O .next .path ≡ c .path + 1
@@ -111,11 +111,11 @@ module _ {L : Layout} {p : List ℕ} {s : Site} {c : Cursor} (b : List ℕ) (d :
 
     pub none-done : left ≡ 0 → (p₂ : List ℕ) (r : Low)
         → r ≡ Done (record { a = c .reg; b = 0; c = 0; boolean = true; dynamic = false }) (record { node = c .node; reg = c .reg + 1; code = c .code + 1; path = c .path + 1; entry = c .entry })
-        → p₂ ≡ over p₁ (32 + 24 * c .code) (constant-row (truth-bits v) (c .reg) (site .path)) → Says W L c p p₂ r
+        → p₂ ≡ over p₁ (32 + 24 * c .code) (constant-slot (truth-bits v) (c .reg) (site .path)) → Says W L c p p₂ r
     none-done e p₂ r er ep₂ =
         own-done p₂ r
         (subst (λ (x : Term). Says (own-piece C x (place L p₁ site) (site .path) c₁ (past b d left (c .node))) L c₁ p₁ p₂ r) (sym (arm-none b d left (c .node) j e))
-        (row-done L p₁ site c₁ (instruction-count T) (inner-count T) (entry-count T) ready-own (constant-row (truth-bits v) (c .reg) (site .path)) refl
+        (slot-done L p₁ site c₁ (instruction-count T) (inner-count T) (entry-count T) ready-own (constant-slot (truth-bits v) (c .reg) (site .path)) refl
         (omega (arith, instruction-count-pos T)) p₂ ep₂ O r truth-fault truth-chunk (er ∙ ap₂ (λ (x : Value) (y : Cursor). Done x y) truth-value (truth-next e)) truth-path))
 
 -- ---- a conditional: its condition, and then its arms
@@ -158,7 +158,7 @@ module _ {L : Layout} {p : List ℕ} {s : Site} {c : Cursor} (C : Context) (t y 
     len-a : (length (A .chunk .code) ≡ 24 * instruction-count t) × (length (A .chunk .records) ≡ 12 * path-count t) × (length (A .chunk .lists) ≡ 4 * entry-count t)
     unfolding term-piece
     len-a = (
-      length-rows t (c .path) (c .path + 1) (c .reg) (c .code) (c .entry),
+      length-slots t (c .path) (c .path + 1) (c .reg) (c .code) (c .entry),
       omega (arith, length-append (path-record (s .path) (place L p s ▸ condition)) (below t (place L p s ▸ condition) (c .path) (c .path + 1)), length-below t (place L p s ▸ condition) (c .path) (c .path + 1)),
       length-lists t (c .reg),
     )
@@ -199,10 +199,10 @@ pub link-splits : (b : List ℕ) (d left at : ℕ) (j : Bool) → 2 ≤ left
     → arm b d j left at ≡ branch (arm b d true 1 at) (arm b d j (yes-of j left) (past b d 1 at)) (arm b d j (no-of j left) (past b d (yes-of j left) (past b d 1 at)))
 link-splits b d left at true h =
     arm-and b d left at h
-    ∙ rw (arm-one b d 1 at true refl, past-one b d 1 at refl, arm-none b d 0 (past b d (left - 1) (at + 16 * size (tree-in d b at))) true refl)
+    ∙ rw (arm-one b d 1 at true refl, past-one b d 1 at refl, arm-none b d 0 (past b d (left - 1) (at + node-size * size (tree-in d b at))) true refl)
 link-splits b d left at false h =
     arm-or b d left at h
-    ∙ rw (arm-one b d 1 at true refl, past-one b d 1 at refl, arm-none b d 0 (at + 16 * size (tree-in d b at)) false refl, past-none b d 0 (at + 16 * size (tree-in d b at)) refl)
+    ∙ rw (arm-one b d 1 at true refl, past-one b d 1 at refl, arm-none b d 0 (at + node-size * size (tree-in d b at)) false refl, past-none b d 0 (at + node-size * size (tree-in d b at)) refl)
 
 pub link-past : (b : List ℕ) (d left at : ℕ) (j : Bool) → 2 ≤ left → past b d (no-of j left) (past b d (yes-of j left) (past b d 1 at)) ≡ past b d left at
 link-past b d left at true h =

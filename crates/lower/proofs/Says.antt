@@ -83,26 +83,26 @@ module _ (L : Layout) (p : List ℕ) (s : Site) (c : Cursor) (I Q E : ℕ) (R : 
       says-fault P L c p p (Faulty n (s .path)) _ (s .path) e refl refl (λ j l. R .sound j (omega (arith, R .site))) (kept-here L c p)
 
   -- an instruction
-  module _ (row : List ℕ) (len : length row ≡ 24) (one : 1 ≤ I) (p′ : List ℕ) (stored : p′ ≡ over p (32 + 24 * c .code) row) where
-    row-room : 32 + 24 * c .code + length row ≤ L .paths
-    row-room = omega (arith, R .code)
+  module _ (slot : List ℕ) (len : length slot ≡ 24) (one : 1 ≤ I) (p′ : List ℕ) (stored : p′ ≡ over p (32 + 24 * c .code) slot) where
+    slot-room : 32 + 24 * c .code + length slot ≤ L .paths
+    slot-room = omega (arith, R .code)
 
-    row-inside : 32 + 24 * c .code + length row ≤ length p
-    row-inside = omega (arith, R .code, R .records, R .lists)
+    slot-inside : 32 + 24 * c .code + length slot ≤ length p
+    slot-inside = omega (arith, R .code, R .records, R .lists)
 
-    pub row-same : (q : ℕ) → Same (L .paths) p p′ q
-    row-same q = subst (λ (z : List ℕ). Same (L .paths) p z q) (sym stored) (same-below (L .paths) p (32 + 24 * c .code) row q row-inside row-room)
+    pub slot-same : (q : ℕ) → Same (L .paths) p p′ q
+    slot-same q = subst (λ (z : List ℕ). Same (L .paths) p z q) (sym stored) (same-below (L .paths) p (32 + 24 * c .code) slot q slot-inside slot-room)
 
-    pub row-sound : Sound L p′ (c .path)
-    row-sound k l = same-linked (L .paths) p p′ (c .path) (row-same (c .path)) k l (R .sound k l)
+    pub slot-sound : Sound L p′ (c .path)
+    slot-sound k l = same-linked (L .paths) p p′ (c .path) (slot-same (c .path)) k l (R .sound k l)
 
-    pub row-written : p′ ≡ written L c p (record { code = row; records = []; lists = [] })
+    pub slot-written : p′ ≡ written L c p (record { code = slot; records = []; lists = [] })
     unfolding laid
-    row-written =
-        stored ∙ sym (over-nil (over p (32 + 24 * c .code) row) (L .paths + 12 * c .path))
-        ∙ sym (over-nil (over (over p (32 + 24 * c .code) row) (L .paths + 12 * c .path) []) (L .lists + 4 * c .entry))
+    slot-written =
+        stored ∙ sym (over-nil (over p (32 + 24 * c .code) slot) (L .paths + 12 * c .path))
+        ∙ sym (over-nil (over (over p (32 + 24 * c .code) slot) (L .paths + 12 * c .path) []) (L .lists + 4 * c .entry))
 
-    pub row-done : (P : Piece) (r : Low) → P .fault ≡ none → P .chunk ≡ record { code = row; records = []; lists = [] } → r ≡ Done (P .value) (P .next) → P .next .path ≡ c .path
+    pub slot-done : (P : Piece) (r : Low) → P .fault ≡ none → P .chunk ≡ record { code = slot; records = []; lists = [] } → r ≡ Done (P .value) (P .next) → P .next .path ≡ c .path
         → Says P L c p p′ r
-    row-done P r e w d q =
-        says-done P L c p p′ r e d (row-written ∙ ap (λ (z : Chunk). written L c p z) (sym w)) (subst (λ (z : ℕ). Sound L p′ z) (sym q) row-sound)
+    slot-done P r e w d q =
+        says-done P L c p p′ r e d (slot-written ∙ ap (λ (z : Chunk). written L c p z) (sym w)) (subst (λ (z : ℕ). Sound L p′ z) (sym q) slot-sound)

@@ -13,14 +13,14 @@ use Rattle.formula.specs.Operator.{Junction, Operation, ValueKind, argument-kin
 use Rattle.formula.specs.Path.{Path}
 use Rattle.formula.specs.Formula.{Formula, Formulas, Head, conditional, ifelse, last, next, number, size, sizes, well-formed}
 use Rattle.formula.specs.Formula as Written
-use Rattle.formula.specs.Node.{fields-at, head-of, tree-in}
+use Rattle.formula.specs.Node.{fields-at, head-of, tree-in, node-size}
 use Rattle.formula.specs.Node as Node
 use Rattle.formula.specs.Term.{Term, Terms, _and_, apply, branch, branch-term, end, junction-term, literal, miscounted, symbol, term, term-count, term-from, terms, truth}
 use Rattle.machine.specs.Check.{Context, Fault, all-kind, any-dynamic, dynamic, fault, faults, kind}
 use Rattle.machine.specs.Lower.{instruction-count, instruction-counts, register-count, register-counts, result-registers}
 use Rattle.layout.specs.Opcode.{listing, operation-number}
-use Rattle.layout.specs.Image.{below, entries, entry-count, entry-counts, lists, operation-row, own-entries, path-counts, rows}
-use Rattle.layout.proofs.Lengths.{length-below-all, length-entries, length-lists-all, length-operation-row, length-result-registers, length-rows-all}
+use Rattle.layout.specs.Image.{below, entries, entry-count, entry-counts, lists, operation-slot, own-entries, path-counts, slots}
+use Rattle.layout.proofs.Lengths.{length-below-all, length-entries, length-lists-all, length-operation-slot, length-result-registers, length-slots-all}
 use Rattle.paths.specs.Over.{over}
 use Rattle.paths.proofs.Over.{over-length, over-nil, over-over}
 use Rattle.reader.specs.Read.{written as written-fields}
@@ -49,7 +49,7 @@ use Rattle.lower.proofs.Collects.{Collected}
 pub count-kids : (b : List ℕ) (d n at : ℕ) → term-count (terms (kids b d n at)) ≡ n
 unfolding kids
 count-kids b d zero at = refl
-count-kids b d (suc n) at = ap suc (count-kids b d n (at + 16 * size (tree-in d b at)))
+count-kids b d (suc n) at = ap suc (count-kids b d n (at + node-size * size (tree-in d b at)))
 
 few-joined : (j : Junction) (ts : Terms) → term-count ts < 2 → junction-term j ts ≡ miscounted
 few-joined j end h = refl
@@ -74,11 +74,11 @@ three-kids b d n at e =
     let x₁ = past-one b d 1 at refl in
     let x₂ = past-one b d 1 (past b d 1 at) refl in
     let k₁ = kids-step b d n at (λ z. omega arith) in
-    let k₂ = kids-step b d (n - 1) (at + 16 * size (tree-in d b at)) (λ z. omega arith) in
-    let at₂ = at + 16 * size (tree-in d b at) in
-    let k₃ = kids-step b d (n - 1 - 1) (at₂ + 16 * size (tree-in d b at₂)) (λ z. omega arith) in
-    let at₃ = at₂ + 16 * size (tree-in d b at₂) in
-    let k₄ = kids-none b d (at₃ + 16 * size (tree-in d b at₃)) (n - 1 - 1 - 1) (omega arith) in
+    let k₂ = kids-step b d (n - 1) (at + node-size * size (tree-in d b at)) (λ z. omega arith) in
+    let at₂ = at + node-size * size (tree-in d b at) in
+    let k₃ = kids-step b d (n - 1 - 1) (at₂ + node-size * size (tree-in d b at₂)) (λ z. omega arith) in
+    let at₃ = at₂ + node-size * size (tree-in d b at₂) in
+    let k₄ = kids-none b d (at₃ + node-size * size (tree-in d b at₃)) (n - 1 - 1 - 1) (omega arith) in
     rw (k₁, k₂, k₃, k₄, arm-one b d 1 at true refl, arm-one b d 1 (past b d 1 at) true refl, arm-one b d 1 (past b d 1 (past b d 1 at)) true refl, x₂, x₁)
 
 -- ---- a node and its fields
@@ -94,10 +94,10 @@ module _ (b : List ℕ) (d at : ℕ) (f : Fields) (is-f : written-fields f ≡ f
   head-is = ap head-of is-f ∙ N .is-head
 
   abbrev ks : Formulas
-  ks = kids b (d - 1) (f .children) (at + 16)
+  ks = kids b (d - 1) (f .children) (at + node-size)
 
-  same-kids : kids b (d - 1) (fields-at b at .children) (at + 16) ≡ ks
-  same-kids = ap (λ (x : Node.Fields). kids b (d - 1) (x .children) (at + 16)) (sym is-f)
+  same-kids : kids b (d - 1) (fields-at b at .children) (at + node-size) ≡ ks
+  same-kids = ap (λ (x : Node.Fields). kids b (d - 1) (x .children) (at + node-size)) (sym is-f)
 
   pub tree-is : tree-in d b at ≡ Written.node h ks
   tree-is = N .tree ∙ ap (λ (x : Formulas). Written.node h x) same-kids
@@ -108,20 +108,20 @@ module _ (b : List ℕ) (d at : ℕ) (f : Fields) (is-f : written-fields f ≡ f
   pub node-deep : 0 < d
   node-deep = N .deep
 
-  pub node-inside : at + 16 ≤ length b
+  pub node-inside : at + node-size ≤ length b
   node-inside = N .inside
 
   pub size-is : size (tree-in d b at) ≡ suc (sizes ks)
   size-is = ap size tree-is
 
-  pub past-is : past b (d - 1) (f .children) (at + 16) ≡ at + 16 * size (tree-in d b at)
+  pub past-is : past b (d - 1) (f .children) (at + node-size) ≡ at + node-size * size (tree-in d b at)
   past-is = omega (arith, size-is)
 
   term-is : term (tree-in d b at) ≡ term-from h (terms ks)
   term-is = ap term tree-is
 
   no-kids : f .children ≡ 0 → ks ≡ last
-  no-kids e = kids-none b (d - 1) (at + 16) (f .children) e
+  no-kids e = kids-none b (d - 1) (at + node-size) (f .children) e
 
   leaf-is : (g : Head) (t : Term) → h ≡ g → f .children ≡ 0 → term-from g end ≡ t → term (tree-in d b at) ≡ t
   leaf-is g t e n x = term-is ∙ ap₂ (λ (y : Head) (z : Formulas). term-from y (terms z)) e (no-kids n) ∙ x
@@ -139,13 +139,13 @@ module _ (b : List ℕ) (d at : ℕ) (f : Fields) (is-f : written-fields f ≡ f
           leaf-is (Written.symbol (f .symbol)) (symbol (f .symbol)) (x .0) (x .1) refl ∙ sym (rw (ne-eqb (f .kind) 0 (λ z. omega arith), ne-eqb (f .kind) 1 (λ z. omega arith)))
       go (suc (suc (suc k))) e = absurd (omega arith)
 
-  pub leaf-size : f .kind < 3 → at + 16 ≡ at + 16 * size (tree-in d b at)
+  pub leaf-size : f .kind < 3 → at + node-size ≡ at + node-size * size (tree-in d b at)
   leaf-size l = go (f .kind) refl
     where
-      done : f .children ≡ 0 → at + 16 ≡ at + 16 * size (tree-in d b at)
+      done : f .children ≡ 0 → at + node-size ≡ at + node-size * size (tree-in d b at)
       done n = omega (arith, size-is, ap sizes (no-kids n))
 
-      go : (k : ℕ) → f .kind ≡ k → at + 16 ≡ at + 16 * size (tree-in d b at)
+      go : (k : ℕ) → f .kind ≡ k → at + node-size ≡ at + node-size * size (tree-in d b at)
       go zero e = done (number-head-is (written-fields f) h head-is e .1)
       go (suc zero) e = done (truth-head-is (written-fields f) h head-is e .1)
       go (suc (suc zero)) e = done (symbol-head-is (written-fields f) h head-is e .1)
@@ -156,11 +156,11 @@ module _ (b : List ℕ) (d at : ℕ) (f : Fields) (is-f : written-fields f ≡ f
   junction-is e = term-is ∙ ap (λ (x : Head). term-from x (terms ks)) (boolean-head-is (written-fields f) h head-is e)
 
   pub few-is : f .kind ≡ 6 → f .children < 2 → term (tree-in d b at) ≡ miscounted
-  few-is e l = junction-is e ∙ few-joined (junction-of (eqb (f .operator) 0)) (terms ks) (omega (arith, count-kids b (d - 1) (f .children) (at + 16)))
+  few-is e l = junction-is e ∙ few-joined (junction-of (eqb (f .operator) 0)) (terms ks) (omega (arith, count-kids b (d - 1) (f .children) (at + node-size)))
 
-  pub link-is : f .kind ≡ 6 → 2 ≤ f .children → term (tree-in d b at) ≡ arm b (d - 1) (eqb (f .operator) 0) (f .children) (at + 16)
+  pub link-is : f .kind ≡ 6 → 2 ≤ f .children → term (tree-in d b at) ≡ arm b (d - 1) (eqb (f .operator) 0) (f .children) (at + node-size)
   unfolding arm
-  link-is e l = junction-is e ∙ more-joined (junction-of (eqb (f .operator) 0)) (terms ks) (omega (arith, count-kids b (d - 1) (f .children) (at + 16)))
+  link-is e l = junction-is e ∙ more-joined (junction-of (eqb (f .operator) 0)) (terms ks) (omega (arith, count-kids b (d - 1) (f .children) (at + node-size)))
 
   -- conditionals
   choice-is : chooses-at (f .kind) (f .operator) ≡ true → term (tree-in d b at) ≡ branch-term (terms ks)
@@ -170,12 +170,12 @@ module _ (b : List ℕ) (d at : ℕ) (f : Fields) (is-f : written-fields f ≡ f
       (choice-head-is (written-fields f) h head-is e)
 
   pub wrong-is : chooses-at (f .kind) (f .operator) ≡ true → (f .children ≡ 3 → ⊥) → term (tree-in d b at) ≡ miscounted
-  wrong-is e n = choice-is e ∙ not-three (terms ks) (λ x. n (sym (count-kids b (d - 1) (f .children) (at + 16)) ∙ x))
+  wrong-is e n = choice-is e ∙ not-three (terms ks) (λ x. n (sym (count-kids b (d - 1) (f .children) (at + node-size)) ∙ x))
 
   pub branch-is : chooses-at (f .kind) (f .operator) ≡ true → f .children ≡ 3
       → term (tree-in d b at)
-      ≡ branch (arm b (d - 1) true 1 (at + 16)) (arm b (d - 1) true 1 (past b (d - 1) 1 (at + 16))) (arm b (d - 1) true 1 (past b (d - 1) 1 (past b (d - 1) 1 (at + 16))))
-  branch-is e n = choice-is e ∙ three-kids b (d - 1) (f .children) (at + 16) n
+      ≡ branch (arm b (d - 1) true 1 (at + node-size)) (arm b (d - 1) true 1 (past b (d - 1) 1 (at + node-size))) (arm b (d - 1) true 1 (past b (d - 1) 1 (past b (d - 1) 1 (at + node-size))))
+  branch-is e n = choice-is e ∙ three-kids b (d - 1) (f .children) (at + node-size) n
 
   -- operations
   module _ (n₃ : 3 ≤ f .kind) (n₆ : f .kind ≡ 6 → ⊥) (nc : chooses-at (f .kind) (f .operator) ≡ false) where
@@ -263,7 +263,7 @@ module _ {L : Layout} {p : List ℕ} {s : Site} {c : Cursor} (C : Context) (g : 
 
     len-a : (length (A .chunk .code) ≡ 24 * instruction-counts ts) × (length (A .chunk .records) ≡ 12 * path-counts ts) × (length (A .chunk .lists) ≡ 4 * entry-counts ts)
     unfolding operands-piece
-    len-a = (length-rows-all ts k (c .path) (c .reg) (c .code) (c .entry), length-below-all ts P 0 k (c .path), length-lists-all ts (c .reg))
+    len-a = (length-slots-all ts k (c .path) (c .reg) (c .code) (c .entry), length-below-all ts P 0 k (c .path), length-lists-all ts (c .reg))
 
     a-fits : Fits (length p) (32 + 24 * c .code) (L .paths + 12 * c .path) (L .lists + 4 * c .entry) (A .chunk)
     a-fits = fits-room ready-operands (A .chunk) _ _ _ (len-a .0) (len-a .1) (len-a .2) (omega arith) (omega arith) (omega arith)
@@ -383,12 +383,12 @@ module _ {L : Layout} {p : List ℕ} {s : Site} {c : Cursor} (C : Context) (g : 
         let x₄ : e .entry + cond lists? (f .children) 0 ≡ c .entry + (entry-counts ts + cond (listing o) (term-count ts) 0) = omega (arith, e-entry) in
         λ j. record { node = e-node j; reg = x₁ j; code = x₂ j; path = e-path j; entry = x₄ j }
 
-    abbrev the-row : List ℕ
-    the-row = operation-row o (result-registers ts (c .reg)) (c .entry + entry-counts ts) (c .reg + register-counts ts) k
+    abbrev the-slot : List ℕ
+    the-slot = operation-slot o (result-registers ts (c .reg)) (c .entry + entry-counts ts) (c .reg + register-counts ts) k
 
-    row-is : F .chunk .code ≡ the-row
+    slot-is : F .chunk .code ≡ the-slot
     unfolding finish-piece
-    row-is =
+    slot-is =
         let x : length (result-registers ts (c .reg)) ≡ f .children = length-result-registers ts (c .reg) ∙ cnt in
         rw (code-is, v-a, v-b, v-c, e-reg, e-entry, lists-is, x)
 
@@ -396,31 +396,31 @@ module _ {L : Layout} {p : List ℕ} {s : Site} {c : Cursor} (C : Context) (g : 
     unfolding finish-piece
     F-records = (refl, refl)
 
-    W-chunk : record { code = with-own .code ++ the-row; records = with-own .records; lists = with-own .lists } ≡ W .chunk
-    unfolding own-piece operands-piece rows below lists
+    W-chunk : record { code = with-own .code ++ the-slot; records = with-own .records; lists = with-own .lists } ≡ W .chunk
+    unfolding own-piece operands-piece slots below lists
     W-chunk = refl
 
-    all-fits : Fits (length p) (32 + 24 * c .code) (L .paths + 12 * c .path) (L .lists + 4 * c .entry) (record { code = with-own .code ++ the-row; records = with-own .records; lists = with-own .lists })
+    all-fits : Fits (length p) (32 + 24 * c .code) (L .paths + 12 * c .path) (L .lists + 4 * c .entry) (record { code = with-own .code ++ the-slot; records = with-own .records; lists = with-own .lists })
     all-fits =
         record {
-          code = omega (arith, length-append (with-own .code) the-row, len-a .0, length-operation-row o (result-registers ts (c .reg)) (c .entry + entry-counts ts) (c .reg + register-counts ts) k, R .code);
+          code = omega (arith, length-append (with-own .code) the-slot, len-a .0, length-operation-slot o (result-registers ts (c .reg)) (c .entry + entry-counts ts) (c .reg + register-counts ts) k, R .code);
           records = own-fits .records;
           lists = own-fits .lists;
         }
 
-    row-over : (p₂ : List ℕ) → p₂ ≡ written L e p₁ (F .chunk) → p₂ ≡ over p₁ (32 + 24 * e .code) the-row
+    slot-over : (p₂ : List ℕ) → p₂ ≡ written L e p₁ (F .chunk) → p₂ ≡ over p₁ (32 + 24 * e .code) the-slot
     unfolding laid
-    row-over p₂ y =
+    slot-over p₂ y =
         y ∙ ap₂ (λ (u w : List ℕ). over (over (over p₁ (32 + 24 * e .code) (F .chunk .code)) (L .paths + 12 * e .path) u) (L .lists + 4 * e .entry) w) (F-records .0) (F-records .1)
         ∙ over-nil (over (over p₁ (32 + 24 * e .code) (F .chunk .code)) (L .paths + 12 * e .path) []) (L .lists + 4 * e .entry)
         ∙ over-nil (over p₁ (32 + 24 * e .code) (F .chunk .code)) (L .paths + 12 * e .path)
-        ∙ ap (λ (u : List ℕ). over p₁ (32 + 24 * e .code) u) row-is
+        ∙ ap (λ (u : List ℕ). over p₁ (32 + 24 * e .code) u) slot-is
 
     bytes-is : (p₂ : List ℕ) → p₂ ≡ written L e p₁ (F .chunk) → p₂ ≡ written L c p (W .chunk)
     bytes-is p₂ y =
-        row-over p₂ y
-        ∙ ap (λ (u : List ℕ). over u (32 + 24 * e .code) the-row) bytes₁
-        ∙ laid-after p (32 + 24 * c .code) (L .paths + 12 * c .path) (L .lists + 4 * c .entry) the-row with-own (32 + 24 * e .code) (omega (arith, e-code, len-a .0)) all-fits
+        slot-over p₂ y
+        ∙ ap (λ (u : List ℕ). over u (32 + 24 * e .code) the-slot) bytes₁
+        ∙ laid-after p (32 + 24 * c .code) (L .paths + 12 * c .path) (L .lists + 4 * c .entry) the-slot with-own (32 + 24 * e .code) (omega (arith, e-code, len-a .0)) all-fits
         ∙ ap (λ (u : Chunk). written L c p u) W-chunk
 
     finish-at : (x : Option Fault) (p₂ : List ℕ) (r : Low) → F .fault ≡ x → Says-at x F L e p₁ p₂ r → Says W L c p p₂ r

@@ -6,7 +6,7 @@ use Prim.Native.Nat.{ℕ, _+_, _*_}
 use lib.ListN.{getD}
 use lib.Dec.{eqb}
 use Rattle.refusals.specs.Numbers.{unknown-symbol}
-use Rattle.layout.specs.Image.{row}
+use Rattle.layout.specs.Image.{slot}
 use Rattle.paths.specs.Over.{over}
 use Rattle.lower.specs.declared.Cursor.{Cursor}
 use Rattle.lower.specs.declared.Site.{Site}
@@ -19,5 +19,5 @@ Loads true kinds s i c p p′ r =
     (r
     ≡ Done (record { a = c .reg; b = 0; c = 0; boolean = false; dynamic = not (eqb (getD kinds i 0) 0) })
     (record { node = c .node; reg = c .reg + 1; code = c .code + 1; path = c .path; entry = c .entry }))
-    × (p′ ≡ over p (32 + 24 * c .code) (row 1 0 (c .reg) i 0 0 (s .path)))
+    × (p′ ≡ over p (32 + 24 * c .code) (slot 1 0 (c .reg) i 0 0 (s .path)))
 Loads false kinds s i c p p′ r = (r ≡ Fault unknown-symbol (s .path)) × (p′ ≡ p)

@@ -13,7 +13,7 @@ use Rattle.formula.specs.Path.{Path, _▸_, else-arm, then-arm}
 use Rattle.formula.specs.Term.{Term, Terms, _and_, apply, branch, chain, end, literal, miscounted, symbol, truth, terms}
 use Rattle.machine.specs.Check.{Context, Fault, any-dynamic, all-kind, dynamic, fault, faults, kind, or-else, supported, unless}
 use Rattle.machine.specs.Lower.{instruction-count, instruction-counts, register-count, register-counts, result-register, result-registers}
-use Rattle.layout.specs.Image.{below, below-all, entries, entry-count, entry-counts, lists, lists-all, path-count, path-counts, path-record, row, rows, rows-all}
+use Rattle.layout.specs.Image.{below, below-all, entries, entry-count, entry-counts, lists, lists-all, path-count, path-counts, path-record, slot, slots, slots-all}
 use Rattle.paths.specs.Over.{over}
 use Rattle.paths.specs.Table.{Linked, linked, path-in-table}
 use Rattle.formula.specs.Formula.{Formulas, sizes}
@@ -102,7 +102,7 @@ own-piece C t p k c node =
       fault = fault C t p;
       chunk =
           record {
-            code = rows t k (c .path) (c .reg) (c .code) (c .entry);
+            code = slots t k (c .path) (c .reg) (c .code) (c .entry);
             records = below t p k (c .path);
             lists = lists t (c .reg);
           };
@@ -117,7 +117,7 @@ term-piece C t p parent c node =
       fault = fault C t p;
       chunk =
           record {
-            code = rows t (c .path) (c .path + 1) (c .reg) (c .code) (c .entry);
+            code = slots t (c .path) (c .path + 1) (c .reg) (c .code) (c .entry);
             records = path-record parent p ++ below t p (c .path) (c .path + 1);
             lists = lists t (c .reg);
           };
@@ -162,9 +162,9 @@ branch-piece C v y z p k c node =
       chunk =
           record {
             code =
-                row 3 0 (c .reg) (v .a) 0 (n₂ + 2) k
-                ++ rows y q (q + 1) r n e ++ row 2 0 r₂ (result-register y r) 0 0 k ++ row 4 0 (r₂ + 1) 0 0 (n₃ + 1) k
-                ++ rows z q₂ (q₂ + 1) (r₂ + 2) (n₂ + 2) e₂ ++ row 2 0 r₂ (result-register z (r₂ + 2)) 0 0 k;
+                slot 3 0 (c .reg) (v .a) 0 (n₂ + 2) k
+                ++ slots y q (q + 1) r n e ++ slot 2 0 r₂ (result-register y r) 0 0 k ++ slot 4 0 (r₂ + 1) 0 0 (n₃ + 1) k
+                ++ slots z q₂ (q₂ + 1) (r₂ + 2) (n₂ + 2) e₂ ++ slot 2 0 r₂ (result-register z (r₂ + 2)) 0 0 k;
             records =
                 (path-record k (p ▸ then-arm) ++ below y (p ▸ then-arm) q (q + 1))
                 ++ (path-record k (p ▸ else-arm) ++ below z (p ▸ else-arm) q₂ (q₂ + 1));
@@ -190,7 +190,7 @@ arms-answer k v y z e g =
 abbrev pub arms-bytes : ℕ → Value → Value → Cursor → Cursor → List ℕ → List ℕ
 arms-bytes k y z e g p =
     cond (same-kind (kind-if (y .boolean)) (kind-if (z .boolean)))
-    (over (over p (32 + 24 * (e .code + 1)) (row 4 0 (e .reg + 1) 0 0 (g .code + 1) k)) (32 + 24 * g .code) (row 2 0 (e .reg) (z .a) 0 0 k))
+    (over (over p (32 + 24 * (e .code + 1)) (slot 4 0 (e .reg + 1) 0 0 (g .code + 1) k)) (32 + 24 * g .code) (slot 2 0 (e .reg) (z .a) 0 0 k))
     p
 
 -- no child left
@@ -209,7 +209,7 @@ operands-piece C want ts p i k c node =
       fault = faults C ts p i;
       chunk =
           record {
-            code = rows-all ts k (c .path) (c .reg) (c .code) (c .entry);
+            code = slots-all ts k (c .path) (c .reg) (c .code) (c .entry);
             records = below-all ts p i k (c .path);
             lists = lists-all ts (c .reg);
           };
@@ -272,8 +272,8 @@ finish-piece C f v p k c =
       chunk =
           record {
             code =
-                cond lists? (row (opcode-at (f .kind) (f .operator)) (f .children) (c .reg) (c .entry) 0 0 k)
-                (row (opcode-at (f .kind) (f .operator)) 0 (c .reg) (v .a) (v .b) (v .c) k);
+                cond lists? (slot (opcode-at (f .kind) (f .operator)) (f .children) (c .reg) (c .entry) 0 0 k)
+                (slot (opcode-at (f .kind) (f .operator)) 0 (c .reg) (v .a) (v .b) (v .c) k);
             records = [];
             lists = [];
           };

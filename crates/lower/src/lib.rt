@@ -6,11 +6,11 @@ ghost use Prim.Native.Nat.{ℕ, _+_, _*_, _^_, _≤_, _<_};
 ghost use lib.ListN.{length};
 ghost use Rattle.formula.specs.Text.{little-endian};
 ghost use Rattle.formula.specs.Formula.{sizes, size, all-well-formed, well-formed, count};
-ghost use Rattle.formula.specs.Node.{tree-in, children-at, fields-at};
+ghost use Rattle.formula.specs.Node.{children-at, fields-at, node-size, tree-in};
 ghost use Rattle.formula.specs.Term.{term, terms, chain};
 ghost use Rattle.machine.specs.Lower.{instruction-count, instruction-counts};
 ghost use Rattle.layout.specs.Opcode.{step-of};
-ghost use Rattle.layout.specs.Image.{row, constant-row, path-count, path-counts, entry-count, entry-counts};
+ghost use Rattle.layout.specs.Image.{slot, constant-slot, path-count, path-counts, entry-count, entry-counts};
 ghost use Rattle.paths.specs.Over.{over};
 ghost use Rattle.reader.specs.Read.{written};
 ghost use Rattle.formula.specs.Operator.{same-kind};
@@ -21,6 +21,11 @@ ghost use Rattle.lower.specs.Leaf.{Loads};
 ghost use lib.Dec.{ltb};
 ghost use Rattle.formula.specs.Path.{step-text};
 ghost use Rattle.lower.specs.Operators.{arity-at, gives-boolean, listing-at, opcode-at, stepped-at, takes-boolean, chooses-at};
+use layout::ENTRY_SIZE;
+use layout::HEADER_SIZE;
+use layout::RECORD_SIZE;
+use layout::SLOT_SIZE;
+use reader::NODE_SIZE;
 use refusals::INVALID_INPUT;
 use refusals::OUTSIDE_DOMAIN;
 use refusals::UNKNOWN_SYMBOL;
@@ -99,7 +104,7 @@ fn put_long(p: &mut [u8], at: usize, x: u64)
 }
 
 // The instruction n: opcode, a zero, the list's length, destination, a, b, c, path number.
-fn put_row(
+fn put_slot(
     p: &mut [u8],
     n: usize,
     opcode: usize,
@@ -111,9 +116,9 @@ fn put_row(
     path: usize,
 )
     requires { ⌜ (56 + 24 * n ≤ length (now p)) × (opcode < 256) ⌝ }
-    ensures { λ _. ⌜ now (p .exit) ≡ over (now (p .entry)) (32 + 24 * n) (row opcode count destination a b c path) ⌝ }
+    ensures { λ _. ⌜ now (p .exit) ≡ over (now (p .entry)) (32 + 24 * n) (slot opcode count destination a b c path) ⌝ }
 {
-    let at = 32 + 24 * n;
+    let at = HEADER_SIZE + SLOT_SIZE * n;
     put_half(p, at, opcode);
     put_half(p, at + 2, count);
     put_word(p, at + 4, destination);
@@ -126,9 +131,9 @@ fn put_row(
 // The instruction n is a constant with these bits.
 fn put_constant(p: &mut [u8], n: usize, bits: u64, destination: usize, path: usize)
     requires { ⌜ 56 + 24 * n ≤ length (now p) ⌝ }
-    ensures { λ _. ⌜ now (p .exit) ≡ over (now (p .entry)) (32 + 24 * n) (constant-row bits destination path) ⌝ }
+    ensures { λ _. ⌜ now (p .exit) ≡ over (now (p .entry)) (32 + 24 * n) (constant-slot bits destination path) ⌝ }
 {
-    let at = 32 + 24 * n;
+    let at = HEADER_SIZE + SLOT_SIZE * n;
     put_half(p, at, 0);
     put_half(p, at + 2, 0);
     put_word(p, at + 4, destination);
@@ -303,7 +308,7 @@ fn list_entry(p: &mut [u8], lists: bool, base: usize, entry: usize, reg: usize)
     ensures { λ _. ⌜ now (p .exit) ≡ cond lists (over (now (p .entry)) (base + 4 * entry) (little-endian 4 reg)) (now (p .entry)) ⌝ }
 {
     if lists {
-        put_word(p, base + 4 * entry, reg);
+        put_word(p, base + ENTRY_SIZE * entry, reg);
         return;
     }
 }
@@ -317,7 +322,7 @@ fn enter(p: &mut [u8], l: Layout, s: Site, step: usize, own: usize) -> Site
 {
     let long = s.length + paths::step_length(step);
     let parent = s.path;
-    put_record(p, l.paths + 12 * own, parent, step, long);
+    put_record(p, l.paths + RECORD_SIZE * own, parent, step, long);
     Site {
         path: own,
         length: long,
@@ -327,7 +332,7 @@ fn enter(p: &mut [u8], l: Layout, s: Site, step: usize, own: usize) -> Site
 // A constant in the next register.
 fn constant(p: &mut [u8], s: Site, bits: u64, boolean: bool, c: Cursor) -> Low
     requires { ⌜ (56 + 24 * c .code ≤ length (now p)) × (c .reg ≤ c .code) ⌝ }
-    ensures { λ r. ⌜ (r ≡ Low.Done (record { a = c .reg; b = 0; c = 0; boolean = boolean; dynamic = false }) (record { node = c .node; reg = c .reg + 1; code = c .code + 1; path = c .path; entry = c .entry })) × (now (p .exit) ≡ over (now (p .entry)) (32 + 24 * c .code) (constant-row bits (c .reg) (s .path))) ⌝ }
+    ensures { λ r. ⌜ (r ≡ Low.Done (record { a = c .reg; b = 0; c = 0; boolean = boolean; dynamic = false }) (record { node = c .node; reg = c .reg + 1; code = c .code + 1; path = c .path; entry = c .entry })) × (now (p .exit) ≡ over (now (p .entry)) (32 + 24 * c .code) (constant-slot bits (c .reg) (s .path))) ⌝ }
 {
     let n = c.code;
     let r = c.reg;
@@ -361,7 +366,7 @@ fn load(p: &mut [u8], kinds: &[u8], s: Site, i: usize, c: Cursor) -> Low
     let k = s.path;
     if i < kinds.len() {
         let varies = kinds[i] != 0;
-        put_row(p, n, 1, 0, r, i, 0, 0, k);
+        put_slot(p, n, 1, 0, r, i, 0, 0, k);
         return Low::Done(
             Value {
                 a: r,
@@ -450,10 +455,10 @@ fn finish(p: &mut [u8], l: Layout, s: Site, f: reader::Fields, v: Value, c: Curs
             let o = opcode(f.kind, f.operator);
             let b = gives(f.kind, f.operator);
             if lists {
-                put_row(p, n, o, count, r, e, 0, 0, k);
+                put_slot(p, n, o, count, r, e, 0, 0, k);
                 return done(b, v.dynamic, c, e + count);
             }
-            put_row(p, n, o, 0, r, v.a, v.b, v.c, k);
+            put_slot(p, n, o, 0, r, v.a, v.b, v.c, k);
             return done(b, v.dynamic, c, e);
         }
         return Low::Fault(WRONG_TYPE, k);
@@ -505,12 +510,12 @@ fn lower(
 pub fn node(b: &[u8], p: &mut [u8], kinds: &[u8], l: Layout, s: Site, d: usize, c: Cursor) -> Low
     requires { ⌜ Ready l (now p) s c (instruction-count (term (tree-in d (now b) (c .node)))) (inner-count (term (tree-in d (now b) (c .node)))) (entry-count (term (tree-in d (now b) (c .node)))) ⌝ }
     requires { ⌜ well-formed (tree-in d (now b) (c .node)) ≡ true ⌝ }
-    ensures { λ r. ⌜ Says (own-piece (context-of (now (kinds .entry)) (l .generated)) (term (tree-in d (now (b .entry)) (c .node))) (place l (now (p .entry)) s) (s .path) c (c .node + 16 * size (tree-in d (now (b .entry)) (c .node)))) l c (now (p .entry)) (now (p .exit)) r ⌝ }
+    ensures { λ r. ⌜ Says (own-piece (context-of (now (kinds .entry)) (l .generated)) (term (tree-in d (now (b .entry)) (c .node))) (place l (now (p .entry)) s) (s .path) c (c .node + node-size * size (tree-in d (now (b .entry)) (c .node)))) l c (now (p .entry)) (now (p .exit)) r ⌝ }
 {
     let at = c.node;
     let f = reader::node(b, at);
     let next = Cursor {
-        node: at + 16,
+        node: at + NODE_SIZE,
         reg: c.reg,
         code: c.code,
         path: c.path,
@@ -593,8 +598,8 @@ fn join(p: &mut [u8], k: usize, v: Value, y: Value, z: Value, e: Cursor, g: Curs
 {
     let alike = same(y.boolean, z.boolean);
     if alike {
-        put_row(p, e.code + 1, 4, 0, e.reg + 1, 0, 0, g.code + 1, k);
-        put_row(p, g.code, 2, 0, e.reg, z.a, 0, 0, k);
+        put_slot(p, e.code + 1, 4, 0, e.reg + 1, 0, 0, g.code + 1, k);
+        put_slot(p, g.code, 2, 0, e.reg, z.a, 0, 0, k);
         return Low::Done(
             Value {
                 a: e.reg,
@@ -644,8 +649,8 @@ fn branch(
         let Low::Done(y, e) = a else {
             return a;
         };
-        put_row(p, c.code, 3, 0, c.reg, v.a, 0, e.code + 2, k);
-        put_row(p, e.code, 2, 0, e.reg, y.a, 0, 0, k);
+        put_slot(p, c.code, 3, 0, c.reg, v.a, 0, e.code + 2, k);
+        put_slot(p, e.code, 2, 0, e.reg, y.a, 0, 0, k);
         let second = ahead(e, 2);
         let o = lower(b, p, kinds, l, s, 2, conjunction, no, d, second);
         let Low::Done(z, g) = o else {

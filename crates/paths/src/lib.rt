@@ -8,6 +8,7 @@ ghost use Rattle.formula.specs.Path.{root, step-text, placed};
 ghost use Rattle.layout.specs.Opcode.{step-of};
 ghost use Rattle.paths.specs.Over.{over, zeroed};
 ghost use Rattle.paths.specs.Table.{path-in-table, length-in, Linked};
+use layout::RECORD_SIZE;
 
 // How many digits a number has.
 fn digits(n: usize) -> usize
@@ -100,12 +101,12 @@ pub fn write_path(b: &[u8], base: usize, k: usize, out: &mut [u8])
     requires { ⌜ (base + 12 * k + 12 < 2 ^ 64) × Linked (now b) base k × (length-in (now b) base k ≤ length (now out)) ⌝ }
     ensures { λ r. ⌜ now (out .exit) ≡ placed (some (path-in-table (now (b .entry)) base k)) (now (out .entry)) ⌝ }
 {
-    let end = reader::word(b, base + 12 * k + 8);
+    let end = reader::word(b, base + RECORD_SIZE * k + 8);
     let mut at = k;
     let mut begin = end;
     while 0 < at {
-        begin = step_before(out, begin, reader::word(b, base + 12 * at + 4));
-        at = reader::word(b, base + 12 * at);
+        begin = step_before(out, begin, reader::word(b, base + RECORD_SIZE * at + 4));
+        at = reader::word(b, base + RECORD_SIZE * at);
     }
     copy_before(out, begin, b"root");
     zero_from(out, end);

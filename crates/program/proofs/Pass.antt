@@ -15,12 +15,12 @@ use Rattle.formula.specs.Path.{path-room, text}
 use Rattle.machine.specs.Program.{all-allowed, op-allowed, valid}
 use Rattle.machine.proofs.Laws.{and-false, and-l, and-r}
 use Rattle.layout.specs.Image.{magic}
-use Rattle.layout.specs.Decode.{code-count, destination-at, entry-at, entry-total, instructions, length-at, list-ok, no-program, op-at, path-number, path-of, path-total, program-at, raw-program, records-ok, register-total, result-at, row-at, row-ok, rows-ok, uses-a, uses-b, uses-c, uses-list, well-formed, zero-unless}
+use Rattle.layout.specs.Decode.{code-count, destination-at, entry-at, entry-total, instructions, length-at, list-ok, no-program, op-at, path-number, path-of, path-total, program-at, raw-program, records-ok, register-total, result-at, slot-at, slot-ok, slots-ok, uses-a, uses-b, uses-c, uses-list, well-formed, zero-unless}
 use Rattle.paths.specs.Table.{Linked, length-in, path-in-table}
 use Rattle.program.specs.declared.Header.{Header}
-use Rattle.program.specs.declared.Row.{Row}
-use Rattle.program.specs.Fields.{header-of, row-of}
-use Rattle.program.specs.Check.{header-ok, instruction-ok, instructions-ok, list-fields-ok, named-ok, row-fields-ok, unused-zero}
+use Rattle.program.specs.declared.Slot.{Slot}
+use Rattle.program.specs.Fields.{header-of, slot-of}
+use Rattle.program.specs.Check.{header-ok, instruction-ok, instructions-ok, list-fields-ok, named-ok, slot-fields-ok, unused-zero}
 use Rattle.program.proofs.Body.{code-length}
 use Rattle.program.proofs.Head.{code-is, entries-is, registers-is}
 use Rattle.program.proofs.Records.{all-linked, length-read, length-same, path-same, record-place, records, text-length}
@@ -36,44 +36,44 @@ seven true true false d e f g = refl
 seven true false c d e f g = refl
 seven false b c d e f g = refl
 
-pub row-is : (b : List ℕ) (n paths : ℕ) (r : Row) → r ≡ row-of b n → paths ≡ path-total b → row-fields-ok r paths ≡ row-ok b n
-unfolding row-fields-ok row-ok unused-zero row-of
-row-is b n paths r e f =
-    let o = byte-at b (row-at n) in
+pub slot-is : (b : List ℕ) (n paths : ℕ) (r : Slot) → r ≡ slot-of b n → paths ≡ path-total b → slot-fields-ok r paths ≡ slot-ok b n
+unfolding slot-fields-ok slot-ok unused-zero slot-of
+slot-is b n paths r e f =
+    let o = byte-at b (slot-at n) in
     rw (e, f)
-    (seven (ltb o 35) (eqb (byte-at b (row-at n + 1)) 0) (zero-unless (uses-list o) (half-at b (row-at n + 2))) (zero-unless (uses-a o) (word-at b (row-at n + 8)))
-    (zero-unless (uses-b o) (word-at b (row-at n + 12))) (zero-unless (uses-c o) (word-at b (row-at n + 16))) (ltb (path-number b n) (path-total b)))
+    (seven (ltb o 35) (eqb (byte-at b (slot-at n + 1)) 0) (zero-unless (uses-list o) (half-at b (slot-at n + 2))) (zero-unless (uses-a o) (word-at b (slot-at n + 8)))
+    (zero-unless (uses-b o) (word-at b (slot-at n + 12))) (zero-unless (uses-c o) (word-at b (slot-at n + 16))) (ltb (path-number b n) (path-total b)))
 
-pub row-op : (r : Row) (paths : ℕ) → row-fields-ok r paths ≡ true → r .op < 35
-unfolding row-fields-ok
-row-op r paths e = ltb-true _ _ (and-l (ltb (r .op) 35) _ e)
+pub slot-op : (r : Slot) (paths : ℕ) → slot-fields-ok r paths ≡ true → r .op < 35
+unfolding slot-fields-ok
+slot-op r paths e = ltb-true _ _ (and-l (ltb (r .op) 35) _ e)
 
-pub list-is : (b : List ℕ) (n next : ℕ) (r : Row) → r ≡ row-of b n → list-fields-ok r next ≡ list-ok b n next
-unfolding list-fields-ok list-ok row-of
+pub list-is : (b : List ℕ) (n next : ℕ) (r : Slot) → r ≡ slot-of b n → list-fields-ok r next ≡ list-ok b n next
+unfolding list-fields-ok list-ok slot-of
 list-is b n next r e = rw e
 
-row-path : (b : List ℕ) (n : ℕ) → row-ok b n ≡ true → path-number b n < path-total b
-unfolding row-fields-ok row-of
-row-path b n e =
+slot-path : (b : List ℕ) (n : ℕ) → slot-ok b n ≡ true → path-number b n < path-total b
+unfolding slot-fields-ok slot-of
+slot-path b n e =
     ltb-true _ _
-    (and-r (unused-zero (row-of b n)) _ (and-r (eqb (byte-at b (row-at n + 1)) 0) _ (and-r (ltb (byte-at b (row-at n)) 35) _ (row-is b n (path-total b) (row-of b n) refl refl ∙ e))))
+    (and-r (unused-zero (slot-of b n)) _ (and-r (eqb (byte-at b (slot-at n + 1)) 0) _ (and-r (ltb (byte-at b (slot-at n)) 35) _ (slot-is b n (path-total b) (slot-of b n) refl refl ∙ e))))
 
-module _ (b : List ℕ) (n : ℕ) (h : Header) (r : Row) (eh : h ≡ header-of b) (er : r ≡ row-of b n) where
-  pub count-is : r .count ≡ half-at b (row-at n + 2)
-  unfolding row-of
-  count-is = ap (λ (x : Row). x .count) er
+module _ (b : List ℕ) (n : ℕ) (h : Header) (r : Slot) (eh : h ≡ header-of b) (er : r ≡ slot-of b n) where
+  pub count-is : r .count ≡ half-at b (slot-at n + 2)
+  unfolding slot-of
+  count-is = ap (λ (x : Slot). x .count) er
 
-  pub list-fits : (next : ℕ) → leb (next + r .count) (h .entries) ≡ leb (next + half-at b (row-at n + 2)) (entry-total b)
+  pub list-fits : (next : ℕ) → leb (next + r .count) (h .entries) ≡ leb (next + half-at b (slot-at n + 2)) (entry-total b)
   list-fits next = ap₂ (λ (x y : ℕ). leb (next + x) y) count-is (entries-is b h eh)
 
   pub destination-fits : ltb (r .destination) (h .registers) ≡ ltb (destination-at b n) (register-total b)
-  unfolding row-of
-  destination-fits = ap₂ (λ (x y : ℕ). ltb x y) (ap (λ (x : Row). x .destination) er) (registers-is b h eh)
+  unfolding slot-of
+  destination-fits = ap₂ (λ (x y : ℕ). ltb x y) (ap (λ (x : Slot). x .destination) er) (registers-is b h eh)
 
   pub path-fits : (x : ℕ) → x ≡ word-at b (32 + 24 * h .code + 12 * r .path + 8) → leb x 8192 ≡ leb (length-at b (path-number b n)) path-room
-  unfolding row-of
+  unfolding slot-of
   path-fits x e =
-      let k : r .path ≡ path-number b n = ap (λ (x : Row). x .path) er in
+      let k : r .path ≡ path-number b n = ap (λ (x : Slot). x .path) er in
       ap (λ (y : ℕ). leb y 8192) (length-read b (r .path) _ (ap (λ (y : ℕ). y + 8) (record-place b h (r .path) eh)) e ∙ ap (length-at b) k)
 
 -- ---- all of them
@@ -86,12 +86,12 @@ module _ (b : List ℕ) where
   unfolding code-left
   code-start = let e : code-count b - 0 ≡ code-count b = omega arith in rw e
 
-  pub code-step : (n next c : ℕ) → n < code-count b → c ≡ half-at b (row-at n + 2) → code-left n next ≡ (instruction-ok b n next && code-left (n + 1) (next + c))
+  pub code-step : (n next c : ℕ) → n < code-count b → c ≡ half-at b (slot-at n + 2) → code-left n next ≡ (instruction-ok b n next && code-left (n + 1) (next + c))
   unfolding code-left
   code-step n next c h ec =
       let e : code-count b - n ≡ suc (code-count b - (n + 1)) = omega arith in
       ap (λ x. instructions-ok b x n next) e
-      ∙ ap (λ (x : ℕ). instruction-ok b n next && instructions-ok b (code-count b - (n + 1)) x (next + half-at b (row-at n + 2))) (sym (add-one n))
+      ∙ ap (λ (x : ℕ). instruction-ok b n next && instructions-ok b (code-count b - (n + 1)) x (next + half-at b (slot-at n + 2))) (sym (add-one n))
       ∙ ap (λ (x : ℕ). instruction-ok b n next && instructions-ok b (code-count b - (n + 1)) (n + 1) (next + x)) (sym ec)
 
   pub code-end : (n next : ℕ) → code-count b ≤ n → code-left n next ≡ eqb next (entry-total b)
@@ -99,10 +99,10 @@ module _ (b : List ℕ) where
   code-end n next h = let e : code-count b - n ≡ 0 = omega arith in rw e
 
   -- the entry after an instruction's list is inside
-  pub entries-in : (n next c : ℕ) → c ≡ half-at b (row-at n + 2) → instruction-ok b n next ≡ true → next + c ≤ entry-total b
+  pub entries-in : (n next c : ℕ) → c ≡ half-at b (slot-at n + 2) → instruction-ok b n next ≡ true → next + c ≤ entry-total b
   unfolding instruction-ok named-ok
   entries-in n next c e ok =
-      let l = leb-true (next + half-at b (row-at n + 2)) (entry-total b) (and-l _ _ (and-r (list-ok b n next) _ (and-r (row-ok b n) _ ok))) in
+      let l = leb-true (next + half-at b (slot-at n + 2)) (entry-total b) (and-l _ _ (and-r (list-ok b n next) _ (and-r (slot-ok b n) _ ok))) in
       omega arith
 
   -- an instruction's path is one of the records, and its text has at most 8,192 bytes
@@ -112,16 +112,16 @@ module _ (b : List ℕ) where
   named : (n next : ℕ) → instruction-ok b n next ≡ true → Named n
   unfolding instruction-ok named-ok
   named n next ok = (
-    row-path b n (and-l _ _ ok),
+    slot-path b n (and-l _ _ ok),
     leb-true (length-at b (path-number b n)) path-room
-        (and-l _ _ (and-r (ltb (destination-at b n) (register-total b)) _ (and-r (leb (next + half-at b (row-at n + 2)) (entry-total b)) _ (and-r (list-ok b n next) _ (and-r (row-ok b n) _ ok))))),
+        (and-l _ _ (and-r (ltb (destination-at b n) (register-total b)) _ (and-r (leb (next + half-at b (slot-at n + 2)) (entry-total b)) _ (and-r (list-ok b n next) _ (and-r (slot-ok b n) _ ok))))),
   )
 
   -- entries only become more
-  rows-room : (left n next : ℕ) → rows-ok b left n next ≡ true → next ≤ entry-total b
-  rows-room zero n next e = let z : next ≡ entry-total b = eqb→eq next (entry-total b) (rw e tt) in omega arith
-  rows-room (suc left) n next e =
-      let l = rows-room left (suc n) (next + half-at b (row-at n + 2)) (and-r (row-ok b n && list-ok b n next) _ e) in
+  slots-room : (left n next : ℕ) → slots-ok b left n next ≡ true → next ≤ entry-total b
+  slots-room zero n next e = let z : next ≡ entry-total b = eqb→eq next (entry-total b) (rw e tt) in omega arith
+  slots-room (suc left) n next e =
+      let l = slots-room left (suc n) (next + half-at b (slot-at n + 2)) (and-r (slot-ok b n && list-ok b n next) _ e) in
       omega arith
 
   shuffle : (ro lo fit de le le′ op i q l : Bool) → (ro ≡ true → le ≡ le′) → (q ≡ true → fit ≡ true) → i ≡ (q && l)
@@ -132,16 +132,16 @@ module _ (b : List ℕ) where
   shuffle true true fit de le le′ op i false l f g e = rw e (and-false (fit && (de && (le && op))))
 
   pass : (left n next : ℕ) → records-ok b (path-total b) 0 ≡ true
-      → instructions-ok b left n next ≡ (rows-ok b left n next && all-allowed (raw-program b) n (instructions b left n))
+      → instructions-ok b left n next ≡ (slots-ok b left n next && all-allowed (raw-program b) n (instructions b left n))
   unfolding instruction-ok named-ok raw-program
   pass zero n next ok = sym (and-one (eqb next (entry-total b)))
   pass (suc left) n next ok =
-      shuffle (row-ok b n) (list-ok b n next) (leb (next + half-at b (row-at n + 2)) (entry-total b)) (ltb (destination-at b n) (register-total b))
+      shuffle (slot-ok b n) (list-ok b n next) (leb (next + half-at b (slot-at n + 2)) (entry-total b)) (ltb (destination-at b n) (register-total b))
       (leb (length-at b (path-number b n)) path-room) (leb (length (text (path-of b (path-number b n)))) path-room) (op-allowed (raw-program b) n (op-at b n))
-      (instructions-ok b left (suc n) (next + half-at b (row-at n + 2))) (rows-ok b left (suc n) (next + half-at b (row-at n + 2))) (all-allowed (raw-program b) (suc n) (instructions b left (suc n)))
-      (λ r. ap (λ (x : ℕ). leb x path-room) (sym (text-length b ok (path-number b n) (row-path b n r))))
-      (λ r. le-leb (next + half-at b (row-at n + 2)) (entry-total b) (rows-room left (suc n) (next + half-at b (row-at n + 2)) r))
-      (pass left (suc n) (next + half-at b (row-at n + 2)) ok)
+      (instructions-ok b left (suc n) (next + half-at b (slot-at n + 2))) (slots-ok b left (suc n) (next + half-at b (slot-at n + 2))) (all-allowed (raw-program b) (suc n) (instructions b left (suc n)))
+      (λ r. ap (λ (x : ℕ). leb x path-room) (sym (text-length b ok (path-number b n) (slot-path b n r))))
+      (λ r. le-leb (next + half-at b (slot-at n + 2)) (entry-total b) (slots-room left (suc n) (next + half-at b (slot-at n + 2)) r))
+      (pass left (suc n) (next + half-at b (slot-at n + 2)) ok)
 
   joined : (a e c d f g r i q l : Bool) → (r ≡ true → i ≡ (q && l))
       → ((a && (e && (c && (d && (f && g))))) && (r && i)) ≡ cond (a && e && c && d && r && q) (f && g && l) false
@@ -169,7 +169,7 @@ module _ (b : List ℕ) where
   unfolding header-ok program-at well-formed
   valid-is =
       joined (leb 32 (length b)) (eqb (word-at b 0) magic) (ltb (word-at b 20) 2) (leb (entry-at b (entry-total b)) (length b)) (ltb 0 (code-count b)) (ltb (result-at b) (register-total b))
-      (records-ok b (path-total b) 0) (instructions-ok b (code-count b) 0 0) (rows-ok b (code-count b) 0 0) (all-allowed (raw-program b) 0 (instructions b (code-count b) 0))
+      (records-ok b (path-total b) 0) (instructions-ok b (code-count b) 0 0) (slots-ok b (code-count b) 0 0) (all-allowed (raw-program b) 0 (instructions b (code-count b) 0))
       (pass (code-count b) 0 0)
       ∙ ap (λ x. cond (well-formed b) x false) (sym raw-valid) ∙ valid-of (well-formed b)
 

@@ -11,8 +11,19 @@ ghost use Rattle.formula.specs.Text.{word-at};
 ghost use Rattle.formula.specs.Path.{placed};
 ghost use Rattle.machine.specs.Program.{all-below, op-allowed, valid};
 ghost use Rattle.layout.specs.Decode.{code-count, entries-from, length-at, op-at, path-of, path-total, program-at, raw-program, record-ok, records-ok, uses-b, uses-c, uses-list, zero-unless};
-ghost use Rattle.program.specs.Fields.{header-of, row-of};
-ghost use Rattle.program.specs.Check.{Fits-header, Fits-row, header-ok, instruction-ok, instructions-ok, list-fields-ok, named-ok, root-record-ok, row-fields-ok, unused-zero, first-ops-ok};
+ghost use Rattle.program.specs.Fields.{header-of, slot-of};
+ghost use Rattle.program.specs.Check.{Fits-header, Fits-slot, header-ok, instruction-ok, instructions-ok, list-fields-ok, named-ok, root-record-ok, slot-fields-ok, unused-zero, first-ops-ok};
+use layout::CODE_AT;
+use layout::ENTRIES_AT;
+use layout::ENTRY_SIZE;
+use layout::HEADER_SIZE;
+use layout::INPUTS_AT;
+use layout::KIND_AT;
+use layout::PATHS_AT;
+use layout::RECORD_SIZE;
+use layout::REGISTERS_AT;
+use layout::RESULT_AT;
+use layout::SLOT_SIZE;
 use reader::byte;
 use reader::half;
 
@@ -37,12 +48,12 @@ pub fn read_header(p: &[u8]) -> Header
     ensures { λ r. ⌜ (r ≡ header-of (now (p .entry))) × Fits-header r ⌝ }
 {
     Header {
-        code: word(p, 4),
-        registers: word(p, 8),
-        result: word(p, 12),
-        inputs: word(p, 16),
-        paths: word(p, 24),
-        entries: word(p, 28),
+        code: word(p, CODE_AT),
+        registers: word(p, REGISTERS_AT),
+        result: word(p, RESULT_AT),
+        inputs: word(p, INPUTS_AT),
+        paths: word(p, PATHS_AT),
+        entries: word(p, ENTRIES_AT),
     }
 }
 
@@ -50,16 +61,16 @@ fn header_ok(p: &[u8], h: Header) -> bool
     requires { ⌜ (h ≡ header-of (now p)) × Fits-header h ⌝ }
     ensures { λ r. ⌜ r ≡ header-ok (now (p .entry)) ⌝ }
 {
-    if p.len() < 32 {
+    if p.len() < HEADER_SIZE {
         return false;
     }
     if word(p, 0) != 0x3152_4256 {
         return false;
     }
-    if 1 < word(p, 20) {
+    if 1 < word(p, KIND_AT) {
         return false;
     }
-    if p.len() < 32 + 24 * h.code + 12 * h.paths + 4 * h.entries {
+    if p.len() < HEADER_SIZE + SLOT_SIZE * h.code + RECORD_SIZE * h.paths + ENTRY_SIZE * h.entries {
         return false;
     }
     0 < h.code && h.result < h.registers
@@ -78,17 +89,17 @@ fn record_ok(p: &[u8], h: Header, k: usize) -> bool
     requires { ⌜ (h ≡ header-of (now p)) × Fits-header h × (k < 4294967296) ⌝ }
     ensures { λ r. ⌜ r ≡ record-ok (now (p .entry)) k ⌝ }
 {
-    let first = 32 + 24 * h.code;
+    let first = HEADER_SIZE + SLOT_SIZE * h.code;
     if k == 0 {
         return root_ok(p, first);
     }
-    let parent = word(p, first + 12 * k);
+    let parent = word(p, first + RECORD_SIZE * k);
     if k <= parent {
         return false;
     }
-    let before = word(p, first + 12 * parent + 8);
-    let step = paths::step_length(word(p, first + 12 * k + 4));
-    word(p, first + 12 * k + 8) == before + step
+    let before = word(p, first + RECORD_SIZE * parent + 8);
+    let step = paths::step_length(word(p, first + RECORD_SIZE * k + 4));
+    word(p, first + RECORD_SIZE * k + 8) == before + step
 }
 
 fn all_records_ok(p: &[u8], h: Header) -> bool
@@ -111,7 +122,7 @@ fn all_records_ok(p: &[u8], h: Header) -> bool
 // ---- instructions
 
 // The fields of an instruction.
-pub struct Row {
+pub struct Slot {
     pub op: u8,
     pub zero: u8,
     pub count: usize,
@@ -122,12 +133,12 @@ pub struct Row {
     pub path: usize,
 }
 
-pub fn read_row(p: &[u8], n: usize) -> Row
+pub fn read_slot(p: &[u8], n: usize) -> Slot
     requires { ⌜ n < 4294967296 ⌝ }
-    ensures { λ r. ⌜ (r ≡ row-of (now (p .entry)) n) × Fits-row r ⌝ }
+    ensures { λ r. ⌜ (r ≡ slot-of (now (p .entry)) n) × Fits-slot r ⌝ }
 {
-    let at = 32 + 24 * n;
-    Row {
+    let at = HEADER_SIZE + SLOT_SIZE * n;
+    Slot {
         op: byte(p, at),
         zero: byte(p, at + 1),
         count: half(p, at + 2),
@@ -170,7 +181,7 @@ fn zero_unless(used: bool, n: usize) -> bool
 }
 
 // "unused fields zero"
-fn unused_zero(r: Row) -> bool
+fn unused_zero(r: Slot) -> bool
     ensures { λ x. ⌜ x ≡ unused-zero r ⌝ }
 {
     let op = r.op;
@@ -180,14 +191,14 @@ fn unused_zero(r: Row) -> bool
 }
 
 // The opcode, the zero after it, unused fields, and a path number that there is.
-fn row_ok(r: Row, paths: usize) -> bool
-    ensures { λ x. ⌜ x ≡ row-fields-ok r paths ⌝ }
+fn slot_ok(r: Slot, paths: usize) -> bool
+    ensures { λ x. ⌜ x ≡ slot-fields-ok r paths ⌝ }
 {
     r.op < 35 && (r.zero == 0 && (unused_zero(r) && r.path < paths))
 }
 
 // The list of a Min or Max begins where the last one ended, and has two entries at least.
-fn list_ok(r: Row, next: usize) -> bool
+fn list_ok(r: Slot, next: usize) -> bool
     ensures { λ x. ⌜ x ≡ list-fields-ok r next ⌝ }
 {
     let listed = lists(r.op);
@@ -198,17 +209,17 @@ fn list_ok(r: Row, next: usize) -> bool
 }
 
 // All registers of the list are there.
-fn list_below(p: &[u8], h: Header, r: Row) -> bool
-    requires { ⌜ (h ≡ header-of (now p)) × Fits-header h × Fits-row r ⌝ }
+fn list_below(p: &[u8], h: Header, r: Slot) -> bool
+    requires { ⌜ (h ≡ header-of (now p)) × Fits-header h × Fits-slot r ⌝ }
     ensures { λ x. ⌜ x ≡ all-below (h .registers) (entries-from (now (p .entry)) (r .count) (r .a)) ⌝ }
 {
-    let first = 32 + 24 * h.code + 12 * h.paths;
+    let first = HEADER_SIZE + SLOT_SIZE * h.code + RECORD_SIZE * h.paths;
     let registers = h.registers;
     let a = r.a;
     let count = r.count;
     let mut i = 0;
     while i < count {
-        if word(p, first + 4 * (a + i)) < registers {
+        if word(p, first + ENTRY_SIZE * (a + i)) < registers {
             i += 1;
         } else {
             return false;
@@ -224,7 +235,7 @@ fn forward(n: usize, target: usize, code: usize) -> bool
 }
 
 // Opcodes below 8: constant, load, copy, the jumps, and the operations of one register.
-fn first_ops_ok(h: Header, n: usize, r: Row) -> bool
+fn first_ops_ok(h: Header, n: usize, r: Slot) -> bool
     requires { ⌜ r .op < 8 ⌝ }
     ensures { λ x. ⌜ x ≡ first-ops-ok h n r ⌝ }
 {
@@ -239,8 +250,8 @@ fn first_ops_ok(h: Header, n: usize, r: Row) -> bool
 }
 
 // What the operation reads is there, and a jump goes forward.
-fn op_ok(p: &[u8], h: Header, n: usize, r: Row) -> bool
-    requires { ⌜ (h ≡ header-of (now p)) × Fits-header h × (r ≡ row-of (now p) n) × Fits-row r × (r .op < 35) ⌝ }
+fn op_ok(p: &[u8], h: Header, n: usize, r: Slot) -> bool
+    requires { ⌜ (h ≡ header-of (now p)) × Fits-header h × (r ≡ slot-of (now p) n) × Fits-slot r × (r .op < 35) ⌝ }
     ensures { λ x. ⌜ x ≡ op-allowed (raw-program (now (p .entry))) n (op-at (now (p .entry)) n) ⌝ }
 {
     let op = r.op;
@@ -260,20 +271,25 @@ fn op_ok(p: &[u8], h: Header, n: usize, r: Row) -> bool
 }
 
 // What an instruction names is inside the program: list, destination, path, operands.
-fn named_ok(p: &[u8], h: Header, n: usize, r: Row, next: usize) -> bool
-    requires { ⌜ (h ≡ header-of (now p)) × Fits-header h × (r ≡ row-of (now p) n) × Fits-row r × (r .op < 35) × (next < 4294967296) ⌝ }
+fn named_ok(p: &[u8], h: Header, n: usize, r: Slot, next: usize) -> bool
+    requires { ⌜ (h ≡ header-of (now p)) × Fits-header h × (r ≡ slot-of (now p) n) × Fits-slot r × (r .op < 35) × (next < 4294967296) ⌝ }
     ensures { λ x. ⌜ x ≡ named-ok (now (p .entry)) n next ⌝ }
 {
     next + r.count <= h.entries
         && (r.destination < h.registers
-            && (word(p, 32 + 24 * h.code + 12 * r.path + 8) <= 8192 && op_ok(p, h, n, r)))
+            && (word(
+                p,
+                HEADER_SIZE + SLOT_SIZE * h.code + RECORD_SIZE * r.path + 8,
+            )
+                <= 8192
+                && op_ok(p, h, n, r)))
 }
 
-fn instruction_ok(p: &[u8], h: Header, n: usize, r: Row, next: usize) -> bool
-    requires { ⌜ (h ≡ header-of (now p)) × Fits-header h × (r ≡ row-of (now p) n) × Fits-row r × (next < 4294967296) ⌝ }
+fn instruction_ok(p: &[u8], h: Header, n: usize, r: Slot, next: usize) -> bool
+    requires { ⌜ (h ≡ header-of (now p)) × Fits-header h × (r ≡ slot-of (now p) n) × Fits-slot r × (next < 4294967296) ⌝ }
     ensures { λ x. ⌜ x ≡ instruction-ok (now (p .entry)) n next ⌝ }
 {
-    row_ok(r, h.paths) && (list_ok(r, next) && named_ok(p, h, n, r, next))
+    slot_ok(r, h.paths) && (list_ok(r, next) && named_ok(p, h, n, r, next))
 }
 
 fn all_instructions_ok(p: &[u8], h: Header) -> bool
@@ -284,7 +300,7 @@ fn all_instructions_ok(p: &[u8], h: Header) -> bool
     let mut n = 0;
     let mut next = 0;
     while n < code {
-        let r = read_row(p, n);
+        let r = read_slot(p, n);
         let ok = instruction_ok(p, h, n, r, next);
         if ok {
             next += r.count;
@@ -310,5 +326,5 @@ pub fn write_place(p: &[u8], k: usize, out: &mut [u8])
     ensures { λ r. ⌜ now (out .exit) ≡ placed (some (path-of (now (p .entry)) k)) (now (out .entry)) ⌝ }
 {
     let h = read_header(p);
-    paths::write_path(p, 32 + 24 * h.code, k, out);
+    paths::write_path(p, HEADER_SIZE + SLOT_SIZE * h.code, k, out);
 }

@@ -6,7 +6,7 @@ use native.Mathlib.Omega.{arith}
 use lib.ListN.{length, getD, take, drop, length-append, List·getD-append, length-drop}
 use lib.Seq.{getD-append-add, getD-take, getD-drop, ext-getD, length-take-le, drop-cons}
 use Rattle.formula.specs.Text.{half-at, word-at, long-at, little-endian}
-use Rattle.formula.specs.Node.{Fields, fields-at, node-bytes}
+use Rattle.formula.specs.Node.{Fields, fields-at, node-bytes, node-size}
 
 -- the list xs stands in b from a byte on
 pub record Shows (b : List ℕ) (at : ℕ) (xs : List ℕ) : Type 0 where
@@ -209,7 +209,7 @@ bytes-are b (suc w) at h =
     ∙ sym (ap (λ (ys : List ℕ). take (suc w) ys) (drop-cons b at 0 (omega arith)))
 
 -- a node's bytes are those of its fields
-pub node-again : (b : List ℕ) (at : ℕ) → Bytes b → at + 16 ≤ length b → node-bytes (fields-at b at) ≡ take 16 (drop at b)
+pub node-again : (b : List ℕ) (at : ℕ) → Bytes b → at + node-size ≤ length b → node-bytes (fields-at b at) ≡ take node-size (drop at b)
 unfolding fields-at node-bytes bytes-from
 node-again b at h l =
     let e2 : little-endian 2 (half-at b (at + 2)) ≡ bytes-from b (at + 2) 2 = ap (little-endian 2) (half-bytes b (at + 2)) ∙ again b h 2 (at + 2) in

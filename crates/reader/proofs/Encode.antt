@@ -11,7 +11,7 @@ use lib.Dec.{eqb, ltb}
 use borrow.Author.Tests.{eqb-true, ltb-true, lt-ltb, le-leb, eq-eqb}
 use Rattle.formula.specs.Operator.{Operation, unary, binary, compare, call, Positive, Negative, Not, Add, Subtract, Multiply, Divide, Power, Modulo, Lt, Le, Gt, Ge, Eq, Ne, And, Or, Unary, Binary, Compare, Function, Exp, Log, Log10, Sqrt, Sin, Cos, Tan, Tanh, Abs, Floor, Ceil, Min, Max, Hill, InverseGaussianDensity}
 use Rattle.formula.specs.Formula.{Head, number, truth, symbol, operation, junction, ifelse, conditional, malformed, Formula, Formulas, node, last, next, count, size, sizes, depth, depths, is-node, well-formed, all-well-formed}
-use Rattle.formula.specs.Node.{Fields, fields-at, head-of, head-at, children-at, rooted, tree-in, tree-at, formula-of, fields-of, operation-fields, node-bytes, encode, encode-all}
+use Rattle.formula.specs.Node.{Fields, fields-at, head-of, head-at, children-at, rooted, tree-in, tree-at, formula-of, fields-of, operation-fields, node-bytes, encode, encode-all, node-size}
 use Rattle.reader.specs.Read.{is-some}
 use Rattle.reader.specs.Writable.{writable-operation, writable-head, writable, all-writable}
 use Rattle.reader.proofs.Heads.{no-true, and-first, and-second, unary-is, binary-is, compare-is, conditional-is, number-is, truth-is, symbol-is, inner}
@@ -30,11 +30,11 @@ mutual
   unfolding encode
 
   -- "Nodes of 16 bytes"
-  pub encode-length : (f : Formula) → length (encode f) ≡ 16 * size f
+  pub encode-length : (f : Formula) → length (encode f) ≡ node-size * size f
   encode-length (node h ts) =
       omega (arith, length-append (node-bytes (fields-of h (count ts))) (encode-all ts), node-length (fields-of h (count ts)), encode-all-length ts)
 
-  pub encode-all-length : (ts : Formulas) → length (encode-all ts) ≡ 16 * sizes ts
+  pub encode-all-length : (ts : Formulas) → length (encode-all ts) ≡ node-size * sizes ts
   encode-all-length last = refl
   encode-all-length (next t ts) = omega (arith, length-append (encode t) (encode-all ts), encode-length t, encode-all-length ts)
 
@@ -160,8 +160,8 @@ head-shown : (b : List ℕ) (at : ℕ) (h : Head) (n : ℕ) → writable-head h 
 unfolding head-at
 head-shown b at h n w s =
     let e = fields-shown b at (fields-of h n) (head-fit h n w) s in
-    let l : at + 16 ≤ length b = omega (arith, s .inside, node-length (fields-of h n)) in (
-      ap (λ (c : Bool). cond c (head-of (fields-at b at)) none) (le-leb (at + 16) (length b) l)
+    let l : at + node-size ≤ length b = omega (arith, s .inside, node-length (fields-of h n)) in (
+      ap (λ (c : Bool). cond c (head-of (fields-at b at)) none) (le-leb (at + node-size) (length b) l)
           ∙ ap (λ (f : Fields). head-of f) e
           ∙ head-back h n w,
       e,
@@ -192,10 +192,10 @@ mutual
       let e = head-shown b at h n (and-first (writable-head h n) (all-writable ts) w) (shows-first b at xs (encode-all ts) s) in
       let c = ap (λ (f : Fields). f .children) (e .1) ∙ children-of h n in
       let r =
-      children-shown ts d b (at + 16) (and-second (writable-head h n) (all-writable ts) w) (omega arith)
-      (shows-second b at (at + 16) xs (encode-all ts) (omega (arith, node-length (fields-of h n))) s) in
-      ap (λ (o : Option Head). rooted (λ a. tree-in d b a) (fields-at b at .children) (at + 16) o) (e .0)
-      ∙ ap (λ (k : ℕ). node h (children-at (λ a. tree-in d b a) k (at + 16))) c
+      children-shown ts d b (at + node-size) (and-second (writable-head h n) (all-writable ts) w) (omega arith)
+      (shows-second b at (at + node-size) xs (encode-all ts) (omega (arith, node-length (fields-of h n))) s) in
+      ap (λ (o : Option Head). rooted (λ a. tree-in d b a) (fields-at b at .children) (at + node-size) o) (e .0)
+      ∙ ap (λ (k : ℕ). node h (children-at (λ a. tree-in d b a) k (at + node-size))) c
       ∙ ap (λ (us : Formulas). node h us) r
 
   pub children-shown : (ts : Formulas) (d : ℕ) (b : List ℕ) (at : ℕ) → all-writable ts ≡ true → depths ts ≤ d → Shows b at (encode-all ts)
@@ -203,11 +203,11 @@ mutual
   children-shown last d b at w l s = refl
   children-shown (next t ts) d b at w l s =
       let e = tree-shown t d b at (and-first (writable t) (all-writable ts) w) (omega arith) (shows-first b at (encode t) (encode-all ts) s) in
-      let x = at + 16 * size t in
+      let x = at + node-size * size t in
       let r =
       children-shown ts d b x (and-second (writable t) (all-writable ts) w) (omega arith)
       (shows-second b at x (encode t) (encode-all ts) (omega (arith, encode-length t)) s) in
-      ap (λ (f : Formula). next f (children-at (λ a. tree-in d b a) (count ts) (at + 16 * size f))) e ∙ ap (λ (us : Formulas). next t us) r
+      ap (λ (f : Formula). next f (children-at (λ a. tree-in d b a) (count ts) (at + node-size * size f))) e ∙ ap (λ (us : Formulas). next t us) r
 
 -- the bytes of a formula that can be written are read as that formula
 pub formula-encode : (f : Formula) → writable f ≡ true → formula-of (encode f) ≡ some f
@@ -216,28 +216,28 @@ formula-encode f w =
     let b = encode f in
     let n = encode-length f in
     let e : tree-at b 0 ≡ f = tree-shown f (length b) b 0 w (omega (arith, depth-le-size f)) (shows-self b) in
-    let c : (well-formed f && eqb (16 * size f) (length b)) ≡ true =
-    and-both (well-formed f) (eqb (16 * size f) (length b)) (writable-well-formed f w) (eq-eqb (16 * size f) (length b) (sym n)) in
-    ap (λ (t : Formula). cond (well-formed t && eqb (16 * size t) (length b)) (some t) none) e ∙ ap (λ (x : Bool). cond x (some f) none) c
+    let c : (well-formed f && eqb (node-size * size f) (length b)) ≡ true =
+    and-both (well-formed f) (eqb (node-size * size f) (length b)) (writable-well-formed f w) (eq-eqb (node-size * size f) (length b) (sym n)) in
+    ap (λ (t : Formula). cond (well-formed t && eqb (node-size * size t) (length b)) (some t) none) e ∙ ap (λ (x : Bool). cond x (some f) none) c
 
 -- ---- read and written
 
-spans : (b : List ℕ) (at n m : ℕ) → take (16 * n) (drop at b) ++ take (16 * m) (drop (at + 16 * n) b) ≡ take (16 * (n + m)) (drop at b)
+spans : (b : List ℕ) (at n m : ℕ) → take (node-size * n) (drop at b) ++ take (node-size * m) (drop (at + node-size * n) b) ≡ take (node-size * (n + m)) (drop at b)
 spans b at n m =
-    let e : 16 * n + 16 * m ≡ 16 * (n + m) = omega arith in
-    ap (λ (l : List ℕ). take (16 * n) (drop at b) ++ take (16 * m) l) (sym (drop-drop (16 * n) at b))
-    ∙ sym (take-add (16 * n) (16 * m) (drop at b))
+    let e : node-size * n + node-size * m ≡ node-size * (n + m) = omega arith in
+    ap (λ (l : List ℕ). take (node-size * n) (drop at b) ++ take (node-size * m) l) (sym (drop-drop (node-size * n) at b))
+    ∙ sym (take-add (node-size * n) (node-size * m) (drop at b))
     ∙ ap (λ (k : ℕ). take k (drop at b)) e
 
-children-copied : (b : List ℕ) (t : ℕ → Formula) → ((x : ℕ) → well-formed (t x) ≡ true → encode (t x) ≡ take (16 * size (t x)) (drop x b))
-    → (k at : ℕ) → all-well-formed (children-at t k at) ≡ true → encode-all (children-at t k at) ≡ take (16 * sizes (children-at t k at)) (drop at b)
+children-copied : (b : List ℕ) (t : ℕ → Formula) → ((x : ℕ) → well-formed (t x) ≡ true → encode (t x) ≡ take (node-size * size (t x)) (drop x b))
+    → (k at : ℕ) → all-well-formed (children-at t k at) ≡ true → encode-all (children-at t k at) ≡ take (node-size * sizes (children-at t k at)) (drop at b)
 unfolding encode
 children-copied b t h zero at w = refl
 children-copied b t h (suc k) at w =
-    let x = at + 16 * size (t at) in
+    let x = at + node-size * size (t at) in
     let us = children-at t k x in
     ap (λ (l : List ℕ). l ++ encode-all us) (h at (and-first (well-formed (t at)) (all-well-formed us) w))
-    ∙ ap (λ (l : List ℕ). take (16 * size (t at)) (drop at b) ++ l) (children-copied b t h k x (and-second (well-formed (t at)) (all-well-formed us) w))
+    ∙ ap (λ (l : List ℕ). take (node-size * size (t at)) (drop at b) ++ l) (children-copied b t h k x (and-second (well-formed (t at)) (all-well-formed us) w))
     ∙ spans b at (size (t at)) (sizes us)
 
 -- a head that was read can be written
@@ -273,9 +273,9 @@ children-read : (t : ℕ → Formula) → ((x : ℕ) → well-formed (t x) ≡ t
     → (k at : ℕ) → all-well-formed (children-at t k at) ≡ true → all-writable (children-at t k at) ≡ true
 children-read t h zero at w = refl
 children-read t h (suc k) at w =
-    let us = children-at t k (at + 16 * size (t at)) in
+    let us = children-at t k (at + node-size * size (t at)) in
     and-both (writable (t at)) (all-writable us) (h at (and-first (well-formed (t at)) (all-well-formed us) w))
-    (children-read t h k (at + 16 * size (t at)) (and-second (well-formed (t at)) (all-well-formed us) w))
+    (children-read t h k (at + node-size * size (t at)) (and-second (well-formed (t at)) (all-well-formed us) w))
 
 -- a tree that was read can be written
 pub writable-tree : (b : List ℕ) → Bytes b → (d at : ℕ) → well-formed (tree-in d b at) ≡ true → writable (tree-in d b at) ≡ true
@@ -284,34 +284,34 @@ writable-tree b h zero at w = absurd (no-true w)
 writable-tree b h (suc d) at w =
     let m = node-of d b at w in
     let k = fields-at b at .children in
-    let ts = children-at (λ a. tree-in d b a) k (at + 16) in
+    let ts = children-at (λ a. tree-in d b a) k (at + node-size) in
     let fit : Fit (fields-of (m .head) k) = subst (λ (f : Fields). Fit f) (sym (m .headed .back)) (fields-fit b at h) in
     let back : head-of (fields-of (m .head) k) ≡ some (m .head) = ap (λ (f : Fields). head-of f) (m .headed .back) ∙ m .headed .fields in
     ap writable (m .tree)
-    ∙ ap (λ (n : ℕ). writable-head (m .head) n && all-writable ts) (count-children (λ a. tree-in d b a) k (at + 16))
+    ∙ ap (λ (n : ℕ). writable-head (m .head) n && all-writable ts) (count-children (λ a. tree-in d b a) k (at + node-size))
     ∙ and-both (writable-head (m .head) k) (all-writable ts) (head-read (m .head) k fit back (m .headed .is))
-    (children-read (λ a. tree-in d b a) (λ x. writable-tree b h d x) k (at + 16) (m .children))
+    (children-read (λ a. tree-in d b a) (λ x. writable-tree b h d x) k (at + node-size) (m .children))
 
 -- a subtree's bytes are its encoding
 pub copied-tree : (b : List ℕ) → Bytes b → (d at : ℕ) → well-formed (tree-in d b at) ≡ true
-    → encode (tree-in d b at) ≡ take (16 * size (tree-in d b at)) (drop at b)
+    → encode (tree-in d b at) ≡ take (node-size * size (tree-in d b at)) (drop at b)
 unfolding tree-in encode
 copied-tree b h zero at w = absurd (no-true w)
 copied-tree b h (suc d) at w =
     let m = node-of d b at w in
     let k = fields-at b at .children in
-    let ts = children-at (λ a. tree-in d b a) k (at + 16) in
-    let c = count-children (λ a. tree-in d b a) k (at + 16) in
-    let r = children-copied b (λ a. tree-in d b a) (λ x. copied-tree b h d x) k (at + 16) (m .children) in
-    let z : 16 * (1 + sizes ts) ≡ 16 * suc (sizes ts) = omega arith in
+    let ts = children-at (λ a. tree-in d b a) k (at + node-size) in
+    let c = count-children (λ a. tree-in d b a) k (at + node-size) in
+    let r = children-copied b (λ a. tree-in d b a) (λ x. copied-tree b h d x) k (at + node-size) (m .children) in
+    let z : node-size * (1 + sizes ts) ≡ node-size * suc (sizes ts) = omega arith in
     ap encode (m .tree)
     ∙ ap (λ (n : ℕ). node-bytes (fields-of (m .head) n) ++ encode-all ts) c
     ∙ ap (λ (f : Fields). node-bytes f ++ encode-all ts) (m .headed .back)
     ∙ ap (λ (l : List ℕ). l ++ encode-all ts) (node-again b at h (m .headed .inside))
-    ∙ ap (λ (l : List ℕ). take 16 (drop at b) ++ l) r
+    ∙ ap (λ (l : List ℕ). take node-size (drop at b) ++ l) r
     ∙ spans b at 1 (sizes ts)
     ∙ ap (λ (n : ℕ). take n (drop at b)) z
-    ∙ ap (λ (f : Formula). take (16 * size f) (drop at b)) (sym (m .tree))
+    ∙ ap (λ (f : Formula). take (node-size * size f) (drop at b)) (sym (m .tree))
 
 -- the bytes of a formula are its encoding
 pub encode-formula : (b : List ℕ) → Bytes b → (f : Formula) → formula-of b ≡ some f → encode f ≡ b

@@ -10,7 +10,7 @@ use lib.Dec.{leb}
 use borrow.Author.Tests.{lt-leb, le-leb, leb-true, leb-false}
 use Rattle.formula.specs.Formula.{Formula, Formulas, node, size, sizes, depth, depths, well-formed, all-well-formed, within}
 use Rattle.formula.specs.Text.{half-at}
-use Rattle.formula.specs.Node.{fields-at, children-at, tree-at, formula-of}
+use Rattle.formula.specs.Node.{fields-at, children-at, tree-at, formula-of, node-size}
 use Rattle.reader.specs.Read.{is-some, extent, extent-at, limited}
 use Rattle.reader.specs.declared.Extent.{Extent}
 use Rattle.reader.specs.declared.Extent.the-variants.{To, Deeper}
@@ -33,7 +33,7 @@ leb-over a b d e = let h = leb-false a d e in lt-leb (max a b) d (omega arith)
 
 -- the extent of so many trees from a byte on
 unfoldable pub extent-from : List ℕ → ℕ → ℕ → ℕ → Extent
-extent-from b k at levels = extent (leb (depths (trees b k at)) levels) (at + 16 * sizes (trees b k at))
+extent-from b k at levels = extent (leb (depths (trees b k at)) levels) (at + node-size * sizes (trees b k at))
 
 to-is : (c : Bool) (r : Extent) (x e : ℕ) → r ≡ extent c x → r ≡ To e → (c ≡ true) × (e ≡ x)
 to-is true r x e p q = (refl, cc)
@@ -49,9 +49,9 @@ module _ (b : List ℕ) (at levels : ℕ) (w : well-formed (tree-at b at) ≡ tr
   unfolding extent-at
   no-levels z =
       let l : levels < depth (tree-at b at) = omega (arith, depth-pos (tree-at b at)) in
-      sym (ap (λ (c : Bool). extent c (at + 16 * size (tree-at b at))) (lt-leb (depth (tree-at b at)) levels l))
+      sym (ap (λ (c : Bool). extent c (at + node-size * size (tree-at b at))) (lt-leb (depth (tree-at b at)) levels l))
 
-  pub node-inside : at + 16 ≤ length b
+  pub node-inside : at + node-size ≤ length b
   node-inside = node-at b at w .headed .inside
 
   -- the children's trees stand in for the node's
@@ -60,21 +60,21 @@ module _ (b : List ℕ) (at levels : ℕ) (w : well-formed (tree-at b at) ≡ tr
     pub all : all-well-formed (trees b k x) ≡ true
     pub same : extent-at b at levels ≡ extent-from b k x (levels - 1)
 
-  pub level-start : (n : ℕ) → n ≡ half-at b (at + 2) → (levels ≡ 0 → ⊥) → Level n (at + 16)
+  pub level-start : (n : ℕ) → n ≡ half-at b (at + 2) → (levels ≡ 0 → ⊥) → Level n (at + node-size)
   unfolding extent-at extent-from trees fields-at
   level-start n e z =
       let m = node-at b at w in
-      let ts = children-at (λ a. tree-at b a) (half-at b (at + 2)) (at + 16) in
-      let us = children-at (λ a. tree-at b a) n (at + 16) in
-      let q : ts ≡ us = ap (λ (j : ℕ). children-at (λ a. tree-at b a) j (at + 16)) (sym e) in
+      let ts = children-at (λ a. tree-at b a) (half-at b (at + 2)) (at + node-size) in
+      let us = children-at (λ a. tree-at b a) n (at + node-size) in
+      let q : ts ≡ us = ap (λ (j : ℕ). children-at (λ a. tree-at b a) j (at + node-size)) (sym e) in
       let t : tree-at b at ≡ node (m .head) us = m .tree ∙ ap (λ (vs : Formulas). node (m .head) vs) q in
-      let v : at + 16 * suc (sizes us) ≡ at + 16 + 16 * sizes us = omega arith in
+      let v : at + node-size * suc (sizes us) ≡ at + node-size + node-size * sizes us = omega arith in
       record {
         inside = m .headed .inside;
         all = sym (ap all-well-formed q) ∙ m .children;
         same =
-            ap (λ (T : Formula). extent (leb (depth T) levels) (at + 16 * size T)) t
-            ∙ ap (λ (c : Bool). extent c (at + 16 * suc (sizes us))) (leb-step (depths us) levels (omega arith))
+            ap (λ (T : Formula). extent (leb (depth T) levels) (at + node-size * size T)) t
+            ∙ ap (λ (c : Bool). extent c (at + node-size * suc (sizes us))) (leb-step (depths us) levels (omega arith))
             ∙ ap (λ (x : ℕ). extent (leb (depths us) (levels - 1)) x) v;
       }
 
@@ -83,10 +83,10 @@ module _ (b : List ℕ) (at levels : ℕ) (w : well-formed (tree-at b at) ≡ tr
     unfolding extent-from trees
     level-end z =
         let e = children-none (λ a. tree-at b a) k x z in
-        let a : x + 16 * 0 ≡ x = omega arith in
+        let a : x + node-size * 0 ≡ x = omega arith in
         sym (l .same
-        ∙ ap (λ (ts : Formulas). extent (leb (depths ts) (levels - 1)) (x + 16 * sizes ts)) e
-        ∙ ap (λ (c : Bool). extent c (x + 16 * 0)) (le-leb 0 (levels - 1) (omega arith))
+        ∙ ap (λ (ts : Formulas). extent (leb (depths ts) (levels - 1)) (x + node-size * sizes ts)) e
+        ∙ ap (λ (c : Bool). extent c (x + node-size * 0)) (le-leb 0 (levels - 1) (omega arith))
         ∙ ap To a)
 
     module _ (z : k ≡ 0 → ⊥) where
@@ -98,30 +98,30 @@ module _ (b : List ℕ) (at levels : ℕ) (w : well-formed (tree-at b at) ≡ tr
       unfolding extent-at extent-from trees
       level-deeper r q o =
           let d = levels - 1 in
-          let c = deeper-is (leb (depth (tree-at b x)) d) r (x + 16 * size (tree-at b x)) q o in
-          let y = children-at (λ a. tree-at b a) (k - 1) (x + 16 * size (tree-at b x)) in
+          let c = deeper-is (leb (depth (tree-at b x)) d) r (x + node-size * size (tree-at b x)) q o in
+          let y = children-at (λ a. tree-at b a) (k - 1) (x + node-size * size (tree-at b x)) in
           let g : leb (depths (trees b k x)) d ≡ false =
           ap (λ (ts : Formulas). leb (depths ts) d) (children-next (λ a. tree-at b a) k x z) ∙ leb-over (depth (tree-at b x)) (depths y) d c in
-          o ∙ sym (l .same ∙ ap (λ (v : Bool). extent v (x + 16 * sizes (trees b k x))) g)
+          o ∙ sym (l .same ∙ ap (λ (v : Bool). extent v (x + node-size * sizes (trees b k x))) g)
 
       pub level-next : (r : Extent) (e : ℕ) → r ≡ extent-at b x (levels - 1) → r ≡ To e → Level (k - 1) e
       unfolding extent-at extent-from trees
       level-next r e q t =
           let d = levels - 1 in
-          let s = to-is (leb (depth (tree-at b x)) d) r (x + 16 * size (tree-at b x)) e q t in
+          let s = to-is (leb (depth (tree-at b x)) d) r (x + node-size * size (tree-at b x)) e q t in
           let g = children-next (λ a. tree-at b a) k x z in
-          let y = x + 16 * size (tree-at b x) in
+          let y = x + node-size * size (tree-at b x) in
           let us = children-at (λ a. tree-at b a) (k - 1) y in
-          let v : x + 16 * (size (tree-at b x) + sizes us) ≡ y + 16 * sizes us = omega arith in
+          let v : x + node-size * (size (tree-at b x) + sizes us) ≡ y + node-size * sizes us = omega arith in
           record {
             inside = omega (arith, s .1, tree-inside (length b) b x first-child);
             all = ap (λ (j : ℕ). all-well-formed (children-at (λ a. tree-at b a) (k - 1) j)) (s .1)
                 ∙ and-second (well-formed (tree-at b x)) (all-well-formed us) (sym (ap all-well-formed g) ∙ l .all);
             same = l .same
-                ∙ ap (λ (ts : Formulas). extent (leb (depths ts) d) (x + 16 * sizes ts)) g
-                ∙ ap (λ (c : Bool). extent c (x + 16 * (size (tree-at b x) + sizes us))) (leb-max (depth (tree-at b x)) (depths us) d (s .0))
+                ∙ ap (λ (ts : Formulas). extent (leb (depths ts) d) (x + node-size * sizes ts)) g
+                ∙ ap (λ (c : Bool). extent c (x + node-size * (size (tree-at b x) + sizes us))) (leb-max (depth (tree-at b x)) (depths us) d (s .0))
                 ∙ ap (λ (j : ℕ). extent (leb (depths us) d) j) v
-                ∙ ap (λ (j : ℕ). extent (leb (depths (children-at (λ a. tree-at b a) (k - 1) j)) d) (j + 16 * sizes (children-at (λ a. tree-at b a) (k - 1) j))) (sym (s .1));
+                ∙ ap (λ (j : ℕ). extent (leb (depths (children-at (λ a. tree-at b a) (k - 1) j)) d) (j + node-size * sizes (children-at (λ a. tree-at b a) (k - 1) j))) (sym (s .1));
           }
 
 -- ---- both limits
@@ -138,16 +138,16 @@ module _ (b : List ℕ) (nodes levels : ℕ) where
   limits : is-some (formula-of b) ≡ true → limited nodes levels (formula-of b) ≡ within nodes levels (tree-at b 0)
   limits f = ap (limited nodes levels) (whole b f .2)
 
-  too-long-by : (t : Bool) → is-some (formula-of b) ≡ t → nodes < length b / 16 → false ≡ limited nodes levels (formula-of b)
+  too-long-by : (t : Bool) → is-some (formula-of b) ≡ t → nodes < length b / node-size → false ≡ limited nodes levels (formula-of b)
   too-long-by true f h =
       let s = whole b f .1 in
       sym (limits f ∙ ap (λ (c : Bool). c && leb (depth (tree-at b 0)) levels) (lt-leb (size (tree-at b 0)) nodes (omega arith)))
   too-long-by false f h = not-limited b nodes levels f
 
-  pub too-long : nodes < length b / 16 → false ≡ limited nodes levels (formula-of b)
+  pub too-long : nodes < length b / node-size → false ≡ limited nodes levels (formula-of b)
   too-long h = too-long-by (is-some (formula-of b)) refl h
 
-  module _ (f : is-some (formula-of b) ≡ true) (h : length b / 16 ≤ nodes) where
+  module _ (f : is-some (formula-of b) ≡ true) (h : length b / node-size ≤ nodes) where
     short : limited nodes levels (formula-of b) ≡ leb (depth (tree-at b 0)) levels
     short =
         let s = whole b f .1 in
@@ -155,8 +155,8 @@ module _ (b : List ℕ) (nodes levels : ℕ) where
 
     pub too-deep : (r : Extent) → r ≡ extent-at b 0 levels → r ≡ Deeper → false ≡ limited nodes levels (formula-of b)
     unfolding extent-at
-    too-deep r q o = sym (short ∙ deeper-is (leb (depth (tree-at b 0)) levels) r (0 + 16 * size (tree-at b 0)) q o)
+    too-deep r q o = sym (short ∙ deeper-is (leb (depth (tree-at b 0)) levels) r (0 + node-size * size (tree-at b 0)) q o)
 
     pub all-within : (r : Extent) (e : ℕ) → r ≡ extent-at b 0 levels → r ≡ To e → true ≡ limited nodes levels (formula-of b)
     unfolding extent-at
-    all-within r e q t = sym (short ∙ to-is (leb (depth (tree-at b 0)) levels) r (0 + 16 * size (tree-at b 0)) e q t .0)
+    all-within r e q t = sym (short ∙ to-is (leb (depth (tree-at b 0)) levels) r (0 + node-size * size (tree-at b 0)) e q t .0)

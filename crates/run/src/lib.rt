@@ -18,6 +18,10 @@ ghost use Rattle.run.specs.Views.{Hands-back, Writable, answer-of, pendi
 ghost use Rattle.run.specs.Calls.{Finished, Known-place, putting, refusing, replying, resume-at, run-at, stale-at, steps-at, stopping, supplying, unasked, unfit-at};
 use instruction::Effect;
 use instruction::Progress;
+use layout::CODE_AT;
+use layout::INPUTS_AT;
+use layout::REGISTERS_AT;
+use layout::RESULT_AT;
 use program::word;
 use refusals::INVALID_INPUT;
 use refusals::NO_PROGRAM;
@@ -87,7 +91,7 @@ fn finished(p: &[u8], regs: &[f64], code: usize, done: usize) -> Reply
     ensures { λ r. ⌜ Finished (now (p .entry)) done r (now (regs .entry)) ⌝ }
 {
     let none = work::fresh();
-    let value = instruction::value_at(regs, word(p, 12));
+    let value = instruction::value_at(regs, word(p, RESULT_AT));
     replied(Answer::Value(value), done, code, none, Pending::Nothing)
 }
 
@@ -122,7 +126,7 @@ pub fn steps(
     ensures reply { λ r. ⌜ reply-of (now (p .entry)) r (now (regs .exit)) ≡ steps-at (now (inputs .entry)) (now (p .entry)) budget position (kept-values kept) (now (regs .entry)) ⌝ }
     ensures place { λ r. ⌜ Known-place (now (p .entry)) (r .answer) ⌝ }
 {
-    let code = word(p, 4);
+    let code = word(p, CODE_AT);
     let none = work::fresh();
     let mut left = budget;
     let mut done = 0;
@@ -168,11 +172,11 @@ fn all_finite(xs: &[f64]) -> bool
 fn unfit(p: &[u8], inputs: &[f64], regs: &[f64], budget: usize) -> bool
     ensures { λ r. ⌜ r ≡ unfit-at (now (inputs .entry)) (now (p .entry)) (now (regs .entry)) budget ⌝ }
 {
-    let count = word(p, 16);
+    let count = word(p, INPUTS_AT);
     if inputs.len() != count {
         return true;
     }
-    let registers = word(p, 8);
+    let registers = word(p, REGISTERS_AT);
     if regs.len() < registers {
         return true;
     }
@@ -252,7 +256,7 @@ fn stale(p: &[u8], inputs: &[f64], regs: &[f64], state: State, supplied: Supplie
     ensures { λ r. ⌜ r ≡ stale-at (now (inputs .entry)) (now (p .entry)) (now (regs .entry)) (state .position) (kept-values (state .kept)) (pending-of (state .pending)) (supplied-of supplied) ⌝ }
 {
     let position = state.position;
-    let code = word(p, 4);
+    let code = word(p, CODE_AT);
     if code <= position {
         return true;
     }

@@ -9,7 +9,7 @@ use lib.Dec.{eqb}
 use borrow.Author.Tests.{eq-eqb, ne-eqb}
 use Rattle.formula.specs.Formula.{Head, Formula, Formulas, node, last, next, count, depends, well-formed}
 use Rattle.formula.specs.Text.{byte-at, half-at}
-use Rattle.formula.specs.Node.{Fields, fields-at, fields-of}
+use Rattle.formula.specs.Node.{Fields, fields-at, fields-of, node-size}
 use Rattle.derivative.specs.Rules.{Rule, Parts, rule-of, instance, less-one, one-bits, zero-bits}
 use Rattle.derivative.specs.Differentiate.{formulas, the-rule, first-depends, second-literal}
 use Rattle.derivative.specs.Attributes.{Attributes, attribute-algebra, attributes-of}
@@ -59,7 +59,7 @@ first-none s (next u ts) e = absurd (omega arith)
 pub moving-is : (s : ℕ) (f : List ℕ) (k r : ℕ) → IsChild f k 0 r → first-depends s (children-of (tree f k)) ≡ depends s (tree f r)
 moving-is s f k r c = first-is s (children-of (tree f k)) (tree f r) (c .is)
 
-pub moving-none : (s : ℕ) (f : List ℕ) (k : ℕ) → well-formed (tree f k) ≡ true → half-at f (16 * k + 2) ≡ 0 → first-depends s (children-of (tree f k)) ≡ false
+pub moving-none : (s : ℕ) (f : List ℕ) (k : ℕ) → well-formed (tree f k) ≡ true → half-at f (node-size * k + 2) ≡ 0 → first-depends s (children-of (tree f k)) ≡ false
 moving-none s f k w e = first-none s (children-of (tree f k)) (count-is f k w ∙ e)
 
 -- ---- the number of the rule
@@ -72,7 +72,7 @@ childless-no : (n : ℕ) → (n ≡ 0 → ⊥) → childless n ≡ false
 childless-no zero e = absurd (e refl)
 childless-no (suc n) e = refl
 
-module _ (s : ℕ) (b : Bool) (f : List ℕ) (k q : ℕ) (e : q ≡ 16 * byte-at f (16 * k) + byte-at f (16 * k + 1)) where
+module _ (s : ℕ) (b : Bool) (f : List ℕ) (k q : ℕ) (e : q ≡ 16 * byte-at f (node-size * k) + byte-at f (node-size * k + 1)) where
   abbrev ts : Formulas
   ts = children-of (tree f k)
 
@@ -140,10 +140,10 @@ moves-yes r b v e t = sym (ap (λ (x : Bool). cond x 0 v) (sym e ∙ t))
 pub moves-no : (r b : Bool) (v : ℕ) → r ≡ b → r ≡ false → v ≡ cond b 0 v
 moves-no r b v e t = sym (ap (λ (x : Bool). cond x 0 v) (sym e ∙ t))
 
-pub none-yes : (f : List ℕ) (k h v : ℕ) → well-formed (tree f k) ≡ true → h ≡ half-at f (16 * k + 2) → h ≡ 0 → 0 ≡ cond (childless (count (children-of (tree f k)))) 0 v
+pub none-yes : (f : List ℕ) (k h v : ℕ) → well-formed (tree f k) ≡ true → h ≡ half-at f (node-size * k + 2) → h ≡ 0 → 0 ≡ cond (childless (count (children-of (tree f k)))) 0 v
 none-yes f k h v w e z = sym (ap (λ (x : Bool). cond x 0 v) (childless-yes (count (children-of (tree f k))) (count-is f k w ∙ sym e ∙ z)))
 
-pub none-no : (f : List ℕ) (k h v : ℕ) → well-formed (tree f k) ≡ true → h ≡ half-at f (16 * k + 2) → (h ≡ 0 → ⊥) → v ≡ cond (childless (count (children-of (tree f k)))) 0 v
+pub none-no : (f : List ℕ) (k h v : ℕ) → well-formed (tree f k) ≡ true → h ≡ half-at f (node-size * k + 2) → (h ≡ 0 → ⊥) → v ≡ cond (childless (count (children-of (tree f k)))) 0 v
 none-no f k h v w e z = sym (ap (λ (x : Bool). cond x 0 v) (childless-no (count (children-of (tree f k))) (λ y. z (e ∙ sym (count-is f k w) ∙ y))))
 
 -- ---- the rule
@@ -166,7 +166,7 @@ module _ (s : ℕ) (b : Bool) (f : List ℕ) (k : ℕ) (w : well-formed (tree f 
   numbered =
       let o = opened f k w in
       ap (λ (x : ℕ). rule-numbered (or-zero (second-literal (children-of t))) (count (children-of t)) x) e
-      ∙ rule-by s b t (o .head) (trees f (half-at f (16 * k + 2)) (k + 1)) (half-at f (16 * k + 2)) (fields-at f (16 * k)) (o .is) (trees-count f (half-at f (16 * k + 2)) (k + 1)) (o .back)
+      ∙ rule-by s b t (o .head) (trees f (half-at f (node-size * k + 2)) (k + 1)) (half-at f (node-size * k + 2)) (fields-at f (node-size * k)) (o .is) (trees-count f (half-at f (node-size * k + 2)) (k + 1)) (o .back)
 
   pub no-rule : code-at q 0 ≡ 0 → the-rule s b (head-of-tree t) (children-of t) ≡ none
   unfolding rule-numbered

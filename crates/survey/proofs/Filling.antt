@@ -14,7 +14,7 @@ use lib.Dec.{leb}
 use Rattle.formula.specs.Operator.{unary, binary, compare, call}
 use Rattle.formula.specs.Formula.{Head, number, truth, symbol, operation, junction, ifelse, conditional, malformed, Formula, Formulas, node, last, next, count, size, sizes, depth, depths, depends, any-depends, is-symbol, well-formed, all-well-formed}
 use Rattle.formula.specs.Text.{byte-at, half-at, word-at}
-use Rattle.formula.specs.Node.{Fields, fields-at, fields-of}
+use Rattle.formula.specs.Node.{Fields, fields-at, fields-of, node-size}
 use Rattle.derivative.specs.Rules.{Rule}
 use Rattle.derivative.specs.Differentiate.{formulas, the-rule, differentiate, differentiate-all, and-then, applied}
 use Rattle.derivative.specs.Attributes.{attributes-of, Attributes}
@@ -52,17 +52,17 @@ other-head conditional n s F e z = refl
 other-head malformed n s F e z = refl
 
 module _ (f : List ℕ) (k s : ℕ) (w : well-formed (tree f k) ≡ true) where
-  pub symbol-yes : (v : ℕ) → v ≡ word-at f (16 * k + 4) → byte-at f (16 * k) ≡ 2 → eqb v s ≡ is-symbol s (head-of-tree (tree f k))
+  pub symbol-yes : (v : ℕ) → v ≡ word-at f (node-size * k + 4) → byte-at f (node-size * k) ≡ 2 → eqb v s ≡ is-symbol s (head-of-tree (tree f k))
   unfolding fields-at
   symbol-yes v e z =
       let o = opened f k w in
-      ap (λ (x : ℕ). eqb x s) e ∙ symbol-head (o .head) (half-at f (16 * k + 2)) s (fields-at f (16 * k)) (o .back) z ∙ sym (ap (λ (t : Formula). is-symbol s (head-of-tree t)) (o .is))
+      ap (λ (x : ℕ). eqb x s) e ∙ symbol-head (o .head) (half-at f (node-size * k + 2)) s (fields-at f (node-size * k)) (o .back) z ∙ sym (ap (λ (t : Formula). is-symbol s (head-of-tree t)) (o .is))
 
-  pub symbol-no : (byte-at f (16 * k) ≡ 2 → ⊥) → false ≡ is-symbol s (head-of-tree (tree f k))
+  pub symbol-no : (byte-at f (node-size * k) ≡ 2 → ⊥) → false ≡ is-symbol s (head-of-tree (tree f k))
   unfolding fields-at
   symbol-no z =
       let o = opened f k w in
-      other-head (o .head) (half-at f (16 * k + 2)) s (fields-at f (16 * k)) (o .back) z ∙ sym (ap (λ (t : Formula). is-symbol s (head-of-tree t)) (o .is))
+      other-head (o .head) (half-at f (node-size * k + 2)) s (fields-at f (node-size * k)) (o .back) z ∙ sym (ap (λ (t : Formula). is-symbol s (head-of-tree t)) (o .is))
 
 -- ---- stores
 
@@ -255,10 +255,10 @@ module _ (s : ℕ) (b : Bool) (f T₀ : List ℕ) (k d : ℕ) (room : Room f T�
     pub before : (m : ℕ) → m < 8 * k → getD T m 0 ≡ getD T₀ m 0
     pub beyond : (m : ℕ) → 8 * (k + size (tree f k)) ≤ m → getD T m 0 ≡ getD T₀ m 0
 
-  pub going-start : (has : Bool) (n : ℕ) → has ≡ is-symbol s (head-of-tree (tree f k)) → n ≡ half-at f (16 * k + 2) → Going T₀ has true 0 (k + 1) n
+  pub going-start : (has : Bool) (n : ℕ) → has ≡ is-symbol s (head-of-tree (tree f k)) → n ≡ half-at f (node-size * k + 2) → Going T₀ has true 0 (k + 1) n
   going-start has n p q =
       let o = opened f k (room .formed) in
-      let N = half-at f (16 * k + 2) in
+      let N = half-at f (node-size * k + 2) in
       let c : trees f N (k + 1) ≡ trees f n (k + 1) = ap (λ (x : ℕ). trees f x (k + 1)) (sym q) in
       let e : tree f k ≡ node (o .head) (trees f n (k + 1)) = o .is ∙ ap (λ (ts : Formulas). node (o .head) ts) c in
       record {

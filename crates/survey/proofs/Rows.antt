@@ -10,7 +10,7 @@ use lib.Dec.{eqb}
 use Rattle.formula.specs.Operator.{unary, binary, compare, call}
 use Rattle.formula.specs.Formula.{Head, number, truth, symbol, operation, junction, ifelse, conditional, malformed, Formula, Formulas, node, last, next, count, size, depth, well-formed}
 use Rattle.formula.specs.Text.{byte-at, half-at, long-at}
-use Rattle.formula.specs.Node.{Fields, fields-at, fields-of}
+use Rattle.formula.specs.Node.{Fields, fields-at, fields-of, node-size}
 use Rattle.derivative.specs.Differentiate.{literal-head, literal-bits, first-literal, second-literal}
 use Rattle.derivative.specs.Attributes.{Attributes, attributes-of}
 use Rattle.reader.proofs.Trees.{size-pos}
@@ -46,19 +46,19 @@ other-head conditional n F e z = refl
 other-head malformed n F e z = refl
 
 module _ (f : List ℕ) (k : ℕ) (w : well-formed (tree f k) ≡ true) where
-  pub literal-yes : (b : ℕ) → b ≡ long-at f (16 * k + 8) → byte-at f (16 * k) ≡ 0 → some b ≡ literal-bits (tree f k)
+  pub literal-yes : (b : ℕ) → b ≡ long-at f (node-size * k + 8) → byte-at f (node-size * k) ≡ 0 → some b ≡ literal-bits (tree f k)
   unfolding fields-at
   literal-yes b e z =
       let o = opened f k w in
-      ap (λ (x : ℕ). some x) e ∙ number-head (o .head) (half-at f (16 * k + 2)) (fields-at f (16 * k)) (o .back) z ∙ sym (ap literal-bits (o .is))
+      ap (λ (x : ℕ). some x) e ∙ number-head (o .head) (half-at f (node-size * k + 2)) (fields-at f (node-size * k)) (o .back) z ∙ sym (ap literal-bits (o .is))
 
-  pub literal-no : (byte-at f (16 * k) ≡ 0 → ⊥) → none ≡ literal-bits (tree f k)
+  pub literal-no : (byte-at f (node-size * k) ≡ 0 → ⊥) → none ≡ literal-bits (tree f k)
   unfolding fields-at
   literal-no z =
       let o = opened f k w in
-      other-head (o .head) (half-at f (16 * k + 2)) (fields-at f (16 * k)) (o .back) z ∙ sym (ap literal-bits (o .is))
+      other-head (o .head) (half-at f (node-size * k + 2)) (fields-at f (node-size * k)) (o .back) z ∙ sym (ap literal-bits (o .is))
 
-pub first-inside : (f : List ℕ) (k : ℕ) → well-formed (tree f k) ≡ true → 16 * k + 16 ≤ length f
+pub first-inside : (f : List ℕ) (k : ℕ) → well-formed (tree f k) ≡ true → node-size * k + node-size ≤ length f
 first-inside f k w = opened f k w .inside
 
 -- ---- its own row
@@ -81,9 +81,9 @@ own-right f T k o n l b p q r =
 
 -- ---- the walk to a child by the sizes in the table
 
-module _ (f T : List ℕ) (k i : ℕ) (o : Owned f T k) (h : i < half-at f (16 * k + 2)) (left at : ℕ) (w : Walk f k i (left + (half-at f (16 * k + 2) - i)) left at) where
+module _ (f T : List ℕ) (k i : ℕ) (o : Owned f T k) (h : i < half-at f (node-size * k + 2)) (left at : ℕ) (w : Walk f k i (left + (half-at f (node-size * k + 2) - i)) left at) where
   abbrev rest : ℕ
-  rest = half-at f (16 * k + 2) - i
+  rest = half-at f (node-size * k + 2) - i
 
   pub stands : Stands f k at
   stands = walk-stands f k i (left + rest) left at w
@@ -124,10 +124,10 @@ child-is f k i r c = child-at (children-of (tree f k)) i (tree f r) zero-literal
 pub derived-is : (s : ℕ) (b : Bool) (f : List ℕ) (k i r : ℕ) → IsChild f k i r → derived-of s b (tree f k) i ≡ derived s b (tree f r)
 derived-is s b f k i r c = derived-at s b (children-of (tree f k)) i (tree f r) zero-literal (c .is)
 
-pub child-none : (f : List ℕ) (k i : ℕ) → well-formed (tree f k) ≡ true → half-at f (16 * k + 2) ≤ i → child-of (tree f k) i ≡ zero-literal
+pub child-none : (f : List ℕ) (k i : ℕ) → well-formed (tree f k) ≡ true → half-at f (node-size * k + 2) ≤ i → child-of (tree f k) i ≡ zero-literal
 child-none f k i w h = child-past (children-of (tree f k)) i zero-literal (omega (arith, count-is f k w))
 
-pub derived-none : (s : ℕ) (b : Bool) (f : List ℕ) (k i : ℕ) → well-formed (tree f k) ≡ true → half-at f (16 * k + 2) ≤ i → derived-of s b (tree f k) i ≡ zero-literal
+pub derived-none : (s : ℕ) (b : Bool) (f : List ℕ) (k i : ℕ) → well-formed (tree f k) ≡ true → half-at f (node-size * k + 2) ≤ i → derived-of s b (tree f k) i ≡ zero-literal
 derived-none s b f k i w h = derived-past s b (children-of (tree f k)) i zero-literal (omega (arith, count-is f k w))
 
 -- ---- the exponent
@@ -145,7 +145,7 @@ second-none (next u (next v ts)) h = absurd (omega arith)
 pub exponent-is : (f : List ℕ) (k r : ℕ) → IsChild f k 1 r → second-literal (children-of (tree f k)) ≡ literal-bits (tree f r)
 exponent-is f k r c = second-is (children-of (tree f k)) (tree f r) (c .is)
 
-pub exponent-none : (f : List ℕ) (k : ℕ) → well-formed (tree f k) ≡ true → half-at f (16 * k + 2) ≤ 1 → second-literal (children-of (tree f k)) ≡ none
+pub exponent-none : (f : List ℕ) (k : ℕ) → well-formed (tree f k) ≡ true → half-at f (node-size * k + 2) ≤ 1 → second-literal (children-of (tree f k)) ≡ none
 exponent-none f k w h = second-none (children-of (tree f k)) (omega (arith, count-is f k w))
 
 -- ---- a rule's literals

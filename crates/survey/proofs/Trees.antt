@@ -8,36 +8,36 @@ use native.Mathlib.Omega.{arith}
 use lib.ListN.{length, getD}
 use Rattle.formula.specs.Formula.{Head, Formula, Formulas, node, last, next, count, to-list, size, sizes, depth, depths, well-formed, all-well-formed, is-node}
 use Rattle.formula.specs.Text.{half-at}
-use Rattle.formula.specs.Node.{Fields, fields-at, fields-of, head-of, children-at, tree-at}
+use Rattle.formula.specs.Node.{Fields, fields-at, fields-of, head-of, children-at, tree-at, node-size}
 use Rattle.derivative.specs.Attributes.{attributes-of, Attributes}
 use Rattle.reader.proofs.Heads.{and-first, and-second}
 use Rattle.reader.proofs.Trees.{node-at, Node, tree-inside, size-pos, depth-pos}
 use Rattle.survey.specs.Derived.{children-of, head-of-tree, derived, derived-all}
 use Rattle.survey.specs.Table.{tree, trees, nth, IsChild, Own, Owned}
 
-trees-at : (f : List ℕ) (n k : ℕ) → children-at (λ a. tree-at f a) n (16 * k) ≡ trees f n k
+trees-at : (f : List ℕ) (n k : ℕ) → children-at (λ a. tree-at f a) n (node-size * k) ≡ trees f n k
 unfolding tree trees
 trees-at f zero k = refl
 trees-at f (suc n) k =
-    let e : 16 * k + 16 * size (tree f k) ≡ 16 * (k + size (tree f k)) = omega arith in
+    let e : node-size * k + node-size * size (tree f k) ≡ node-size * (k + size (tree f k)) = omega arith in
     ap (λ (x : ℕ). next (tree f k) (children-at (λ a. tree-at f a) n x)) e ∙ ap (λ (ts : Formulas). next (tree f k) ts) (trees-at f n (k + size (tree f k)))
 
 -- a well-formed node
 pub record Opened (f : List ℕ) (k : ℕ) : Type 0 where
   pub head : Head
-  pub inside : 16 * k + 16 ≤ length f
-  pub back : fields-of head (half-at f (16 * k + 2)) ≡ fields-at f (16 * k)
-  pub is : tree f k ≡ node head (trees f (half-at f (16 * k + 2)) (k + 1))
-  pub all : all-well-formed (trees f (half-at f (16 * k + 2)) (k + 1)) ≡ true
+  pub inside : node-size * k + node-size ≤ length f
+  pub back : fields-of head (half-at f (node-size * k + 2)) ≡ fields-at f (node-size * k)
+  pub is : tree f k ≡ node head (trees f (half-at f (node-size * k + 2)) (k + 1))
+  pub all : all-well-formed (trees f (half-at f (node-size * k + 2)) (k + 1)) ≡ true
   pub node-head : is-node head ≡ true
 
 pub opened : (f : List ℕ) (k : ℕ) → well-formed (tree f k) ≡ true → Opened f k
 unfolding tree fields-at
 opened f k w =
-    let m = node-at f (16 * k) w in
-    let n = half-at f (16 * k + 2) in
-    let e : 16 * k + 16 ≡ 16 * (k + 1) = omega arith in
-    let c : children-at (λ a. tree-at f a) n (16 * k + 16) ≡ trees f n (k + 1) =
+    let m = node-at f (node-size * k) w in
+    let n = half-at f (node-size * k + 2) in
+    let e : node-size * k + node-size ≡ node-size * (k + 1) = omega arith in
+    let c : children-at (λ a. tree-at f a) n (node-size * k + node-size) ≡ trees f n (k + 1) =
     ap (λ (x : ℕ). children-at (λ a. tree-at f a) n x) e ∙ trees-at f n (k + 1) in
     record {
       head = m .head;
@@ -48,9 +48,9 @@ opened f k w =
       node-head = m .headed .is;
     }
 
-pub tree-ends : (f : List ℕ) (k : ℕ) → well-formed (tree f k) ≡ true → 16 * (k + size (tree f k)) ≤ length f
+pub tree-ends : (f : List ℕ) (k : ℕ) → well-formed (tree f k) ≡ true → node-size * (k + size (tree f k)) ≤ length f
 unfolding tree
-tree-ends f k w = omega (arith, tree-inside (length f) f (16 * k) w)
+tree-ends f k w = omega (arith, tree-inside (length f) f (node-size * k) w)
 
 pub trees-next : (f : List ℕ) (n k : ℕ) → (n ≡ 0 → ⊥) → trees f n k ≡ next (tree f k) (trees f (n - 1) (k + size (tree f k)))
 unfolding trees
@@ -69,11 +69,11 @@ unfolding trees
 trees-count f zero k = refl
 trees-count f (suc n) k = ap suc (trees-count f n (k + size (tree f k)))
 
-pub children-is : (f : List ℕ) (k : ℕ) (o : Opened f k) → children-of (tree f k) ≡ trees f (half-at f (16 * k + 2)) (k + 1)
+pub children-is : (f : List ℕ) (k : ℕ) (o : Opened f k) → children-of (tree f k) ≡ trees f (half-at f (node-size * k + 2)) (k + 1)
 children-is f k o = ap children-of (o .is)
 
-pub count-is : (f : List ℕ) (k : ℕ) (w : well-formed (tree f k) ≡ true) → count (children-of (tree f k)) ≡ half-at f (16 * k + 2)
-count-is f k w = ap count (children-is f k (opened f k w)) ∙ trees-count f (half-at f (16 * k + 2)) (k + 1)
+pub count-is : (f : List ℕ) (k : ℕ) (w : well-formed (tree f k) ≡ true) → count (children-of (tree f k)) ≡ half-at f (node-size * k + 2)
+count-is f k w = ap count (children-is f k (opened f k w)) ∙ trees-count f (half-at f (node-size * k + 2)) (k + 1)
 
 -- ---- the walk to child i
 
@@ -85,10 +85,10 @@ pub record Walk (f : List ℕ) (k i m left at : ℕ) : Type 0 where
   pub shallower : depths (trees f m at) < depth (tree f k)
   pub is : nth (children-of (tree f k)) i ≡ nth (trees f m at) left
 
-pub walk-start : (f : List ℕ) (k i n : ℕ) → well-formed (tree f k) ≡ true → n ≡ half-at f (16 * k + 2) → i < n → Walk f k i n i (k + 1)
+pub walk-start : (f : List ℕ) (k i n : ℕ) → well-formed (tree f k) ≡ true → n ≡ half-at f (node-size * k + 2) → i < n → Walk f k i n i (k + 1)
 walk-start f k i n w e h =
     let o = opened f k w in
-    let c : trees f (half-at f (16 * k + 2)) (k + 1) ≡ trees f n (k + 1) = ap (λ (x : ℕ). trees f x (k + 1)) (sym e) in
+    let c : trees f (half-at f (node-size * k + 2)) (k + 1) ≡ trees f n (k + 1) = ap (λ (x : ℕ). trees f x (k + 1)) (sym e) in
     record {
       more = h;
       after = omega arith;

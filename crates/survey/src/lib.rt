@@ -8,6 +8,7 @@ ghost use lib.ListN.{length};
 ghost use lib.Dec.{eqb};
 ghost use Rattle.formula.specs.Text.{byte-at, half-at};
 ghost use Rattle.formula.specs.Formula.{count, depends, well-formed, is-symbol as is-symbol-of};
+ghost use Rattle.formula.specs.Node.{node-size};
 ghost use Rattle.derivative.specs.Rules.{instance, less-one, add-of, mul-of};
 ghost use Rattle.derivative.specs.Differentiate.{literal-bits, second-literal, first-depends};
 ghost use Rattle.derivative.specs.Attributes.{attribute-algebra, attributes-of, primal-attributes, survey as survey-of};
@@ -15,6 +16,7 @@ ghost use Rattle.rules.specs.Notation.{or-zero, literal-code, extremum as extre
 ghost use Rattle.survey.specs.Derived.{children-of, head-of-tree, child-of, derived, derived-of, ruled};
 ghost use Rattle.survey.specs.Table.{tree, number-of, reading, diff-in, literal-of, Owned, Ready, IsChild, Room, Filled, PutOwn, PutDiff, found};
 ghost use Rattle.survey.specs.Worked.{attribute-parts, worked, worked-all, summed, literal-attributes, inner, over-sum, Capped};
+use reader::NODE_SIZE;
 use reader::byte;
 use reader::half;
 use reader::long;
@@ -65,7 +67,7 @@ fn larger(a: usize, b: usize) -> usize
 
 // The number of child i.
 pub fn child(f: &[u8], k: usize, i: usize, table: &[usize]) -> usize
-    requires { ⌜ Owned (now f) (now table) k × (i < half-at (now f) (16 * k + 2)) ⌝ }
+    requires { ⌜ Owned (now f) (now table) k × (i < half-at (now f) (node-size * k + 2)) ⌝ }
     ensures { λ r. ⌜ IsChild (now (f .entry)) k i r ⌝ }
 {
     let mut at = k + 1;
@@ -82,10 +84,10 @@ fn literal_at(f: &[u8], k: usize) -> Literal
     requires { ⌜ well-formed (tree (now f) k) ≡ true ⌝ }
     ensures { λ r. ⌜ literal-of r ≡ literal-bits (tree (now (f .entry)) k) ⌝ }
 {
-    if byte(f, 16 * k) == 0 {
+    if byte(f, NODE_SIZE * k) == 0 {
         return Literal {
             literal: true,
-            bits: long(f, 16 * k + 8),
+            bits: long(f, NODE_SIZE * k + 8),
         };
     }
     Literal {
@@ -122,7 +124,7 @@ fn child_attributes(f: &[u8], k: usize, i: usize, table: &[usize]) -> Attributes
     requires { ⌜ Owned (now f) (now table) k ⌝ }
     ensures { λ r. ⌜ reading r ≡ attributes-of (child-of (tree (now (f .entry)) k) i) ⌝ }
 {
-    if i < half(f, 16 * k + 2) {
+    if i < half(f, NODE_SIZE * k + 2) {
         return own(f, child(f, k, i, table), table);
     }
     of_literal(0)
@@ -146,7 +148,7 @@ pub fn diff_attributes(f: &[u8], k: usize, i: usize, by: By, table: &[usize]) ->
     requires { ⌜ Ready (by .symbol) (by .state) (now f) (now table) k ⌝ }
     ensures { λ r. ⌜ reading r ≡ attributes-of (derived-of (by .symbol) (by .state) (tree (now (f .entry)) k) i) ⌝ }
 {
-    if i < half(f, 16 * k + 2) {
+    if i < half(f, NODE_SIZE * k + 2) {
         return row(table, child(f, k, i, table));
     }
     of_literal(0)
@@ -157,7 +159,7 @@ fn exponent(f: &[u8], k: usize, table: &[usize]) -> Literal
     requires { ⌜ Owned (now f) (now table) k ⌝ }
     ensures { λ r. ⌜ literal-of r ≡ second-literal (children-of (tree (now (f .entry)) k)) ⌝ }
 {
-    if 1 < half(f, 16 * k + 2) {
+    if 1 < half(f, NODE_SIZE * k + 2) {
         return literal_at(f, child(f, k, 1, table));
     }
     Literal {
@@ -293,7 +295,7 @@ fn extremum(f: &[u8], k: usize, by: By, table: &[usize]) -> Attributes
     requires { ⌜ Ready (by .symbol) (by .state) (now f) (now table) k ⌝ }
     ensures { λ r. ⌜ reading r ≡ instance attribute-algebra (attribute-parts (by .symbol) (by .state) (tree (now (f .entry)) k)) (extremum-of (count (children-of (tree (now (f .entry)) k)))) ⌝ }
 {
-    let n = half(f, 16 * k + 2);
+    let n = half(f, NODE_SIZE * k + 2);
     if n == 0 {
         return of_literal(0);
     }
@@ -416,7 +418,7 @@ fn moving(f: &[u8], k: usize, by: By, table: &[usize]) -> bool
     requires { ⌜ Ready (by .symbol) (by .state) (now f) (now table) k ⌝ }
     ensures { λ r. ⌜ r ≡ first-depends (by .symbol) (children-of (tree (now (f .entry)) k)) ⌝ }
 {
-    if half(f, 16 * k + 2) == 0 {
+    if half(f, NODE_SIZE * k + 2) == 0 {
         return false;
     }
     let first = child(f, k, 0, table);
@@ -428,7 +430,7 @@ pub fn rule_of(f: &[u8], k: usize, by: By, table: &[usize]) -> usize
     requires { ⌜ Ready (by .symbol) (by .state) (now f) (now table) k ⌝ }
     ensures { λ r. ⌜ r ≡ number-of (by .symbol) (by .state) (now (f .entry)) k ⌝ }
 {
-    let q = 16 * wide(byte(f, 16 * k)) + wide(byte(f, 16 * k + 1));
+    let q = 16 * wide(byte(f, NODE_SIZE * k)) + wide(byte(f, NODE_SIZE * k + 1));
     if q == 0x44 {
         return power_rule(exponent(f, k, table));
     }
@@ -451,13 +453,13 @@ pub fn rule_of(f: &[u8], k: usize, by: By, table: &[usize]) -> usize
         return 0x80;
     }
     if q == 0x7b {
-        if half(f, 16 * k + 2) == 0 {
+        if half(f, NODE_SIZE * k + 2) == 0 {
             return 0;
         }
         return 0x7b;
     }
     if q == 0x7c {
-        if half(f, 16 * k + 2) == 0 {
+        if half(f, NODE_SIZE * k + 2) == 0 {
             return 0;
         }
         return 0x7c;
@@ -504,8 +506,8 @@ fn is_symbol(f: &[u8], k: usize, s: usize) -> bool
     requires { ⌜ well-formed (tree (now f) k) ≡ true ⌝ }
     ensures { λ r. ⌜ r ≡ is-symbol-of s (head-of-tree (tree (now (f .entry)) k)) ⌝ }
 {
-    if byte(f, 16 * k) == 2 {
-        return word(f, 16 * k + 4) == s;
+    if byte(f, NODE_SIZE * k) == 2 {
+        return word(f, NODE_SIZE * k + 4) == s;
     }
     false
 }
@@ -563,7 +565,7 @@ pub fn survey(f: &[u8], k: usize, depth: usize, by: By, table: &mut [usize])
     let mut fine = true;
     let mut levels = 0;
     let mut next = k + 1;
-    let mut left = half(f, 16 * k + 2);
+    let mut left = half(f, NODE_SIZE * k + 2);
     while left > 0 {
         survey(f, next, depth - 1, by, table);
         levels = larger(levels, table[8 * next + 1]);

@@ -9,7 +9,7 @@ use lib.Dec.{eqb, ltb}
 use borrow.Author.Tests.{eq-eqb, eqb-false, eqb-true, le-ltb, lt-ltb, ltb-false, ltb-true, ne-eqb}
 use Rattle.formula.specs.Operator.{And, Junction, Or}
 use Rattle.formula.specs.Formula.{Formulas, all-well-formed, last, next, size, sizes, well-formed}
-use Rattle.formula.specs.Node.{fields-at, tree-in}
+use Rattle.formula.specs.Node.{fields-at, tree-in, node-size}
 use Rattle.formula.specs.Term.{Term, Terms, _and_, apply, branch-term, chain, end, literal, miscounted, symbol, term, term-count, terms, truth}
 use Rattle.machine.specs.Lower.{instruction-count, instruction-counts}
 use Rattle.layout.specs.Image.{entry-count, entry-counts, path-count, path-counts}
@@ -25,25 +25,25 @@ use Rattle.tally.specs.Weight.{more, one, weight}
 
 -- ---- where nodes end
 
-kids-end : (b : List ℕ) (d : ℕ) → ((at : ℕ) → well-formed (tree-in d b at) ≡ true → at + 16 * size (tree-in d b at) ≤ length b)
+kids-end : (b : List ℕ) (d : ℕ) → ((at : ℕ) → well-formed (tree-in d b at) ≡ true → at + node-size * size (tree-in d b at) ≤ length b)
     → (left at : ℕ) → at ≤ length b → all-well-formed (kids b d left at) ≡ true → past b d left at ≤ length b
 kids-end b d tree zero at h w = omega (arith, past-none b d 0 at refl)
 kids-end b d tree (suc k) at h w =
     let n : (suc k ≡ 0 → ⊥) = λ z. omega arith in
     let e : suc k - 1 ≡ k = omega arith in
-    let r : all-well-formed (kids b d k (at + 16 * size (tree-in d b at))) ≡ true = rw e at (rest-well b d (suc k) at n w) in
-    let s : past b d k (at + 16 * size (tree-in d b at)) ≡ past b d (suc k) at = rw e at (past-step b d (suc k) at n) in
+    let r : all-well-formed (kids b d k (at + node-size * size (tree-in d b at))) ≡ true = rw e at (rest-well b d (suc k) at n w) in
+    let s : past b d k (at + node-size * size (tree-in d b at)) ≡ past b d (suc k) at = rw e at (past-step b d (suc k) at n) in
     let t = tree at (first-well b d (suc k) at n w) in
-    omega (arith, s, kids-end b d tree k (at + 16 * size (tree-in d b at)) t r)
+    omega (arith, s, kids-end b d tree k (at + node-size * size (tree-in d b at)) t r)
 
-pub tree-end : (b : List ℕ) (d at : ℕ) → well-formed (tree-in d b at) ≡ true → at + 16 * size (tree-in d b at) ≤ length b
+pub tree-end : (b : List ℕ) (d at : ℕ) → well-formed (tree-in d b at) ≡ true → at + node-size * size (tree-in d b at) ≤ length b
 tree-end b zero at w = absurd (omega (arith, stands b 0 at w .deep))
 tree-end b (suc d) at w =
     let N = stands b (suc d) at w in
     let e : suc d - 1 ≡ d = omega arith in
-    let a : all-well-formed (kids b d (fields-at b at .children) (at + 16)) ≡ true = rw e at (N .all) in
-    let s : size (tree-in (suc d) b at) ≡ suc (sizes (kids b d (fields-at b at .children) (at + 16))) = rw e at (ap size (N .tree)) in
-    omega (arith, s, kids-end b d (λ x y. tree-end b d x y) (fields-at b at .children) (at + 16) (N .inside) a)
+    let a : all-well-formed (kids b d (fields-at b at .children) (at + node-size)) ≡ true = rw e at (N .all) in
+    let s : size (tree-in (suc d) b at) ≡ suc (sizes (kids b d (fields-at b at .children) (at + node-size))) = rw e at (ap size (N .tree)) in
+    omega (arith, s, kids-end b d (λ x y. tree-end b d x y) (fields-at b at .children) (at + node-size) (N .inside) a)
 
 -- ---- bounds
 
@@ -97,20 +97,20 @@ counts b d left at =
 abbrev pub node-counts : List ℕ → ℕ → ℕ → Counts
 node-counts b d at =
     let t = term (tree-in d b at) in
-    record { node = at + 16 * size (tree-in d b at); code = instruction-count t; paths = path-count t; entries = entry-count t }
+    record { node = at + node-size * size (tree-in d b at); code = instruction-count t; paths = path-count t; entries = entry-count t }
 
 module _ (b : List ℕ) (d at : ℕ) (f : Fields) (is-f : written f ≡ fields-at b at) (w : well-formed (tree-in d b at) ≡ true) where
   abbrev n : ℕ
   n = f .children
 
   abbrev ts : Terms
-  ts = terms (kids b (d - 1) n (at + 16))
+  ts = terms (kids b (d - 1) n (at + node-size))
 
   abbrev inner : Counts
-  inner = counts b (d - 1) n (at + 16)
+  inner = counts b (d - 1) n (at + node-size)
 
   count-is : term-count ts ≡ n
-  count-is = wholes.count-kids b (d - 1) n (at + 16)
+  count-is = wholes.count-kids b (d - 1) n (at + node-size)
 
   end-is : inner .node ≡ node-counts b d at .node
   end-is = wholes.past-is b d at f is-f w
@@ -129,7 +129,7 @@ module _ (b : List ℕ) (d at : ℕ) (f : Fields) (is-f : written f ≡ fields-a
       let z′ = ap entry-count e ∙ z in
       λ j. record { node = end-is j; code = sym x′ j; paths = sym y′ j; entries = sym z′ j }
 
-  joined-made : 2 ≤ n → Made (arm b (d - 1) (eqb (f .operator) 0) n (at + 16)) ts (5 * (n - 1)) (2 * (n - 1)) 0
+  joined-made : 2 ≤ n → Made (arm b (d - 1) (eqb (f .operator) 0) n (at + node-size)) ts (5 * (n - 1)) (2 * (n - 1)) 0
   unfolding arm
   joined-made h = made-joined (junction-of (eqb (f .operator) 0)) ts n count-is h
 
@@ -142,7 +142,7 @@ module _ (b : List ℕ) (d at : ℕ) (f : Fields) (is-f : written f ≡ fields-a
   as-choice : chooses-at (f .kind) (f .operator) ≡ true → (c : Bool) → eqb n 3 ≡ c → cond c (more inner 4 1 0) (one inner) ≡ node-counts b d at
   as-choice k true e =
       let h = eqb-true n 3 e in
-      as-more (branch-term ts) 4 1 0 (wholes.branch-is b d at f is-f w k h ∙ sym (wholes.three-kids b (d - 1) n (at + 16) h)) (made-three ts (count-is ∙ h))
+      as-more (branch-term ts) 4 1 0 (wholes.branch-is b d at f is-f w k h ∙ sym (wholes.three-kids b (d - 1) n (at + node-size) h)) (made-three ts (count-is ∙ h))
   as-choice k false e = as-one miscounted (wholes.wrong-is b d at f is-f w k (eqb-false n 3 e)) (refl, refl, refl)
 
   module _ (k₃ : 3 ≤ f .kind) (k₆ : f .kind ≡ 6 → ⊥) (k : chooses-at (f .kind) (f .operator) ≡ false) where
@@ -250,17 +250,17 @@ module _ (b : List ℕ) (d left at : ℕ) (n : left ≡ 0 → ⊥) (w : all-well
   pub deep : 0 < d
   deep = wholes.node-deep b d at f is-f here-well
 
-  pub inside : at + 16 ≤ length b
+  pub inside : at + node-size ≤ length b
   inside = wholes.node-inside b d at f is-f here-well
 
-  pub inner-well : all-well-formed (kids b (d - 1) (f .children) (at + 16)) ≡ true
+  pub inner-well : all-well-formed (kids b (d - 1) (f .children) (at + node-size)) ≡ true
   inner-well = wholes.kids-well b d at f is-f here-well
 
-  module _ (t : Counts) (is-t : t ≡ counts b (d - 1) (f .children) (at + 16)) (one : Counts) (is-one : one ≡ weight f t) where
+  module _ (t : Counts) (is-t : t ≡ counts b (d - 1) (f .children) (at + node-size)) (one : Counts) (is-one : one ≡ weight f t) where
     pub first-is : one ≡ node-counts b d at
     first-is = is-one ∙ ap (weight f) is-t ∙ weight-is b d at f is-f here-well
 
-    next-at : at + 16 * size (tree-in d b at) ≡ one .node
+    next-at : at + node-size * size (tree-in d b at) ≡ one .node
     next-at = sym (ap (λ (u : Counts). u .node) first-is)
 
     pub next-well : all-well-formed (kids b d (left - 1) (one .node)) ≡ true
@@ -272,7 +272,7 @@ module _ (b : List ℕ) (d left at : ℕ) (n : left ≡ 0 → ⊥) (w : all-well
     pub all-counts : (rest r : Counts) → rest ≡ counts b d (left - 1) (one .node) → r ≡ more rest (one .code) (one .paths) (one .entries) → r ≡ counts b d left at
     all-counts rest r e x =
         let k = kids-step b d left at n in
-        let e′ : rest ≡ counts b d (left - 1) (at + 16 * size (tree-in d b at)) = e ∙ ap (λ (u : ℕ). counts b d (left - 1) u) (sym next-at) in
+        let e′ : rest ≡ counts b d (left - 1) (at + node-size * size (tree-in d b at)) = e ∙ ap (λ (u : ℕ). counts b d (left - 1) u) (sym next-at) in
         let x₀ : rest .node ≡ past b d left at = ap (λ (u : Counts). u .node) e′ ∙ past-step b d left at n in
         let x₁ : rest .code + one .code ≡ instruction-counts (terms (kids b d left at)) =
         omega (arith, ap (λ (u : Counts). u .code) e′, ap (λ (u : Counts). u .code) first-is, ap (λ (u : Formulas). instruction-counts (terms u)) k) in

@@ -19,6 +19,9 @@ ghost use Rattle.vebrostin.specs.Cells.{Arguments-back, Askable, Comes-b
 ghost use Rattle.vebrostin.specs.Calls.{Carries, Compiles, Derives, Leaves, compile-number, derive-number, is-refused, resume-outcome, run-outcome};
 use floats::value::bits_of;
 use floats::value::of_bits;
+use layout::CODE_AT;
+use layout::INPUTS_AT;
+use layout::REGISTERS_AT;
 use refusals::OUTSIDE_DOMAIN;
 use refusals::SLICE_TOO_SHORT;
 use run::Answer;
@@ -91,21 +94,21 @@ pub extern "C" fn vebrostin_is_program(program: &[u8]) -> bool
 pub extern "C" fn vebrostin_instructions(program: &[u8]) -> usize
     ensures { λ r. ⌜ r ≡ word-at (now (program .entry)) 4 ⌝ }
 {
-    reader::word(program, 4)
+    reader::word(program, CODE_AT)
 }
 
 #[no_mangle]
 pub extern "C" fn vebrostin_registers(program: &[u8]) -> usize
     ensures { λ r. ⌜ r ≡ word-at (now (program .entry)) 8 ⌝ }
 {
-    reader::word(program, 8)
+    reader::word(program, REGISTERS_AT)
 }
 
 #[no_mangle]
 pub extern "C" fn vebrostin_inputs(program: &[u8]) -> usize
     ensures { λ r. ⌜ r ≡ word-at (now (program .entry)) 16 ⌝ }
 {
-    reader::word(program, 16)
+    reader::word(program, INPUTS_AT)
 }
 
 // ---- a state as cells

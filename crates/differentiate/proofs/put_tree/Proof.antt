@@ -10,6 +10,7 @@ use Rattle.differentiate.proofs.put_tree.Tie as tie
 use Rattle.differentiate.proofs.put_tree.Reads as reads
 use Rattle.differentiate.proofs.put_tree.Lts as lts
 use Rattle.differentiate.proofs.copy.Reads as copy-reads
+use Rattle.formula.specs.Node.{node-size}
 
 mul-start : tie.Need-mul-start
 mul-start c = search needs
@@ -72,7 +73,7 @@ returns c =
     let copy = c .before .before .copy in
     as-text _ _ _ _ _
     (tree-bytes (args .f .now) (args .table .now) (args .k) (pre .0) (λ i. omega (arith, shared-slice-known .given i))
-    (16 * args .k + 16 * getD (args .table .now) (8 * args .k) 0 - 16 * args .k) (omega arith))
+    (node-size * args .k + node-size * getD (args .table .now) (8 * args .k) 0 - node-size * args .k) (omega arith))
     (copy .ensures)
 
 pub put-tree-spec : {M : Type 1} → statement M

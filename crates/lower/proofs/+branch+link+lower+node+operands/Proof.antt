@@ -13,7 +13,7 @@ use Rattle.lower.proofs.Says.{refused, taken}
 use Rattle.lower.specs.Piece.{arm, context-of, kids, leaf, past}
 use Rattle.machine.proofs.Laws.{instruction-count-pos}
 use Rattle.formula.specs.Term.{branch, term, terms}
-use Rattle.formula.specs.Node.{tree-in}
+use Rattle.formula.specs.Node.{tree-in, node-size}
 use Rattle.formula.specs.Formula.{all-well-formed, size}
 use native.Mathlib.Omega.{arith}
 use mathlib.Core.Bool.{Bool, true, cond, _&&_}
@@ -50,7 +50,7 @@ use Rattle.lower.proofs.list_entry.Reads as list-entry-reads
 use Rattle.lower.proofs.listing.Reads as listing-reads
 use Rattle.lower.proofs.lower_leaf.Reads as lower-leaf-reads
 use Rattle.lower.proofs.no_operands.Reads as no-operands-reads
-use Rattle.lower.proofs.put_row.Reads as put-row-reads
+use Rattle.lower.proofs.put_slot.Reads as put-slot-reads
 use Rattle.lower.proofs.same.Reads as same-reads
 use Rattle.lower.proofs.takes.Reads as takes-reads
 use Rattle.lower.proofs.unsupported.Reads as unsupported-reads
@@ -112,8 +112,8 @@ branch-calls t = (
   ahead-reads.Learnt,
   lower-below t,
   lower.Post,
-  put-row-reads.Asked,
-  put-row-reads.Learnt,
+  put-slot-reads.Asked,
+  put-slot-reads.Learnt,
   join-reads.Asked,
   join-reads.Learnt,
 )
@@ -239,8 +239,8 @@ branch-returns-2 t c =
     (arm-from _ _ b (args .d) conjunction (args .yes) _ _ _ _ _ _ (further (args .c) 1) (ahead .ensures) (lower .ensures)) (c .enum-told .given .1))
     (c .enum-told .given .1)
 
-branch-add-put-row : (t : ℕ) → branch-lts.Need-add-put-row (branch-calls t) (branch-at t) branch.Post
-branch-add-put-row t c =
+branch-add-put-slot : (t : ℕ) → branch-lts.Need-add-put-slot (branch-calls t) (branch-at t) branch.Post
+branch-add-put-slot t c =
     let args = c .before .before .before .before .before .before .before .before .before .before .before .before .before .before .before .before .args in
     let pre = c .before .before .before .before .before .before .before .before .before .before .before .before .before .before .before .before .pre in
     let good = c .before .before .before .before .before .before .before .before .before .before .before .before .before .before .before .before .good in
@@ -261,8 +261,8 @@ branch-add-put-row t c =
     (a .given .1)) in
     omega (arith, choices.is-code arms begun first, good .1 .0 .0, (pre .1 .0) .code, (pre .1 .0) .records, (pre .1 .0) .lists)
 
-branch-put-row-requires : (t : ℕ) → branch-lts.Need-put-row-requires (branch-calls t) (branch-at t) branch.Post
-branch-put-row-requires t c κs =
+branch-put-slot-requires : (t : ℕ) → branch-lts.Need-put-slot-requires (branch-calls t) (branch-at t) branch.Post
+branch-put-slot-requires t c κs =
     let args = c .before .before .before .before .before .before .before .before .before .before .before .before .before .before .before .before .args in
     let pre = c .before .before .before .before .before .before .before .before .before .before .before .before .before .before .before .before .pre in
     let if1 = c .before .before .before .before .before .before .before .before .before .before .before .before .if1 in
@@ -282,8 +282,8 @@ branch-put-row-requires t c κs =
     (a .given .1)) in
     (omega (arith, choices.n₁′ arms begun first, (pre .1 .0) .code, (pre .1 .0) .records, (pre .1 .0) .lists), omega arith)
 
-branch-put-row-requires-2 : (t : ℕ) → branch-lts.Need-put-row-requires-2 (branch-calls t) (branch-at t) branch.Post
-branch-put-row-requires-2 t c κs =
+branch-put-slot-requires-2 : (t : ℕ) → branch-lts.Need-put-slot-requires-2 (branch-calls t) (branch-at t) branch.Post
+branch-put-slot-requires-2 t c κs =
     let args = c .before .before .before .before .before .before .before .before .before .before .before .before .before .before .before .before .before .before .before .before .args in
     let pre = c .before .before .before .before .before .before .before .before .before .before .before .before .before .before .before .before .before .before .before .before .pre in
     let if1 = c .before .before .before .before .before .before .before .before .before .before .before .before .before .before .before .before .if1 in
@@ -307,7 +307,7 @@ branch-put-row-requires-2 t c κs =
     let first = choices.first arms begun (lower .last .1 .0) (a .given .0 .0) a-next is-taken in (
       omega (
         arith,
-        c .before .before .before .put-row .kept .0,
+        c .before .before .before .put-slot .kept .0,
         choices.n₁′ arms begun first,
         choices.is-code arms begun first,
         (pre .1 .0) .code,
@@ -380,8 +380,8 @@ branch-lower-requires-2 t c κs =
     let ahead = c .before .before .before .before .before .before .before .before .before .before .before .before .before .before .before .before .before .before .ahead in
     let lower = c .before .before .before .before .before .before .before .before .before .before .before .before .before .before .before .before .lower in
     let a = c .before .before .before .before .before .before .before .before .before .before .before .before .a in
-    let put-row = c .before .before .before .before .before .before .before .before .put-row in
-    let put-row2 = c .before .before .before .before .put-row2 in
+    let put-slot = c .before .before .before .before .before .before .before .before .put-slot in
+    let put-slot2 = c .before .before .before .before .put-slot2 in
     let b = args .b .now in
     let a-next = a .given .0 .1 .0 in
     let conjunction = args .conjunction in
@@ -398,7 +398,7 @@ branch-lower-requires-2 t c κs =
     let begun = choices.begun arms (if1 .taken) (unsupported .result) (unsupported .ensures) (if2 .left) in
     let first = choices.first arms begun (lower .last .1 .0) (a .given .0 .0) a-next is-taken in
     let sym2 = sym (choices.is-node arms begun first) in
-    let copied = choices.copied arms begun first (put-row .last .0) (put-row2 .last .0) (put-row .ensures) (put-row2 .ensures) in (
+    let copied = choices.copied arms begun first (put-slot .last .0) (put-slot2 .last .0) (put-slot .ensures) (put-slot2 .ensures) in (
       omega (arith, pre .0),
       (
         ready-to b (args .d) conjunction (args .no) _ further2 ensures
@@ -421,9 +421,9 @@ branch-enum-told-2 t c = search needs
 branch-same-length-2 : (t : ℕ) → branch-lts.Need-same-length-2 (branch-calls t) (branch-at t) branch.Post
 branch-same-length-2 t c =
     let lower = c .before .before .before .before .before .before .before .before .before .before .before .before .before .before .before .before .before .before .before .before .before .lower in
-    let put-row = c .before .before .before .before .before .before .before .before .before .before .before .before .before .put-row in
-    let put-row2 = c .before .before .before .before .before .before .before .before .before .put-row2 in
-    omega (arith, c .before .before .before .before .lower2 .kept .1 .0, put-row2 .kept .0, put-row .kept .0, lower .kept .1 .0)
+    let put-slot = c .before .before .before .before .before .before .before .before .before .before .before .before .before .put-slot in
+    let put-slot2 = c .before .before .before .before .before .before .before .before .before .put-slot2 in
+    omega (arith, c .before .before .before .before .lower2 .kept .1 .0, put-slot2 .kept .0, put-slot .kept .0, lower .kept .1 .0)
 
 branch-returns-3 : (t : ℕ) → branch-lts.Need-returns-3 (branch-calls t) (branch-at t) branch.Post
 branch-returns-3 t c =
@@ -435,8 +435,8 @@ branch-returns-3 t c =
     let ahead = c .before .before .before .before .before .before .before .before .before .before .before .before .before .before .before .before .before .before .before .before .before .before .before .ahead in
     let lower = c .before .before .before .before .before .before .before .before .before .before .before .before .before .before .before .before .before .before .before .before .before .lower in
     let a = c .before .before .before .before .before .before .before .before .before .before .before .before .before .before .before .before .before .a in
-    let put-row = c .before .before .before .before .before .before .before .before .before .before .before .before .before .put-row in
-    let put-row2 = c .before .before .before .before .before .before .before .before .before .put-row2 in
+    let put-slot = c .before .before .before .before .before .before .before .before .before .before .before .before .before .put-slot in
+    let put-slot2 = c .before .before .before .before .before .before .before .before .before .put-slot2 in
     let ahead2 = c .before .before .before .before .before .before .ahead2 in
     let lower2 = c .before .before .before .before .lower2 in
     let b = args .b .now in
@@ -455,7 +455,7 @@ branch-returns-3 t c =
     let arms = choices.arms context refl yes-arm no-arm (args .v) after-yes after-no (pre .1 .0) in
     let begun = choices.begun arms (if1 .taken) (unsupported .result) (unsupported .ensures) (if2 .left) in
     let first = choices.first arms begun (lower .last .1 .0) (a .given .0 .0) a-next is-taken in
-    let copied = choices.copied arms begun first (put-row .last .0) (put-row2 .last .0) (put-row .ensures) (put-row2 .ensures) in
+    let copied = choices.copied arms begun first (put-slot .last .0) (put-slot2 .last .0) (put-slot .ensures) (put-slot2 .ensures) in
     choices.second-refused arms begun first copied (lower2 .last .1 .0) (lower2 .result) given3 given2 (refused _ _ _ _ _ _ given3 given2 (arm-at _ _
     b (args .d) conjunction (args .no) _ _ _ _ _ _ (a-next .node) after-yes (choices.is-node arms begun first)
     (arm-from _ _ b (args .d) conjunction (args .no) _ _ _ _ _ _ (further a-next 2) (ahead2 .ensures) (lower2 .ensures))) given4) given4
@@ -471,8 +471,8 @@ branch-join-requires t c κs =
     let ahead = c .before .before .before .before .before .before .before .before .before .before .before .before .before .before .before .before .before .before .before .before .before .before .before .before .before .ahead in
     let lower = c .before .before .before .before .before .before .before .before .before .before .before .before .before .before .before .before .before .before .before .before .before .before .before .lower in
     let a = c .before .before .before .before .before .before .before .before .before .before .before .before .before .before .before .before .before .before .before .a in
-    let put-row = c .before .before .before .before .before .before .before .before .before .before .before .before .before .before .before .put-row in
-    let put-row2 = c .before .before .before .before .before .before .before .before .before .before .before .put-row2 in
+    let put-slot = c .before .before .before .before .before .before .before .before .before .before .before .before .before .before .before .put-slot in
+    let put-slot2 = c .before .before .before .before .before .before .before .before .before .before .before .put-slot2 in
     let ahead2 = c .before .before .before .before .before .before .before .before .ahead2 in
     let lower2 = c .before .before .before .before .before .before .lower2 in
     let o = c .before .before .o in
@@ -482,12 +482,12 @@ branch-join-requires t c κs =
     let b = args .b .now in
     let o-value = o .given .0 .0 in
     let a-value = a .given .0 .0 in
-    let put-row-says = put-row .ensures in
-    let put-row-bytes = put-row .last .0 in
+    let put-slot-says = put-slot .ensures in
+    let put-slot-bytes = put-slot .last .0 in
     let conjunction = args .conjunction in
     let o-next = o .given .0 .1 .0 in
-    let put-row2-says = put-row2 .ensures in
-    let put-row2-bytes = put-row2 .last .0 in
+    let put-slot2-says = put-slot2 .ensures in
+    let put-slot2-bytes = put-slot2 .last .0 in
     let a-next = a .given .0 .1 .0 in
     let lower-bytes = lower .last .1 .0 in
     let lower2-bytes = lower2 .last .1 .0 in
@@ -506,7 +506,7 @@ branch-join-requires t c κs =
     let is-taken = taken _ _ _ _ _ _ o-value o-next (arm-at _ _ b (args .d) conjunction (args .no) _ _ _ _ _ _ (a-next .node) after-yes
     (choices.is-node arms begun first)
     (arm-from _ _ b (args .d) conjunction (args .no) _ _ _ _ _ _ (further a-next 2) (ahead2 .ensures) (lower2 .ensures))) (o .given .1) in
-    let copied = choices.copied arms begun first put-row-bytes put-row2-bytes put-row-says put-row2-says in
+    let copied = choices.copied arms begun first put-slot-bytes put-slot2-bytes put-slot-says put-slot2-says in
     let second = choices.second arms begun first copied lower2-bytes o-value o-next is-taken in (
       omega (arith, choices.n₄′ arms begun first copied second, choices.is-code arms begun first, ready .code, ready .records, ready .lists),
       omega (
@@ -534,10 +534,10 @@ branch-join-requires t c κs =
 branch-same-length-3 : (t : ℕ) → branch-lts.Need-same-length-3 (branch-calls t) (branch-at t) branch.Post
 branch-same-length-3 t c =
     let lower = c .before .before .before .before .before .before .before .before .before .before .before .before .before .before .before .before .before .before .before .before .before .before .before .before .before .before .lower in
-    let put-row = c .before .before .before .before .before .before .before .before .before .before .before .before .before .before .before .before .before .before .put-row in
-    let put-row2 = c .before .before .before .before .before .before .before .before .before .before .before .before .before .before .put-row2 in
+    let put-slot = c .before .before .before .before .before .before .before .before .before .before .before .before .before .before .before .before .before .before .put-slot in
+    let put-slot2 = c .before .before .before .before .before .before .before .before .before .before .before .before .before .before .put-slot2 in
     let lower2 = c .before .before .before .before .before .before .before .before .before .lower2 in
-    omega (arith, c .before .before .join .kept .0, lower2 .kept .1 .0, put-row2 .kept .0, put-row .kept .0, lower .kept .1 .0)
+    omega (arith, c .before .before .join .kept .0, lower2 .kept .1 .0, put-slot2 .kept .0, put-slot .kept .0, lower .kept .1 .0)
 
 branch-returns-4 : (t : ℕ) → branch-lts.Need-returns-4 (branch-calls t) (branch-at t) branch.Post
 branch-returns-4 t c =
@@ -549,8 +549,8 @@ branch-returns-4 t c =
     let ahead = c .before .before .before .before .before .before .before .before .before .before .before .before .before .before .before .before .before .before .before .before .before .before .before .before .before .before .before .before .ahead in
     let lower = c .before .before .before .before .before .before .before .before .before .before .before .before .before .before .before .before .before .before .before .before .before .before .before .before .before .before .lower in
     let a = c .before .before .before .before .before .before .before .before .before .before .before .before .before .before .before .before .before .before .before .before .before .before .a in
-    let put-row = c .before .before .before .before .before .before .before .before .before .before .before .before .before .before .before .before .before .before .put-row in
-    let put-row2 = c .before .before .before .before .before .before .before .before .before .before .before .before .before .before .put-row2 in
+    let put-slot = c .before .before .before .before .before .before .before .before .before .before .before .before .before .before .before .before .before .before .put-slot in
+    let put-slot2 = c .before .before .before .before .before .before .before .before .before .before .before .before .before .before .put-slot2 in
     let ahead2 = c .before .before .before .before .before .before .before .before .before .before .before .ahead2 in
     let lower2 = c .before .before .before .before .before .before .before .before .before .lower2 in
     let o = c .before .before .before .before .before .o in
@@ -568,7 +568,7 @@ branch-returns-4 t c =
     let arms = choices.arms context refl yes-arm no-arm (args .v) after-yes after-no (pre .1 .0) in
     let begun = choices.begun arms (if1 .taken) (unsupported .result) (unsupported .ensures) (if2 .left) in
     let first = choices.first arms begun (lower .last .1 .0) (a .given .0 .0) a-next is-taken in
-    let copied = choices.copied arms begun first (put-row .last .0) (put-row2 .last .0) (put-row .ensures) (put-row2 .ensures) in
+    let copied = choices.copied arms begun first (put-slot .last .0) (put-slot2 .last .0) (put-slot .ensures) (put-slot2 .ensures) in
     let second = choices.second arms begun first copied (lower2 .last .1 .0) (o .given .0 .0) (o .given .0 .1 .0) (taken _ _ _ _ _ _ (o .given .0 .0)
     (o .given .0 .1 .0) (arm-at _ _ b (args .d) conjunction (args .no) _ _ _ _ _ _ (a-next .node) after-yes (choices.is-node arms begun first)
     (arm-from _ _ b (args .d) conjunction (args .no) _ _ _ _ _ _ (further a-next 2) (ahead2 .ensures) (lower2 .ensures))) (o .given .1)) in
@@ -890,7 +890,7 @@ node-lower-leaf-requires t c κs =
     let node2 = args .c .node in
     ready-moved (leaf-ready (node .result) (ready-term (term (tree-in (args .d) (args .b .now) node2)) (leaf (node .result))
     (wholes.leaf-term-is (args .b .now) (args .d) node2 (node .result) (node .ensures .0) (pre .1 .1) (c .before .if1 .taken)) (pre .1 .0) node2))
-    (node2 + 16)
+    (node2 + node-size)
 
 node-same-length : (t : ℕ) → node-lts.Need-same-length (node-calls t) (node-at t) node.Post
 node-same-length t c = search needs
@@ -902,7 +902,7 @@ node-returns t c =
     let node = c .before .before .before .before .before .before .node in
     let if1 = c .before .before .before .before .if1 in
     let node2 = args .c .node in
-    as-node _ _ (term (tree-in (args .d) (args .b .now) node2)) (leaf (node .result)) _ _ (node2 + 16) _ (node2 + 16) (args .c) _ _ _
+    as-node _ _ (term (tree-in (args .d) (args .b .now) node2)) (leaf (node .result)) _ _ (node2 + node-size) _ (node2 + node-size) (args .c) _ _ _
     (wholes.leaf-term-is (args .b .now) (args .d) node2 (node .result) (node .ensures .0) (pre .1 .1) (if1 .taken))
     (wholes.leaf-size (args .b .now) (args .d) node2 (node .result) (node .ensures .0) (pre .1 .1) (if1 .taken))
     (c .before .before .lower-leaf .ensures)
@@ -933,9 +933,9 @@ node-link-requires t c κs =
     let ensures = node .ensures .0 in (
       omega (arith, pre .0, node .ensures .1, wholes.node-deep b (args .d) node2 node-gives ensures (pre .1 .1)),
       (
-        ready-term (term (tree-in (args .d) b node2)) (arm b (args .d - 1) (eqb (node-gives .operator) 0) (node-gives .children) (node2 + 16))
+        ready-term (term (tree-in (args .d) b node2)) (arm b (args .d - 1) (eqb (node-gives .operator) 0) (node-gives .children) (node2 + node-size))
             (wholes.link-is b (args .d) node2 node-gives ensures (pre .1 .1) (c .before .before .before .before .if2 .taken)
-            (omega (arith, c .before .before .if3 .left))) (pre .1 .0) (node2 + 16),
+            (omega (arith, c .before .before .if3 .left))) (pre .1 .0) (node2 + node-size),
         (wholes.kids-well b (args .d) node2 node-gives ensures (pre .1 .1), omega (arith, c .before .before .if3 .left), node .ensures .1),
       ),
     )
@@ -952,8 +952,8 @@ node-returns-3 t c =
     let node-gives = node .result in
     let b = args .b .now in
     let node2 = args .c .node in
-    as-node _ _ (term (tree-in (args .d) b node2)) (arm b (args .d - 1) (eqb (node-gives .operator) 0) (node-gives .children) (node2 + 16)) _ _ _ _
-    (node2 + 16) (args .c) _ _ _ (wholes.link-is b (args .d) node2 node-gives (node .ensures .0) (pre .1 .1) (if2 .taken)
+    as-node _ _ (term (tree-in (args .d) b node2)) (arm b (args .d - 1) (eqb (node-gives .operator) 0) (node-gives .children) (node2 + node-size)) _ _ _ _
+    (node2 + node-size) (args .c) _ _ _ (wholes.link-is b (args .d) node2 node-gives (node .ensures .0) (pre .1 .1) (if2 .taken)
     (omega (arith, c .before .before .before .before .before .if3 .left)))
     (wholes.past-is b (args .d) node2 node-gives (node .ensures .0) (pre .1 .1)) (c .before .before .link .ensures)
 
@@ -977,11 +977,11 @@ node-lower-requires t c κs =
     let b = args .b .now in
     let node2 = args .c .node in
     let ensures = node .ensures .0 in
-    let x2 = node2 + 16 in
+    let x2 = node2 + node-size in
     let tree-in2 = tree-in (args .d) b node2 in (
       omega (arith, pre .0, wholes.node-deep b (args .d) node2 node-gives ensures (pre .1 .1)),
       (
-        split-first b args2 true 1 1 (term tree-in2) (node2 + 16 * size tree-in2) (wholes.branch-is b (args .d) node2 node-gives ensures (pre .1 .1)
+        split-first b args2 true 1 1 (term tree-in2) (node2 + node-size * size tree-in2) (wholes.branch-is b (args .d) node2 node-gives ensures (pre .1 .1)
             (sym (c .before .before .before .before .chooses .ensures) ∙ c .before .before .before .if4 .taken) (c .before .if5 .taken)) (three-past b
             args2 x2 ∙
             (ap (λ (x : ℕ). past b args2 x x2) (sym (c .before .if5 .taken)) ∙ wholes.past-is b (args .d) node2 node-gives ensures (pre .1 .1)))
@@ -1015,12 +1015,12 @@ node-returns-4 t c =
     let lower = c .before .before .before .before .lower in
     let b = args .b .now in
     let node2 = args .c .node in
-    let x2 = node2 + 16 in
+    let x2 = node2 + node-size in
     let given3 = c .enum-told .given .0 .0 in
     let given2 = c .enum-told .given .0 .1 .0 in
     let tree-in2 = tree-in (args .d) b node2 in
     let term2 = term tree-in2 in
-    as-node _ _ term2 term2 _ _ _ _ x2 (args .c) _ _ _ refl refl (split-refused b (args .d - 1) true 1 1 term2 (node2 + 16 * size tree-in2)
+    as-node _ _ term2 term2 _ _ _ _ x2 (args .c) _ _ _ refl refl (split-refused b (args .d - 1) true 1 1 term2 (node2 + node-size * size tree-in2)
     (wholes.branch-is b (args .d) node2 (node .result) (node .ensures .0) (pre .1 .1) (sym (chooses .ensures) ∙ if4 .taken) (if5 .taken)) (three-past
     b (args .d - 1) x2 ∙ (ap (λ (x : ℕ). past b (args .d - 1) x x2) (sym (if5 .taken)) ∙ wholes.past-is b (args .d) node2 (node .result)
     (node .ensures .0) (pre .1 .1))) (ready-moved (pre .1 .0) x2) (context-of (args .kinds .now) (args .l .generated)) (lower .last .1 .0)
@@ -1052,14 +1052,14 @@ node-branch-requires t c κs =
     let ensures = node .ensures .0 in
     let a-next = a .given .0 .1 .0 in
     let lower-bytes = lower .last .1 .0 in
-    let x3 = node3 + 16 in
+    let x3 = node3 + node-size in
     let children = node-gives .children in
     let node2 = a-next .node in
     let ready-moved2 = ready-moved (pre .1 .0) x3 in
     let tree-in2 = tree-in (args .d) b node3 in
     let context = context-of (args .kinds .now) (args .l .generated) in
     let term2 = term tree-in2 in
-    let x2 = node3 + 16 * size tree-in2 in
+    let x2 = node3 + node-size * size tree-in2 in
     let is-taken = taken _ _ _ _ _ _ a-value a-next (lower .ensures) (a .given .1) in
     let kids-well = wholes.kids-well b (args .d) node3 node-gives ensures (pre .1 .1) in
     let branch-is = wholes.branch-is b (args .d) node3 node-gives ensures (pre .1 .1) (sym (chooses .ensures) ∙ if4 .taken) (if5 .taken) in (
@@ -1097,10 +1097,10 @@ node-returns-5 t c =
     let branch = c .before .before .branch in
     let b = args .b .now in
     let node2 = args .c .node in
-    let x2 = node2 + 16 in
+    let x2 = node2 + node-size in
     let tree-in2 = tree-in (args .d) b node2 in
     let term2 = term tree-in2 in
-    as-node _ _ term2 term2 _ _ _ _ x2 (args .c) _ _ _ refl refl (split-done b (args .d - 1) true 1 1 term2 (node2 + 16 * size tree-in2)
+    as-node _ _ term2 term2 _ _ _ _ x2 (args .c) _ _ _ refl refl (split-done b (args .d - 1) true 1 1 term2 (node2 + node-size * size tree-in2)
     (wholes.branch-is b (args .d) node2 (node .result) (node .ensures .0) (pre .1 .1) (sym (chooses .ensures) ∙ if4 .taken) (if5 .taken)) (three-past
     b (args .d - 1) x2 ∙ (ap (λ (x : ℕ). past b (args .d - 1) x x2) (sym (if5 .taken)) ∙ wholes.past-is b (args .d) node2 (node .result)
     (node .ensures .0) (pre .1 .1))) (ready-moved (pre .1 .0) x2) (context-of (args .kinds .now) (args .l .generated)) (lower .last .1 .0)
@@ -1142,7 +1142,7 @@ node-operands-requires t c κs =
     let b = args .b .now in
     let node2 = args .c .node in
     let ensures = node .ensures .0 in
-    let x = node2 + 16 in
+    let x = node2 + node-size in
     let children = node-gives .children in
     let sym2 = sym (chooses .ensures) ∙ if4 .left in
     let terms2 = terms (kids b (args .d - 1) children x) in
@@ -1183,7 +1183,7 @@ node-returns-7 t c =
     let b = args .b .now in
     let node2 = args .c .node in
     let ensures = node .ensures .0 in
-    let x = node2 + 16 in
+    let x = node2 + node-size in
     let given4 = c .enum-told2 .given .1 in
     let children = node-gives .children in
     let given3 = c .enum-told2 .given .0 .0 in
@@ -1219,7 +1219,7 @@ node-finish-requires t c κs =
     let node-gives = node .result in
     let node2 = args .c .node in
     let o-next = o .given .0 .1 .0 in
-    let x = node2 + 16 in
+    let x = node2 + node-size in
     let children = node-gives .children in
     let sym2 = sym (chooses .ensures) ∙ if4 .left in
     let context = context-of (args .kinds .now) (args .l .generated) in
@@ -1266,7 +1266,7 @@ node-returns-8 t c =
     let b = args .b .now in
     let node2 = args .c .node in
     let ensures = node .ensures .0 in
-    let x = node2 + 16 in
+    let x = node2 + node-size in
     let children = node-gives .children in
     let sym2 = sym (chooses .ensures) ∙ if4 .left in
     let term2 = term (tree-in (args .d) b node2) in
@@ -1531,8 +1531,8 @@ pub +branch+link+lower+node+operands-spec : {M : Type 1} → statement M
       ahead-reads.Learnt,
       lower-below t,
       lower.Post,
-      put-row-reads.Asked,
-      put-row-reads.Learnt,
+      put-slot-reads.Asked,
+      put-slot-reads.Learnt,
       join-reads.Asked,
       join-reads.Learnt,
     )
@@ -1546,9 +1546,9 @@ pub +branch+link+lower+node+operands-spec : {M : Type 1} → statement M
     (branch-enum-told t)
     (branch-same-length t)
     (branch-returns-2 t)
-    (branch-add-put-row t)
-    (branch-put-row-requires t)
-    (branch-put-row-requires-2 t)
+    (branch-add-put-slot t)
+    (branch-put-slot-requires t)
+    (branch-put-slot-requires-2 t)
     (branch-ahead-requires-2 t)
     (branch-lower-requires-2 t)
     (branch-enum-known-o t)

@@ -1,4 +1,4 @@
-use Rattle.lower.proofs.Ends.{wrong-arity, wrong-kind, wrong-step, listed-row, plain-row}
+use Rattle.lower.proofs.Ends.{wrong-arity, wrong-kind, wrong-step, listed-slot, plain-slot}
 use native.Mathlib.Omega.{arith}
 use borrow.Author.Needs.{needs}
 use Rattle.lower.proofs.finish.Statement.{statement}
@@ -31,8 +31,8 @@ opcode-requires c κs = search needs
 gives-requires : tie.Need-gives-requires
 gives-requires c κs = search needs
 
-put-row-requires : tie.Need-put-row-requires
-put-row-requires c κs = search needs
+put-slot-requires : tie.Need-put-slot-requires
+put-slot-requires c κs = search needs
 
 add-done : tie.Need-add-done
 add-done c = search needs
@@ -56,14 +56,14 @@ returns-2 c =
     let listing = c .before .before .before .before .before .before .before .before .listing in
     let opcode = c .before .before .before .before .before .before .before .opcode in
     let gives = c .before .before .before .before .before .before .gives in
-    let put-row = c .before .before .before .put-row in
-    listed-row (args .l) (args .p .now) (args .s) (args .c) 1 (pre .0) (args .f) (args .v) (arity .result) (arity .ensures) (if1 .taken) (if2 .taken)
+    let put-slot = c .before .before .before .put-slot in
+    listed-slot (args .l) (args .p .now) (args .s) (args .c) 1 (pre .0) (args .f) (args .v) (arity .result) (arity .ensures) (if1 .taken) (if2 .taken)
     (stepped .result) (unsupported .result) (stepped .ensures) (unsupported .ensures) (if3 .left) (omega arith) (listing .result) (gives .result)
-    (opcode .result) (listing .ensures) (opcode .ensures .0) (gives .ensures) (put-row .last .0) (c .done .result)
-    (c .before .before .before .before .before .if4 .taken) (put-row .ensures) (c .done .ensures)
+    (opcode .result) (listing .ensures) (opcode .ensures .0) (gives .ensures) (put-slot .last .0) (c .done .result)
+    (c .before .before .before .before .before .if4 .taken) (put-slot .ensures) (c .done .ensures)
 
-put-row-requires-2 : tie.Need-put-row-requires-2
-put-row-requires-2 c κs = search needs
+put-slot-requires-2 : tie.Need-put-slot-requires-2
+put-slot-requires-2 c κs = search needs
 
 done-requires-2 : tie.Need-done-requires-2
 done-requires-2 c κs = search needs
@@ -84,11 +84,11 @@ returns-3 c =
     let listing = c .before .before .before .before .before .before .before .before .listing in
     let opcode = c .before .before .before .before .before .before .before .opcode in
     let gives = c .before .before .before .before .before .before .gives in
-    let put-row2 = c .before .before .before .put-row2 in
-    plain-row (args .l) (args .p .now) (args .s) (args .c) 1 (pre .0) (args .f) (args .v) (arity .result) (arity .ensures) (if1 .taken) (if2 .taken)
+    let put-slot2 = c .before .before .before .put-slot2 in
+    plain-slot (args .l) (args .p .now) (args .s) (args .c) 1 (pre .0) (args .f) (args .v) (arity .result) (arity .ensures) (if1 .taken) (if2 .taken)
     (stepped .result) (unsupported .result) (stepped .ensures) (unsupported .ensures) (if3 .left) (omega arith) (listing .result) (gives .result)
-    (opcode .result) (listing .ensures) (opcode .ensures .0) (gives .ensures) (put-row2 .last .0) (c .done2 .result)
-    (c .before .before .before .before .before .if4 .left) (put-row2 .ensures) (c .done2 .ensures)
+    (opcode .result) (listing .ensures) (opcode .ensures .0) (gives .ensures) (put-slot2 .last .0) (c .done2 .result)
+    (c .before .before .before .before .before .if4 .left) (put-slot2 .ensures) (c .done2 .ensures)
 
 returns-4 : tie.Need-returns-4
 returns-4 c =
@@ -113,12 +113,12 @@ finish-spec =
     listing-requires
     opcode-requires
     gives-requires
-    put-row-requires
+    put-slot-requires
     add-done
     done-requires
     same-length
     returns-2
-    put-row-requires-2
+    put-slot-requires-2
     done-requires-2
     same-length-2
     returns-3

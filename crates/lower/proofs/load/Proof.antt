@@ -7,8 +7,8 @@ use Rattle.lower.proofs.load.Tie as tie
 shared-slice-read-varies : tie.Need-shared-slice-read-varies
 shared-slice-read-varies c = search needs
 
-put-row-requires : tie.Need-put-row-requires
-put-row-requires c κs = search needs
+put-slot-requires : tie.Need-put-slot-requires
+put-slot-requires c κs = search needs
 
 add-t18 : tie.Need-add-t18
 add-t18 c = search needs
@@ -20,7 +20,7 @@ same-length : tie.Need-same-length
 same-length c = search needs
 
 returns : tie.Need-returns
-returns c = rw (lt-ltb _ _ (c .before .before .before .before .before .if1 .taken)) (refl, c .before .before .put-row .ensures)
+returns c = rw (lt-ltb _ _ (c .before .before .before .before .before .if1 .taken)) (refl, c .before .before .put-slot .ensures)
 
 returns-2 : tie.Need-returns-2
 returns-2 c = rw (le-ltb _ _ (c .if1 .left)) (refl, refl)
@@ -30,7 +30,7 @@ load-spec =
     tie.close
     (tie.spec
     shared-slice-read-varies
-    put-row-requires
+    put-slot-requires
     add-t18
     add-t19
     same-length

@@ -1,4 +1,4 @@
-use Rattle.lower.proofs.Rows.{constant-stored}
+use Rattle.lower.proofs.Slots.{constant-stored}
 use native.Mathlib.Omega.{arith}
 use Prim.Native.Nat.{_+_, _*_}
 use borrow.Author.Needs.{needs}

@@ -1,4 +1,4 @@
-use Rattle.lower.proofs.Rows.{half-stored}
+use Rattle.lower.proofs.Slots.{half-stored}
 use native.Mathlib.Omega.{arith}
 use lib.ListN.{length-set}
 use borrow.Author.Needs.{needs}

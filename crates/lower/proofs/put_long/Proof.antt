@@ -1,4 +1,4 @@
-use Rattle.lower.proofs.Rows.{long-stored}
+use Rattle.lower.proofs.Slots.{long-stored}
 use native.Mathlib.Omega.{arith}
 use lib.ListN.{length-set}
 use borrow.Author.Needs.{needs}

@@ -1,4 +1,4 @@
-use Rattle.lower.proofs.Rows.{record-stored}
+use Rattle.lower.proofs.Slots.{record-stored}
 use borrow.Author.Needs.{needs}
 use Rattle.lower.proofs.put_record.Statement.{statement}
 use Rattle.lower.proofs.put_record.Tie as tie

@@ -1,4 +1,4 @@
-use Rattle.lower.proofs.Rows.{word-stored}
+use Rattle.lower.proofs.Slots.{word-stored}
 use native.Mathlib.Omega.{arith}
 use lib.ListN.{length-set}
 use borrow.Author.Needs.{needs}

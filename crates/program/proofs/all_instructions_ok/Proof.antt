@@ -18,16 +18,16 @@ abbrev μ-loop : tie.MeasureT-loop
 loop-holds : tie.Need-loop-holds Inv-loop μ-loop
 loop-holds c = (omega arith, omega arith, sym (code-start (c .before .args .p .now)))
 
-read-row-requires : tie.Need-read-row-requires Inv-loop μ-loop
-read-row-requires c κs = omega (arith, c .before .before .before .pre .1 .code)
+read-slot-requires : tie.Need-read-slot-requires Inv-loop μ-loop
+read-slot-requires c κs = omega (arith, c .before .before .before .pre .1 .code)
 
 instruction-ok-requires : tie.Need-instruction-ok-requires Inv-loop μ-loop
 instruction-ok-requires c κs =
     let pre = c .before .before .before .before .pre in
-    (pre .0, pre .1, c .read-row .ensures .0, c .read-row .ensures .1, omega (arith, pre .1 .entries))
+    (pre .0, pre .1, c .read-slot .ensures .0, c .read-slot .ensures .1, omega (arith, pre .1 .entries))
 
 add-next : tie.Need-add-next Inv-loop μ-loop
-add-next c = omega (arith, c .before .before .before .before .before .before .before .pre .1 .entries, c .before .before .before .read-row .ensures .1 .count)
+add-next c = omega (arith, c .before .before .before .before .before .before .before .pre .1 .entries, c .before .before .before .read-slot .ensures .1 .count)
 
 add-n : tie.Need-add-n Inv-loop μ-loop
 add-n c = omega (arith, c .before .before .before .before .before .before .before .pre .1 .code)
@@ -40,15 +40,15 @@ loop-again c =
     let args = c .before .before .before .before .before .before .before .args in
     let pre = c .before .before .before .before .before .before .before .pre in
     let loop = c .before .before .before .before .before .loop in
-    let read-row = c .before .before .before .read-row in
+    let read-slot = c .before .before .before .read-slot in
     let instruction-ok = c .before .before .instruction-ok in
     let if1 = c .before .if1 in
     let the-proof = sym (instruction-ok .ensures) ∙ if1 .taken in
-    let k = count-is (args .p .now) (loop .n) (args .h) (read-row .result) (pre .0) (read-row .ensures .0) in (
+    let k = count-is (args .p .now) (loop .n) (args .h) (read-slot .result) (pre .0) (read-slot .ensures .0) in (
       omega arith,
-      omega (arith, entries-is (args .p .now) (args .h) (pre .0), entries-in (args .p .now) (loop .n) (loop .next) (read-row .result .count) k the-proof),
+      omega (arith, entries-is (args .p .now) (args .h) (pre .0), entries-in (args .p .now) (loop .n) (loop .next) (read-slot .result .count) k the-proof),
       loop .inv .2
-          ∙ code-step (args .p .now) (loop .n) (loop .next) (read-row .result .count) (omega (arith, code-is (args .p .now) (args .h) (pre .0))) k
+          ∙ code-step (args .p .now) (loop .n) (loop .next) (read-slot .result .count) (omega (arith, code-is (args .p .now) (args .h) (pre .0))) k
           ∙ rw the-proof,
     )
 
@@ -57,10 +57,10 @@ returns c =
     let args = c .before .before .before .before .before .before .args in
     let pre = c .before .before .before .before .before .before .pre in
     let loop = c .before .before .before .before .loop in
-    let read-row = c .before .before .read-row in
-    let k = count-is (args .p .now) (loop .n) (args .h) (read-row .result) (pre .0) (read-row .ensures .0) in
+    let read-slot = c .before .before .read-slot in
+    let k = count-is (args .p .now) (loop .n) (args .h) (read-slot .result) (pre .0) (read-slot .ensures .0) in
     sym (loop .inv .2
-    ∙ code-step (args .p .now) (loop .n) (loop .next) (read-row .result .count) (omega (arith, code-is (args .p .now) (args .h) (pre .0))) k
+    ∙ code-step (args .p .now) (loop .n) (loop .next) (read-slot .result .count) (omega (arith, code-is (args .p .now) (args .h) (pre .0))) k
     ∙ rw (sym (c .before .instruction-ok .ensures) ∙ c .if1 .left))
 
 returns-2 : tie.Need-returns-2 Inv-loop μ-loop
@@ -79,7 +79,7 @@ all-instructions-ok-spec =
     Inv-loop
     μ-loop
     loop-holds
-    read-row-requires
+    read-slot-requires
     instruction-ok-requires
     add-next
     add-n

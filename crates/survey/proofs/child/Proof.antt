@@ -2,6 +2,7 @@ use Prim.Native.Nat.{ℕ, _<_, _≤_, _+_, _-_, _*_}
 use native.Mathlib.Omega.{arith}
 use lib.ListN.{length}
 use Rattle.formula.specs.Text.{half-at}
+use Rattle.formula.specs.Node.{node-size}
 use Rattle.survey.specs.Table.{Owned}
 use Rattle.survey.proofs.Trees.{Walk, walk-start, walk-done}
 use Rattle.survey.proofs.Rows.{stands, step-size, walk-again, row-inside}
@@ -12,7 +13,7 @@ use Rattle.survey.proofs.child.Reads as reads
 use Rattle.survey.proofs.child.Lts as lts
 
 abbrev Inv-loop : tie.InvT-loop
-Inv-loop f k i table at₀ left₀ at left = (left ≤ i) × Walk f k i (left + (half-at f (16 * k + 2) - i)) left at
+Inv-loop f k i table at₀ left₀ at left = (left ≤ i) × Walk f k i (left + (half-at f (node-size * k + 2) - i)) left at
 
 abbrev μ-loop : tie.MeasureT-loop
 μ-loop f k i table at₀ left₀ at left = left
@@ -25,7 +26,7 @@ loop-holds c =
     let f = c .args .f .now in (
       omega arith,
       subst (λ (m : ℕ). Walk f (c .args .k) (c .args .i) m (c .args .i) (c .args .k + 1)) (omega (arith, c .pre .1))
-          (walk-start f (c .args .k) (c .args .i) (half-at f (16 * c .args .k + 2)) (c .pre .0 .formed) refl (c .pre .1)),
+          (walk-start f (c .args .k) (c .args .i) (half-at f (node-size * c .args .k + 2)) (c .pre .0 .formed) refl (c .pre .1)),
     )
 
 mul-at : tie.Need-mul-at Inv-loop μ-loop

@@ -12,6 +12,7 @@ use Rattle.tally.proofs.grown.Reads as grown-reads
 use Rattle.tally.proofs.weigh.Reads as weigh-reads
 use Rattle.tally.proofs.+tally.{statement}
 use Rattle.tally.proofs.+tally.Tie.{close}
+use Rattle.formula.specs.Node.{node-size}
 
 abbrev μ-tally : Measures 1 tally-kinds.ps ℕ
 μ-tally κs a = 1048576 * a .1 .0 + a .1 .1 .0
@@ -76,7 +77,7 @@ tally-weigh-requires t c κs =
     let if1 = c .before .before .if1 in
     let node = c .before .node in
     let s =
-    small (args .b .now) (args .d - 1) (node .result .children) (args .at + 16) (c .tally .result) (good .0 .0)
+    small (args .b .now) (args .d - 1) (node .result .children) (args .at + node-size) (c .tally .result) (good .0 .0)
     (inside (args .b .now) (args .d) (args .left) (args .at) (if1 .left) (pre .1) (node .result) (node .ensures .0))
     (inner-well (args .b .now) (args .d) (args .left) (args .at) (if1 .left) (pre .1) (node .result) (node .ensures .0)) (c .tally .ensures) in
     (s .0, s .1, s .2, node .ensures .1)

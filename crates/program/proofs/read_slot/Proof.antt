@@ -1,9 +1,9 @@
 use native.Mathlib.Omega.{arith}
 use Rattle.layout.specs.Decode.{destination-at, path-number}
-use Rattle.program.specs.Fields.{row-of}
+use Rattle.program.specs.Fields.{slot-of}
 use borrow.Author.Needs.{needs}
-use Rattle.program.proofs.read_row.Statement.{statement}
-use Rattle.program.proofs.read_row.Tie as tie
+use Rattle.program.proofs.read_slot.Statement.{statement}
+use Rattle.program.proofs.read_slot.Tie as tie
 
 mul-at : tie.Need-mul-at
 mul-at c = search needs
@@ -57,7 +57,7 @@ word-requires-5 : tie.Need-word-requires-5
 word-requires-5 c κs = search needs
 
 returns : tie.Need-returns
-unfolding row-of destination-at path-number
+unfolding slot-of destination-at path-number
 returns c =
     let byte = c .before .before .before .before .before .before .before .byte in
     let byte2 = c .before .before .before .before .before .before .byte2 in
@@ -78,8 +78,8 @@ returns c =
       record { op = omega arith; count = half .ensures .1; a = word2 .ensures .1; path = c .word5 .ensures .1 },
     )
 
-pub read-row-spec : {M : Type 1} → statement M
-read-row-spec =
+pub read-slot-spec : {M : Type 1} → statement M
+read-slot-spec =
     tie.close
     (tie.spec
     mul-at

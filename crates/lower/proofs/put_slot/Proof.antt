@@ -1,9 +1,9 @@
-use Rattle.lower.proofs.Rows.{row-stored}
+use Rattle.lower.proofs.Slots.{slot-stored}
 use native.Mathlib.Omega.{arith}
 use Prim.Native.Nat.{_+_, _*_}
 use borrow.Author.Needs.{needs}
-use Rattle.lower.proofs.put_row.Statement.{statement}
-use Rattle.lower.proofs.put_row.Tie as tie
+use Rattle.lower.proofs.put_slot.Statement.{statement}
+use Rattle.lower.proofs.put_slot.Tie as tie
 
 mul-at : tie.Need-mul-at
 mul-at c = search needs
@@ -63,13 +63,13 @@ returns c =
     let put-word2 = c .before .before .before .before .before .before .before .before .before .before .before .before .before .before .put-word2 in
     let put-word3 = c .before .before .before .before .before .before .before .before .before .before .put-word3 in
     let put-word4 = c .before .before .before .before .before .before .put-word4 in
-    row-stored (args .p .now) (put-half .last .0) (put-half2 .last .0) (put-word .last .0) (put-word2 .last .0) (put-word3 .last .0)
+    slot-stored (args .p .now) (put-half .last .0) (put-half2 .last .0) (put-word .last .0) (put-word2 .last .0) (put-word3 .last .0)
     (put-word4 .last .0) (c .before .before .put-word5 .last .0) (32 + 24 * args .n) (args .opcode) (args .count) (args .destination) (args .a)
     (args .b) (args .c) (args .path) (omega (arith, pre .0)) (pre .1) (put-half .ensures) (put-half2 .ensures) (put-word .ensures)
     (put-word2 .ensures) (put-word3 .ensures) (put-word4 .ensures) (c .before .before .put-word5 .ensures)
 
-pub put-row-spec : {M : Type 1} → statement M
-put-row-spec =
+pub put-slot-spec : {M : Type 1} → statement M
+put-slot-spec =
     tie.close
     (tie.spec
     mul-at

@@ -5,7 +5,7 @@ use Prim.Native.Nat.{ℕ, suc, _+_, _/_, _%_, _≤_, _<_}
 use native.Mathlib.Omega.{arith}
 use lib.ListN.{length, set}
 use Rattle.formula.specs.Text.{little-endian}
-use Rattle.layout.specs.Image.{constant-row, row}
+use Rattle.layout.specs.Image.{constant-slot, slot}
 use Rattle.paths.specs.Over.{over}
 use Rattle.paths.proofs.Over.{over-over}
 use Rattle.lower.proofs.Laid.{over-sets}
@@ -54,11 +54,11 @@ low-byte x h = omega arith
 high-byte : (x : ℕ) → x < 256 → x / 256 % 256 ≡ 0
 high-byte x h = omega arith
 
-pub row-stored : (p p₁ p₂ p₃ p₄ p₅ p₆ p₇ : List ℕ) (i o n d a b c k : ℕ) → i + 24 ≤ length p → o < 256 → p₁ ≡ over p i (little-endian 2 o)
+pub slot-stored : (p p₁ p₂ p₃ p₄ p₅ p₆ p₇ : List ℕ) (i o n d a b c k : ℕ) → i + 24 ≤ length p → o < 256 → p₁ ≡ over p i (little-endian 2 o)
     → p₂ ≡ over p₁ (i + 2) (little-endian 2 n) → p₃ ≡ over p₂ (i + 4) (little-endian 4 d) → p₄ ≡ over p₃ (i + 8) (little-endian 4 a)
     → p₅ ≡ over p₄ (i + 12) (little-endian 4 b) → p₆ ≡ over p₅ (i + 16) (little-endian 4 c) → p₇ ≡ over p₆ (i + 20) (little-endian 4 k)
-    → p₇ ≡ over p i (row o n d a b c k)
-row-stored p p₁ p₂ p₃ p₄ p₅ p₆ p₇ i o n d a b c k h s e₁ e₂ e₃ e₄ e₅ e₆ e₇ =
+    → p₇ ≡ over p i (slot o n d a b c k)
+slot-stored p p₁ p₂ p₃ p₄ p₅ p₆ p₇ i o n d a b c k h s e₁ e₂ e₃ e₄ e₅ e₆ e₇ =
     let x₁ = little-endian 2 o in
     let x₂ : List ℕ = x₁ ++ little-endian 2 n in
     let x₃ : List ℕ = x₂ ++ little-endian 4 d in
@@ -77,7 +77,7 @@ row-stored p p₁ p₂ p₃ p₄ p₅ p₆ p₇ i o n d a b c k h s e₁ e₂ e�
 
 pub constant-stored : (p p₁ p₂ p₃ p₄ p₅ p₆ : List ℕ) (i x d k : ℕ) → i + 24 ≤ length p → p₁ ≡ over p i (little-endian 2 0)
     → p₂ ≡ over p₁ (i + 2) (little-endian 2 0) → p₃ ≡ over p₂ (i + 4) (little-endian 4 d) → p₄ ≡ over p₃ (i + 8) (little-endian 8 x)
-    → p₅ ≡ over p₄ (i + 16) (little-endian 4 0) → p₆ ≡ over p₅ (i + 20) (little-endian 4 k) → p₆ ≡ over p i (constant-row x d k)
+    → p₅ ≡ over p₄ (i + 16) (little-endian 4 0) → p₆ ≡ over p₅ (i + 20) (little-endian 4 k) → p₆ ≡ over p i (constant-slot x d k)
 constant-stored p p₁ p₂ p₃ p₄ p₅ p₆ i x d k h e₁ e₂ e₃ e₄ e₅ e₆ =
     let x₁ = little-endian 2 0 in
     let x₂ : List ℕ = x₁ ++ little-endian 2 0 in
