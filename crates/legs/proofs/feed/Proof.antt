@@ -36,7 +36,9 @@ slice-reshare-prefix-write-all : tie.Need-slice-reshare-prefix-write-all Inv-loo
 slice-reshare-prefix-write-all c = omega (arith, c .before .before .before .before .before .before .before .before .before .before .before .before .advance .ensures .room, c .before .before .before .before .before .before .before .before .before .before .before .before .advance .kept .1 .1 .1 .1 .1 .1 .1 .1 .0)
 
 slice-aggregate-write-all : tie.Need-slice-aggregate-write-all Inv-loop μ-loop
-slice-aggregate-write-all c = let r = c .before .before .before .before .before .before .before .before .before .before .before .before .before .advance in sym (length-take-le (r .result .length) (r .last .1 .1 .1 .1 .1 .1 .1 .1 .0) (omega (arith, c .before .before .before .before .before .before .before .before .before .before .before .before .before .advance .ensures .room, c .before .before .before .before .before .before .before .before .before .before .before .before .before .advance .kept .1 .1 .1 .1 .1 .1 .1 .1 .0)))
+slice-aggregate-write-all c =
+    let r = c .before .before .before .before .before .before .before .before .before .before .before .before .before .advance in
+    sym (length-take-le (r .result .length) (r .last .1 .1 .1 .1 .1 .1 .1 .1 .0) (omega (arith, r .ensures .room, r .kept .1 .1 .1 .1 .1 .1 .1 .1 .0)))
 
 write-all-requires : tie.Need-write-all-requires Inv-loop μ-loop
 write-all-requires c κs = tt
@@ -63,14 +65,48 @@ returns : tie.Need-returns Inv-loop μ-loop
 returns c = tt
 
 add-at : tie.Need-add-at Inv-loop μ-loop
-add-at c = let r = c .before .before .before .before .before .before .before .before .before .before .before .before .before .before .before .before .advance in record { fits = omega (arith, r .ensures .inside, part-long (c .before .before .before .before .before .before .before .before .before .before .before .before .before .before .before .before .before .before .before .before .before .before .before .before .before .loop .at) (length (c .before .before .before .before .before .before .before .before .before .before .before .before .before .before .before .before .before .before .before .before .before .before .before .before .before .before .before .before .before .before .before .before .before .before .args .input .now)) (c .before .before .before .before .before .before .before .before .before .before .before .before .before .before .before .before .before .before .before .before .before .before .before .before .before .before .before .before .before .before .before .before .before .before .args .input .now) (omega arith), c .before .before .before .before .before .before .before .before .before .before .before .before .before .before .before .before .before .before .before .before .before .before .before .before .before .loop .inv .1 .inside, c .before .before .before .before .before .before .before .before .before .before .before .before .before .before .before .before .before .before .before .before .before .before .before .before .before .before .before .before .before .before .before .before .before .before .good .1 .0 .0) }
+add-at c =
+    let r = c .before .before .before .before .before .before .before .before .before .before .before .before .before .before .before .before .advance in
+    let at-loop = c .before .before .before .before .before .before .before .before .before .before .before .before .before .before .before .before .before .before .before .before .before .before .before .before .before .loop in
+    let at-args = c .before .before .before .before .before .before .before .before .before .before .before .before .before .before .before .before .before .before .before .before .before .before .before .before .before .before .before .before .before .before .before .before .before .before .args in
+    record {
+      fits = omega (
+        arith,
+        r .ensures .inside,
+        part-long (at-loop .at) (length (at-args .input .now)) (at-args .input .now)
+            (omega arith),
+        at-loop .inv .1 .inside,
+        c .before .before .before .before .before .before .before .before .before .before .before .before .before .before .before .before .before .before .before .before .before .before .before .before .before .before .before .before .before .before .before .before .before .before .good .1 .0 .0,
+      );
+    }
 
 loop-less : tie.Need-loop-less Inv-loop μ-loop
-loop-less c = let a = c .before .before .before .before .before .before .before .before .before .before .before .before .before .before .before .before .before .before .before .before .before .before .before .before .before .before .before .before .before .before .before .before .before .before .args in let l = c .before .before .before .before .before .before .before .before .before .before .before .before .before .before .before .before .before .before .before .before .before .before .before .before .before .loop in let r = c .before .before .before .before .before .before .before .before .before .before .before .before .before .before .before .before .advance in omega (arith, feeding-used (a .formula .now) (a .input .now) (memory (a .names .now) (a .path .now) (a .program .now) (a .values .now) (a .regs .now)) (a .start) (a .out .now) (l .at) (memory (l .names) (l .path) (l .program) (l .values) (l .regs)) (l .stage) (l .out) (l .inv .0) (l .inv .1) (length (a .input .now)) (omega arith) (r .result) (memory (r .last .1 .1 .1 .0) (r .last .1 .1 .1 .1 .0) (r .last .1 .1 .1 .1 .1 .0) (r .last .1 .1 .1 .1 .1 .1 .0) (r .last .1 .1 .1 .1 .1 .1 .1 .0)) (r .last .1 .1 .1 .1 .1 .1 .1 .1 .0) (r .ensures) (c .before .before .before .before .before .before .before .before .before .before .before .before .before .before .before .before .before .before .before .before .before .before .before .before .before .before .before .before .before .before .before .before .before .before .pre) (c .before .before .before .before .before .before .before .before .before .before .before .before .before .before .before .before .before .before .before .before .before .before .before .before .loop-test .taken), c .before .before .before .before .before .before .before .before .before .before .before .before .before .before .before .before .before .before .before .before .before .before .before .before .loop-test .taken)
+loop-less c =
+    let a = c .before .before .before .before .before .before .before .before .before .before .before .before .before .before .before .before .before .before .before .before .before .before .before .before .before .before .before .before .before .before .before .before .before .before .args in
+    let l = c .before .before .before .before .before .before .before .before .before .before .before .before .before .before .before .before .before .before .before .before .before .before .before .before .before .loop in
+    let r = c .before .before .before .before .before .before .before .before .before .before .before .before .before .before .before .before .advance in
+    let at-loop-test = c .before .before .before .before .before .before .before .before .before .before .before .before .before .before .before .before .before .before .before .before .before .before .before .before .loop-test in
+    omega (
+      arith,
+      feeding-used (a .formula .now) (a .input .now) (memory (a .names .now) (a .path .now) (a .program .now) (a .values .now) (a .regs .now)) (a .start)
+          (a .out .now) (l .at) (memory (l .names) (l .path) (l .program) (l .values) (l .regs)) (l .stage) (l .out) (l .inv .0) (l .inv .1) (length (a .input .now))
+          (omega arith) (r .result) (memory (r .last .1 .1 .1 .0) (r .last .1 .1 .1 .1 .0) (r .last .1 .1 .1 .1 .1 .0) (r .last .1 .1 .1 .1 .1 .1 .0)
+          (r .last .1 .1 .1 .1 .1 .1 .1 .0)) (r .last .1 .1 .1 .1 .1 .1 .1 .1 .0) (r .ensures) (c .before .before .before .before .before .before .before .before .before .before .before .before .before .before .before .before .before .before .before .before .before .before .before .before .before .before .before .before .before .before .before .before .before .before .pre) (at-loop-test .taken),
+      at-loop-test .taken,
+    )
 
 loop-again : tie.Need-loop-again Inv-loop μ-loop
-loop-again c = let a = c .before .before .before .before .before .before .before .before .before .before .before .before .before .before .before .before .before .before .before .before .before .before .before .before .before .before .before .before .before .before .before .before .before .before .args in let l = c .before .before .before .before .before .before .before .before .before .before .before .before .before .before .before .before .before .before .before .before .before .before .before .before .before .loop in let r = c .before .before .before .before .before .before .before .before .before .before .before .before .before .before .before .before .advance in
-    (l .inv .0 ++ take (r .result .length) (r .last .1 .1 .1 .1 .1 .1 .1 .1 .0), feeding-step (a .formula .now) (a .input .now) (memory (a .names .now) (a .path .now) (a .program .now) (a .values .now) (a .regs .now)) (a .start) (a .out .now) (l .at) (memory (l .names) (l .path) (l .program) (l .values) (l .regs)) (l .stage) (l .out) (l .inv .0) (l .inv .1) (length (a .input .now)) (omega arith) (r .result) (memory (r .last .1 .1 .1 .0) (r .last .1 .1 .1 .1 .0) (r .last .1 .1 .1 .1 .1 .0) (r .last .1 .1 .1 .1 .1 .1 .0) (r .last .1 .1 .1 .1 .1 .1 .1 .0)) (r .last .1 .1 .1 .1 .1 .1 .1 .1 .0) (r .ensures) (l .inv .1 .inside) (record { names = r .kept .1 .1 .1 .0; path = r .kept .1 .1 .1 .1 .0; program = r .kept .1 .1 .1 .1 .1 .0; values = r .kept .1 .1 .1 .1 .1 .1 .0; regs = r .kept .1 .1 .1 .1 .1 .1 .1 .0; output = r .kept .1 .1 .1 .1 .1 .1 .1 .1 .0 }))
+loop-again c =
+    let a = c .before .before .before .before .before .before .before .before .before .before .before .before .before .before .before .before .before .before .before .before .before .before .before .before .before .before .before .before .before .before .before .before .before .before .args in
+    let l = c .before .before .before .before .before .before .before .before .before .before .before .before .before .before .before .before .before .before .before .before .before .before .before .before .before .loop in
+    let r = c .before .before .before .before .before .before .before .before .before .before .before .before .before .before .before .before .advance in (
+      l .inv .0 ++ take (r .result .length) (r .last .1 .1 .1 .1 .1 .1 .1 .1 .0),
+      feeding-step (a .formula .now) (a .input .now) (memory (a .names .now) (a .path .now)
+          (a .program .now) (a .values .now) (a .regs .now)) (a .start) (a .out .now) (l .at) (memory (l .names) (l .path) (l .program) (l .values) (l .regs)) (l .stage)
+          (l .out) (l .inv .0) (l .inv .1) (length (a .input .now)) (omega arith) (r .result) (memory (r .last .1 .1 .1 .0) (r .last .1 .1 .1 .1 .0) (r .last .1 .1 .1 .1 .1 .0)
+          (r .last .1 .1 .1 .1 .1 .1 .0) (r .last .1 .1 .1 .1 .1 .1 .1 .0)) (r .last .1 .1 .1 .1 .1 .1 .1 .1 .0) (r .ensures) (l .inv .1 .inside)
+          (record { names = r .kept .1 .1 .1 .0; path = r .kept .1 .1 .1 .1 .0; program = r .kept .1 .1 .1 .1 .1 .0; values = r .kept .1 .1 .1 .1 .1 .1 .0; regs = r .kept .1 .1 .1 .1 .1 .1 .1 .0; output = r .kept .1 .1 .1 .1 .1 .1 .1 .1 .0 }),
+    )
 
 same-length-7 : tie.Need-same-length-7 Inv-loop μ-loop
 same-length-7 c = c .before .loop .inv .1 .same .names
@@ -91,7 +127,11 @@ same-length-12 : tie.Need-same-length-12 Inv-loop μ-loop
 same-length-12 c = c .before .loop .inv .1 .same .output
 
 returns-2 : tie.Need-returns-2 Inv-loop μ-loop
-returns-2 c = let a = c .before .before .before .before .before .before .before .before .before .before .args in let l = c .before .loop in feeds (a .formula .now) (a .input .now) (memory (a .names .now) (a .path .now) (a .program .now) (a .values .now) (a .regs .now)) (a .start) (a .out .now) (l .at) (memory (l .names) (l .path) (l .program) (l .values) (l .regs)) (l .stage) (l .out) (l .inv .0) (l .inv .1) (c .loop-test .left)
+returns-2 c =
+    let a = c .before .before .before .before .before .before .before .before .before .before .args in
+    let l = c .before .loop in
+    feeds (a .formula .now) (a .input .now) (memory (a .names .now) (a .path .now) (a .program .now) (a .values .now) (a .regs .now)) (a .start) (a .out .now) (l .at) (memory
+    (l .names) (l .path) (l .program) (l .values) (l .regs)) (l .stage) (l .out) (l .inv .0) (l .inv .1) (c .loop-test .left)
 
 pub feed-spec : {M : Type 1} → statement M
 feed-spec =

@@ -80,13 +80,30 @@ returns-2 : tie.Need-returns-2 Inv-loop μ-loop
 returns-2 c = c .before .before .before .before .before .before .before .before .before .loop .inv .fed
 
 slice-reshare-prefix-feed : tie.Need-slice-reshare-prefix-feed Inv-loop μ-loop
-slice-reshare-prefix-feed c = omega (arith, subst (λ (f : File). Within f (length (c .before .before .before .before .before .before .before .before .before .loop .block))) (c .before .before .read .given .1) (c .before .before .before .before .before .before .read-once .ensures), c .before .before .before .before .before .before .read-once .kept .1 .0)
+slice-reshare-prefix-feed c =
+    let at-read-once = c .before .before .before .before .before .before .read-once in
+    omega (arith, subst (λ (f : File). Within f (length (c .before .before .before .before .before .before .before .before .before .loop .block))) (c .before .before .read .given .1) (at-read-once .ensures), at-read-once .kept .1 .0)
 
 slice-aggregate-feed : tie.Need-slice-aggregate-feed Inv-loop μ-loop
-slice-aggregate-feed c = sym (length-take-le (c .before .before .before .read .given .0 .0) (c .before .before .before .before .before .before .before .read-once .last .1 .0) (omega (arith, subst (λ (f : File). Within f (length (c .before .before .before .before .before .before .before .before .before .before .loop .block))) (c .before .before .before .read .given .1) (c .before .before .before .before .before .before .before .read-once .ensures), c .before .before .before .before .before .before .before .read-once .kept .1 .0)))
+slice-aggregate-feed c =
+    let at-read = c .before .before .before .read in
+    let at-read-once = c .before .before .before .before .before .before .before .read-once in
+    sym (length-take-le (at-read .given .0 .0) (at-read-once .last .1 .0) (omega (
+      arith,
+      subst (λ (f : File). Within f (length (c .before .before .before .before .before .before .before .before .before .before .loop .block))) (at-read .given .1)
+          (at-read-once .ensures),
+      at-read-once .kept .1 .0,
+    )))
 
 feed-requires : tie.Need-feed-requires Inv-loop μ-loop
-feed-requires c κs = let a = c .before .before .before .before .before .before .before .before .before .before .before .before .before .before .before .before .before .before .before .before .before .before .before .before .before .args in let l = c .before .before .before .before .before .before .before .before .before .before .before .before .before .before .before .before .loop in let b = c .before .before .before .before .before .before .before .before .before .before .before .before .before .read-once in all-feedable (a .formula .now) (a .block .now) (memory (a .names .now) (a .path .now) (a .program .now) (a .values .now) (a .regs .now)) (a .start) (a .out .now) (c .before .before .before .before .before .before .before .before .before .before .before .before .before .before .before .before .before .before .before .before .before .before .before .before .before .pre) (l .block) (memory (l .names) (l .path) (l .program) (l .values) (l .regs)) (l .stage) (l .out) (l .turns) (l .inv) (b .last .1 .0) (c .before .before .before .before .before .before .before .before .before .read .given .0 .0) (let w = subst (λ (f : File). Within f (length (c .before .before .before .before .before .before .before .before .before .before .before .before .before .before .before .before .loop .block))) (c .before .before .before .before .before .before .before .before .before .read .given .1) (c .before .before .before .before .before .before .before .before .before .before .before .before .before .read-once .ensures) in omega (arith, c .before .before .before .before .before .before .before .before .before .before .before .before .before .before .before .before .loop .inv .same-block)) (c .before .before .before .before .before .before .before .before .before .before .before .before .before .before .before .loop-test .taken)
+feed-requires c κs =
+    let a = c .before .before .before .before .before .before .before .before .before .before .before .before .before .before .before .before .before .before .before .before .before .before .before .before .before .args in
+    let l = c .before .before .before .before .before .before .before .before .before .before .before .before .before .before .before .before .loop in
+    let b = c .before .before .before .before .before .before .before .before .before .before .before .before .before .read-once in
+    let at-read = c .before .before .before .before .before .before .before .before .before .read in
+    all-feedable (a .formula .now) (a .block .now) (memory (a .names .now) (a .path .now) (a .program .now) (a .values .now) (a .regs .now)) (a .start) (a .out .now) (c .before .before .before .before .before .before .before .before .before .before .before .before .before .before .before .before .before .before .before .before .before .before .before .before .before .pre)
+    (l .block) (memory (l .names) (l .path) (l .program) (l .values) (l .regs)) (l .stage) (l .out) (l .turns) (l .inv) (b .last .1 .0) (at-read .given .0 .0)
+    (let w = subst (λ (f : File). Within f (length (l .block))) (at-read .given .1) (c .before .before .before .before .before .before .before .before .before .before .before .before .before .read-once .ensures) in omega (arith, l .inv .same-block)) (c .before .before .before .before .before .before .before .before .before .before .before .before .before .before .before .loop-test .taken)
 
 enum-known-fed : tie.Need-enum-known-fed Inv-loop μ-loop
 enum-known-fed c = search needs
@@ -122,10 +139,22 @@ loop-less : tie.Need-loop-less Inv-loop μ-loop
 loop-less c = omega (arith, c .before .before .before .before .before .before .before .before .before .before .before .before .before .before .before .before .before .before .before .before .before .before .before .before .before .before .before .before .before .before .before .loop-test .taken)
 
 loop-again : tie.Need-loop-again Inv-loop μ-loop
-loop-again c = let a = c .before .before .before .before .before .before .before .before .before .before .before .before .before .before .before .before .before .before .before .before .before .before .before .before .before .before .before .before .before .before .before .before .before .before .before .before .before .before .before .before .before .args in let l = c .before .before .before .before .before .before .before .before .before .before .before .before .before .before .before .before .before .before .before .before .before .before .before .before .before .before .before .before .before .before .before .before .loop in let b = c .before .before .before .before .before .before .before .before .before .before .before .before .before .before .before .before .before .before .before .before .before .before .before .before .before .before .before .before .before .read-once in let f = c .before .before .before .before .before .before .before .before .before .before .before .before .before .before .before .feed in all-step (a .formula .now) (a .block .now) (memory (a .names .now) (a .path .now) (a .program .now) (a .values .now) (a .regs .now)) (a .start) (a .out .now) (c .before .before .before .before .before .before .before .before .before .before .before .before .before .before .before .before .before .before .before .before .before .before .before .before .before .before .before .before .before .before .before .before .before .before .before .before .before .before .before .before .before .pre) (l .block) (memory (l .names) (l .path) (l .program) (l .values) (l .regs)) (l .stage) (l .out) (l .turns) (l .inv) (b .last .1 .0) (c .before .before .before .before .before .before .before .before .before .before .before .before .before .before .before .before .before .before .before .before .before .before .before .before .before .read .given .0 .0) (let w = subst (λ (f : File). Within f (length (c .before .before .before .before .before .before .before .before .before .before .before .before .before .before .before .before .before .before .before .before .before .before .before .before .before .before .before .before .before .before .before .before .loop .block))) (c .before .before .before .before .before .before .before .before .before .before .before .before .before .before .before .before .before .before .before .before .before .before .before .before .before .read .given .1) (c .before .before .before .before .before .before .before .before .before .before .before .before .before .before .before .before .before .before .before .before .before .before .before .before .before .before .before .before .before .read-once .ensures) in omega (arith, c .before .before .before .before .before .before .before .before .before .before .before .before .before .before .before .before .before .before .before .before .before .before .before .before .before .before .before .before .before .before .before .before .loop .inv .same-block)) (c .before .before .before .before .before .before .before .before .before .before .before .before .before .before .before .before .before .before .before .before .before .before .before .before .before .before .before .before .before .before .before .loop-test .taken)
-    (memory (f .last .1 .1 .1 .0) (f .last .1 .1 .1 .1 .0) (f .last .1 .1 .1 .1 .1 .0) (f .last .1 .1 .1 .1 .1 .1 .0) (f .last .1 .1 .1 .1 .1 .1 .1 .0)) (c .before .fed .given .0 .0) (f .last .1 .1 .1 .1 .1 .1 .1 .1 .0) (b .kept .1 .0)
+loop-again c =
+    let a = c .before .before .before .before .before .before .before .before .before .before .before .before .before .before .before .before .before .before .before .before .before .before .before .before .before .before .before .before .before .before .before .before .before .before .before .before .before .before .before .before .before .args in
+    let l = c .before .before .before .before .before .before .before .before .before .before .before .before .before .before .before .before .before .before .before .before .before .before .before .before .before .before .before .before .before .before .before .before .loop in
+    let b = c .before .before .before .before .before .before .before .before .before .before .before .before .before .before .before .before .before .before .before .before .before .before .before .before .before .before .before .before .before .read-once in
+    let f = c .before .before .before .before .before .before .before .before .before .before .before .before .before .before .before .feed in
+    let at-read = c .before .before .before .before .before .before .before .before .before .before .before .before .before .before .before .before .before .before .before .before .before .before .before .before .before .read in
+    let at-fed = c .before .fed in
+    all-step (a .formula .now) (a .block .now) (memory (a .names .now) (a .path .now) (a .program .now) (a .values .now) (a .regs .now)) (a .start) (a .out .now) (c .before .before .before .before .before .before .before .before .before .before .before .before .before .before .before .before .before .before .before .before .before .before .before .before .before .before .before .before .before .before .before .before .before .before .before .before .before .before .before .before .before .pre)
+    (l .block) (memory (l .names) (l .path) (l .program) (l .values) (l .regs)) (l .stage) (l .out) (l .turns) (l .inv) (b .last .1 .0) (at-read .given .0 .0)
+    (let w = subst (λ (f : File). Within f (length (l .block))) (at-read .given .1) (c .before .before .before .before .before .before .before .before .before .before .before .before .before .before .before .before .before .before .before .before .before .before .before .before .before .before .before .before .before .read-once .ensures) in omega (arith, l .inv .same-block)) (c .before .before .before .before .before .before .before .before .before .before .before .before .before .before .before .before .before .before .before .before .before .before .before .before .before .before .before .before .before .before .before .loop-test .taken)
+    (memory (f .last .1 .1 .1 .0) (f .last .1 .1 .1 .1 .0) (f .last .1 .1 .1 .1 .1 .0) (f .last .1 .1 .1 .1 .1 .1 .0) (f .last .1 .1 .1 .1 .1 .1 .1 .0))
+    (at-fed .given .0 .0) (f .last .1 .1 .1 .1 .1 .1 .1 .1 .0) (b .kept .1 .0)
     (record { names = f .kept .1 .1 .1 .0; path = f .kept .1 .1 .1 .1 .0; program = f .kept .1 .1 .1 .1 .1 .0; values = f .kept .1 .1 .1 .1 .1 .1 .0; regs = f .kept .1 .1 .1 .1 .1 .1 .1 .0; output = f .kept .1 .1 .1 .1 .1 .1 .1 .1 .0 })
-    (subst (λ (x : Fed). Feeds (a .formula .now) (memory (l .names) (l .path) (l .program) (l .values) (l .regs)) (l .stage) (take (c .before .before .before .before .before .before .before .before .before .before .before .before .before .before .before .before .before .before .before .before .before .before .before .before .before .read .given .0 .0) (b .last .1 .0)) (memory (f .last .1 .1 .1 .0) (f .last .1 .1 .1 .1 .0) (f .last .1 .1 .1 .1 .1 .0) (f .last .1 .1 .1 .1 .1 .1 .0) (f .last .1 .1 .1 .1 .1 .1 .1 .0)) x) (c .before .fed .given .1) (f .ensures))
+    (subst (λ (x : Fed). Feeds (a .formula .now) (memory (l .names) (l .path) (l .program) (l .values) (l .regs)) (l .stage) (take (at-read .given .0 .0) (b .last .1 .0))
+    (memory (f .last .1 .1 .1 .0) (f .last .1 .1 .1 .1 .0) (f .last .1 .1 .1 .1 .1 .0) (f .last .1 .1 .1 .1 .1 .1 .0) (f .last .1 .1 .1 .1 .1 .1 .1 .0)) x)
+    (at-fed .given .1) (f .ensures))
 
 same-length-22 : tie.Need-same-length-22 Inv-loop μ-loop
 same-length-22 c = c .before .loop .inv .same-block

@@ -15,7 +15,9 @@ slice-reshare-prefix-write-all : tie.Need-slice-reshare-prefix-write-all
 slice-reshare-prefix-write-all c = search needs
 
 slice-aggregate-write-all : tie.Need-slice-aggregate-write-all
-slice-aggregate-write-all c = sym (length-take-le (c .before .before .before .start .result .length) (c .before .before .before .start .last .1 .1 .0) (omega (arith, c .before .before .before .start .ensures .room, c .before .before .before .start .kept .1 .1 .0)))
+slice-aggregate-write-all c =
+    let at-start = c .before .before .before .start in
+    sym (length-take-le (at-start .result .length) (at-start .last .1 .1 .0) (omega (arith, at-start .ensures .room, at-start .kept .1 .1 .0)))
 
 write-all-requires : tie.Need-write-all-requires
 write-all-requires c κs = search needs
@@ -27,11 +29,16 @@ returns : tie.Need-returns
 returns c = search needs
 
 feed-all-requires : tie.Need-feed-all-requires
-feed-all-requires c κs = let a = c .before .before .before .before .before .before .before .before .before .before .before .before .before .before .before .before .before .before .before .before .before .before .args in let b = c .before .before .before .before .before .before .before .before .before .before .before .before .start in let p = c .before .before .before .before .before .before .before .before .before .before .before .before .before .before .before .before .before .before .before .before .before .before .pre in
+feed-all-requires c κs =
+    let a = c .before .before .before .before .before .before .before .before .before .before .before .before .before .before .before .before .before .before .before .before .before .before .args in
+    let b = c .before .before .before .before .before .before .before .before .before .before .before .before .start in
+    let p = c .before .before .before .before .before .before .before .before .before .before .before .before .before .before .before .before .before .before .before .before .before .before .pre in
     let m = memory (a .names .now) (a .path .now) (a .program .now) (a .values .now) (a .regs .now) in record {
-      stands = stands-first (a .readable) (a .formula .now) m (b .result .stage) (take (b .result .length) (b .last .1 .1 .0)) (p .roomy) (b .ensures .begins (p .room));
+      stands = stands-first (a .readable) (a .formula .now) m
+          (b .result .stage) (take (b .result .length) (b .last .1 .1 .0)) (p .roomy) (b .ensures .begins (p .room));
       unnumbered = b .ensures .unnumbered;
-      room = omega (arith, b .kept .1 .1 .0, p .room);
+      room = omega
+          (arith, b .kept .1 .1 .0, p .room);
       some = p .some;
       small = p .small;
     }
@@ -70,7 +77,9 @@ slice-reshare-prefix-write-all-2 : tie.Need-slice-reshare-prefix-write-all-2
 slice-reshare-prefix-write-all-2 c = search needs
 
 slice-aggregate-write-all-2 : tie.Need-slice-aggregate-write-all-2
-slice-aggregate-write-all-2 c = sym (length-take-le (c .before .before .before .before .before .before .before .before .before .before .before .finish .result) (c .before .before .before .before .before .before .before .before .before .before .before .finish .last .1 .1 .1 .1 .1 .1 .1 .0) (omega (arith, c .before .before .before .before .before .before .before .before .before .before .before .finish .ensures .room, c .before .before .before .before .before .before .before .before .before .before .before .finish .kept .1 .1 .1 .1 .1 .1 .1 .0)))
+slice-aggregate-write-all-2 c =
+    let at-finish = c .before .before .before .before .before .before .before .before .before .before .before .finish in
+    sym (length-take-le (at-finish .result) (at-finish .last .1 .1 .1 .1 .1 .1 .1 .0) (omega (arith, at-finish .ensures .room, at-finish .kept .1 .1 .1 .1 .1 .1 .1 .0)))
 
 write-all-requires-2 : tie.Need-write-all-requires-2
 write-all-requires-2 c κs = search needs

@@ -36,7 +36,10 @@ advance-requires : tie.Need-advance-requires Inv-loop μ-loop
 advance-requires c κs = tt
 
 add-requires : tie.Need-add-requires Inv-loop μ-loop
-add-requires c κs = let r = c .before .before .before .before .before .before .before .before .before .before .before .before .before .before .advance in (omega (arith, r .ensures .room, r .kept .1 .1 .1 .1 .1 .1 .1 .1 .0), omega (arith, c .before .before .before .before .before .before .before .before .before .before .before .before .before .before .before .before .before .before .before .before .before .before .before .before .loop .inv .fits .room, c .before .before .before .before .before .before .before .before .before .before .before .before .before .before .before .before .before .before .before .before .before .before .before .before .loop .inv .whole))
+add-requires c κs =
+    let r = c .before .before .before .before .before .before .before .before .before .before .before .before .before .before .advance in
+    let at-loop = c .before .before .before .before .before .before .before .before .before .before .before .before .before .before .before .before .before .before .before .before .before .before .before .before .loop in
+    (omega (arith, r .ensures .room, r .kept .1 .1 .1 .1 .1 .1 .1 .1 .0), omega (arith, at-loop .inv .fits .room, at-loop .inv .whole))
 
 enum-known-added : tie.Need-enum-known-added Inv-loop μ-loop
 enum-known-added c = search needs
@@ -66,18 +69,66 @@ same-length-7 : tie.Need-same-length-7 Inv-loop μ-loop
 same-length-7 c = c .before .before .before .before .add .kept .0 ∙ c .before .before .before .before .before .before .before .before .before .before .before .before .before .before .before .before .before .before .before .before .before .before .before .before .before .before .before .before .before .loop .inv .whole
 
 returns : tie.Need-returns Inv-loop μ-loop
-returns c = let a = c .before .before .before .before .before .before .before .before .before .before .before .before .before .before .before .before .before .before .before .before .before .before .before .before .before .before .before .before .before .before .before .before .before .before .before .before .before .before .before .args in let l = c .before .before .before .before .before .before .before .before .before .before .before .before .before .before .before .before .before .before .before .before .before .before .before .before .before .before .before .before .before .loop in let r = c .before .before .before .before .before .before .before .before .before .before .before .before .before .before .before .before .before .before .before .advance in gathering-full (a .formula .now) (a .input .now) (memory (a .names .now) (a .path .now) (a .program .now) (a .values .now) (a .regs .now)) (a .start) (a .out .now) (a .all .now) (a .from) (l .at) (memory (l .names) (l .path) (l .program) (l .values) (l .regs)) (l .stage) (l .out) (l .all) (l .length) (l .inv) (c .before .before .before .before .before .before .before .before .before .before .before .before .before .before .before .before .before .before .before .before .before .before .before .before .before .before .before .block-end .result) (c .before .before .before .before .before .before .before .before .before .before .before .before .before .before .before .before .before .before .before .before .before .before .before .before .before .before .before .block-end .ensures .1) (r .result) (memory (r .last .1 .1 .1 .0) (r .last .1 .1 .1 .1 .0) (r .last .1 .1 .1 .1 .1 .0) (r .last .1 .1 .1 .1 .1 .1 .0) (r .last .1 .1 .1 .1 .1 .1 .1 .0)) (r .last .1 .1 .1 .1 .1 .1 .1 .1 .0) (c .before .before .before .before .add .last .0) (r .ensures) (record { names = r .kept .1 .1 .1 .0; path = r .kept .1 .1 .1 .1 .0; program = r .kept .1 .1 .1 .1 .1 .0; values = r .kept .1 .1 .1 .1 .1 .1 .0; regs = r .kept .1 .1 .1 .1 .1 .1 .1 .0; output = r .kept .1 .1 .1 .1 .1 .1 .1 .1 .0 })
-    (subst (λ (x : Listing). Copies (l .all) (l .length) (r .last .1 .1 .1 .1 .1 .1 .1 .1 .0) (r .result .length) x (c .before .before .before .before .add .last .0)) (c .enum-told .given .1) (c .before .before .before .before .add .ensures))
+returns c =
+    let a = c .before .before .before .before .before .before .before .before .before .before .before .before .before .before .before .before .before .before .before .before .before .before .before .before .before .before .before .before .before .before .before .before .before .before .before .before .before .before .before .args in
+    let l = c .before .before .before .before .before .before .before .before .before .before .before .before .before .before .before .before .before .before .before .before .before .before .before .before .before .before .before .before .before .loop in
+    let r = c .before .before .before .before .before .before .before .before .before .before .before .before .before .before .before .before .before .before .before .advance in
+    let at-block-end = c .before .before .before .before .before .before .before .before .before .before .before .before .before .before .before .before .before .before .before .before .before .before .before .before .before .before .before .block-end in
+    let at-add = c .before .before .before .before .add in
+    gathering-full (a .formula .now) (a .input .now) (memory (a .names .now) (a .path .now) (a .program .now) (a .values .now) (a .regs .now)) (a .start) (a .out .now)
+    (a .all .now) (a .from) (l .at) (memory (l .names) (l .path) (l .program) (l .values) (l .regs)) (l .stage) (l .out) (l .all) (l .length) (l .inv)
+    (at-block-end .result) (at-block-end .ensures .1) (r .result) (memory (r .last .1 .1 .1 .0) (r .last .1 .1 .1 .1 .0) (r .last .1 .1 .1 .1 .1 .0)
+    (r .last .1 .1 .1 .1 .1 .1 .0) (r .last .1 .1 .1 .1 .1 .1 .1 .0)) (r .last .1 .1 .1 .1 .1 .1 .1 .1 .0) (at-add .last .0) (r .ensures)
+    (record { names = r .kept .1 .1 .1 .0; path = r .kept .1 .1 .1 .1 .0; program = r .kept .1 .1 .1 .1 .1 .0; values = r .kept .1 .1 .1 .1 .1 .1 .0; regs = r .kept .1 .1 .1 .1 .1 .1 .1 .0; output = r .kept .1 .1 .1 .1 .1 .1 .1 .1 .0 })
+    (subst (λ (x : Listing). Copies (l .all) (l .length) (r .last .1 .1 .1 .1 .1 .1 .1 .1 .0) (r .result .length) x (at-add .last .0)) (c .enum-told .given .1)
+    (at-add .ensures))
 
 add-at : tie.Need-add-at Inv-loop μ-loop
-add-at c = let r = c .before .before .before .before .before .before .before .before .before .before .before .before .before .before .before .before .before .before .before .before .before .advance in record { fits = omega (arith, r .ensures .inside, part-long (c .before .before .before .before .before .before .before .before .before .before .before .before .before .before .before .before .before .before .before .before .before .before .before .before .before .before .before .before .before .before .before .loop .at) (c .before .before .before .before .before .before .before .before .before .before .before .before .before .before .before .before .before .before .before .before .before .before .before .before .before .before .before .before .before .block-end .result) (c .before .before .before .before .before .before .before .before .before .before .before .before .before .before .before .before .before .before .before .before .before .before .before .before .before .before .before .before .before .before .before .before .before .before .before .before .before .before .before .before .before .args .input .now) (c .before .before .before .before .before .before .before .before .before .before .before .before .before .before .before .before .before .before .before .before .before .before .before .before .before .before .before .before .before .block-end .ensures .1), c .before .before .before .before .before .before .before .before .before .before .before .before .before .before .before .before .before .before .before .before .before .before .before .before .before .before .before .before .before .block-end .ensures .0, c .before .before .before .before .before .before .before .before .before .before .before .before .before .before .before .before .before .before .before .before .before .before .before .before .before .before .before .before .before .block-end .ensures .1, c .before .before .before .before .before .before .before .before .before .before .before .before .before .before .before .before .before .before .before .before .before .before .before .before .before .before .before .before .before .before .before .before .before .before .before .before .before .before .before .before .before .good .1 .0 .0) }
+add-at c =
+    let r = c .before .before .before .before .before .before .before .before .before .before .before .before .before .before .before .before .before .before .before .before .before .advance in
+    let at-block-end = c .before .before .before .before .before .before .before .before .before .before .before .before .before .before .before .before .before .before .before .before .before .before .before .before .before .before .before .before .before .block-end in
+    record {
+      fits = omega (
+        arith,
+        r .ensures .inside,
+        part-long (c .before .before .before .before .before .before .before .before .before .before .before .before .before .before .before .before .before .before .before .before .before .before .before .before .before .before .before .before .before .before .before .loop .at) (at-block-end .result) (c .before .before .before .before .before .before .before .before .before .before .before .before .before .before .before .before .before .before .before .before .before .before .before .before .before .before .before .before .before .before .before .before .before .before .before .before .before .before .before .before .before .args .input .now)
+            (at-block-end .ensures .1),
+        at-block-end .ensures .0,
+        at-block-end .ensures .1,
+        c .before .before .before .before .before .before .before .before .before .before .before .before .before .before .before .before .before .before .before .before .before .before .before .before .before .before .before .before .before .before .before .before .before .before .before .before .before .before .before .before .before .good .1 .0 .0,
+      );
+    }
 
 loop-less : tie.Need-loop-less Inv-loop μ-loop
-loop-less c = let a = c .before .before .before .before .before .before .before .before .before .before .before .before .before .before .before .before .before .before .before .before .before .before .before .before .before .before .before .before .before .before .before .before .before .before .before .before .before .before .before .before .before .args in let l = c .before .before .before .before .before .before .before .before .before .before .before .before .before .before .before .before .before .before .before .before .before .before .before .before .before .before .before .before .before .before .before .loop in let r = c .before .before .before .before .before .before .before .before .before .before .before .before .before .before .before .before .before .before .before .before .before .advance in omega (arith, feeding-used (a .formula .now) (a .input .now) (memory (a .names .now) (a .path .now) (a .program .now) (a .values .now) (a .regs .now)) (a .start) (a .out .now) (l .at) (memory (l .names) (l .path) (l .program) (l .values) (l .regs)) (l .stage) (l .out) (l .inv .text) (l .inv .fed) (c .before .before .before .before .before .before .before .before .before .before .before .before .before .before .before .before .before .before .before .before .before .before .before .before .before .before .before .before .before .block-end .result) (c .before .before .before .before .before .before .before .before .before .before .before .before .before .before .before .before .before .before .before .before .before .before .before .before .before .before .before .before .before .block-end .ensures .1) (r .result) (memory (r .last .1 .1 .1 .0) (r .last .1 .1 .1 .1 .0) (r .last .1 .1 .1 .1 .1 .0) (r .last .1 .1 .1 .1 .1 .1 .0) (r .last .1 .1 .1 .1 .1 .1 .1 .0)) (r .last .1 .1 .1 .1 .1 .1 .1 .1 .0) (r .ensures) (c .before .before .before .before .before .before .before .before .before .before .before .before .before .before .before .before .before .before .before .before .before .before .before .before .before .before .before .before .before .before .before .before .before .before .before .before .before .before .before .before .before .pre .0) (c .before .before .before .before .before .before .before .before .before .before .before .before .before .before .before .before .before .before .before .before .before .before .before .before .before .before .before .before .before .block-end .ensures .0), c .before .before .before .before .before .before .before .before .before .before .before .before .before .before .before .before .before .before .before .before .before .before .before .before .before .before .before .before .before .before .loop-test .taken)
+loop-less c =
+    let a = c .before .before .before .before .before .before .before .before .before .before .before .before .before .before .before .before .before .before .before .before .before .before .before .before .before .before .before .before .before .before .before .before .before .before .before .before .before .before .before .before .before .args in
+    let l = c .before .before .before .before .before .before .before .before .before .before .before .before .before .before .before .before .before .before .before .before .before .before .before .before .before .before .before .before .before .before .before .loop in
+    let r = c .before .before .before .before .before .before .before .before .before .before .before .before .before .before .before .before .before .before .before .before .before .advance in
+    let at-block-end = c .before .before .before .before .before .before .before .before .before .before .before .before .before .before .before .before .before .before .before .before .before .before .before .before .before .before .before .before .before .block-end in
+    omega (
+      arith,
+      feeding-used (a .formula .now) (a .input .now) (memory (a .names .now) (a .path .now) (a .program .now) (a .values .now) (a .regs .now)) (a .start)
+          (a .out .now) (l .at) (memory (l .names) (l .path) (l .program) (l .values) (l .regs)) (l .stage) (l .out) (l .inv .text) (l .inv .fed) (at-block-end .result)
+          (at-block-end .ensures .1) (r .result) (memory (r .last .1 .1 .1 .0) (r .last .1 .1 .1 .1 .0) (r .last .1 .1 .1 .1 .1 .0) (r .last .1 .1 .1 .1 .1 .1 .0)
+          (r .last .1 .1 .1 .1 .1 .1 .1 .0)) (r .last .1 .1 .1 .1 .1 .1 .1 .1 .0) (r .ensures) (c .before .before .before .before .before .before .before .before .before .before .before .before .before .before .before .before .before .before .before .before .before .before .before .before .before .before .before .before .before .before .before .before .before .before .before .before .before .before .before .before .before .pre .0) (at-block-end .ensures .0),
+      c .before .before .before .before .before .before .before .before .before .before .before .before .before .before .before .before .before .before .before .before .before .before .before .before .before .before .before .before .before .before .loop-test .taken,
+    )
 
 loop-again : tie.Need-loop-again Inv-loop μ-loop
-loop-again c = let a = c .before .before .before .before .before .before .before .before .before .before .before .before .before .before .before .before .before .before .before .before .before .before .before .before .before .before .before .before .before .before .before .before .before .before .before .before .before .before .before .before .before .args in let l = c .before .before .before .before .before .before .before .before .before .before .before .before .before .before .before .before .before .before .before .before .before .before .before .before .before .before .before .before .before .before .before .loop in let r = c .before .before .before .before .before .before .before .before .before .before .before .before .before .before .before .before .before .before .before .before .before .advance in gathering-step (a .formula .now) (a .input .now) (memory (a .names .now) (a .path .now) (a .program .now) (a .values .now) (a .regs .now)) (a .start) (a .out .now) (a .all .now) (a .from) (l .at) (memory (l .names) (l .path) (l .program) (l .values) (l .regs)) (l .stage) (l .out) (l .all) (l .length) (l .inv) (c .before .before .before .before .before .before .before .before .before .before .before .before .before .before .before .before .before .before .before .before .before .before .before .before .before .before .before .before .before .block-end .result) (c .before .before .before .before .before .before .before .before .before .before .before .before .before .before .before .before .before .before .before .before .before .before .before .before .before .before .before .before .before .block-end .ensures .1) (r .result) (memory (r .last .1 .1 .1 .0) (r .last .1 .1 .1 .1 .0) (r .last .1 .1 .1 .1 .1 .0) (r .last .1 .1 .1 .1 .1 .1 .0) (r .last .1 .1 .1 .1 .1 .1 .1 .0)) (r .last .1 .1 .1 .1 .1 .1 .1 .1 .0) (c .before .before .before .before .before .before .add .last .0) (r .ensures) (record { names = r .kept .1 .1 .1 .0; path = r .kept .1 .1 .1 .1 .0; program = r .kept .1 .1 .1 .1 .1 .0; values = r .kept .1 .1 .1 .1 .1 .1 .0; regs = r .kept .1 .1 .1 .1 .1 .1 .1 .0; output = r .kept .1 .1 .1 .1 .1 .1 .1 .1 .0 }) (omega (arith, c .before .before .before .before .before .before .before .before .before .before .before .before .before .before .before .before .before .before .before .before .before .before .before .before .before .before .before .before .before .block-end .ensures .0)) (c .before .before .before .before .before .before .add .kept .0) (c .before .before .added .given .0 .0)
-    (subst (λ (x : Listing). Copies (l .all) (l .length) (r .last .1 .1 .1 .1 .1 .1 .1 .1 .0) (r .result .length) x (c .before .before .before .before .before .before .add .last .0)) (c .before .before .added .given .1) (c .before .before .before .before .before .before .add .ensures))
+loop-again c =
+    let a = c .before .before .before .before .before .before .before .before .before .before .before .before .before .before .before .before .before .before .before .before .before .before .before .before .before .before .before .before .before .before .before .before .before .before .before .before .before .before .before .before .before .args in
+    let l = c .before .before .before .before .before .before .before .before .before .before .before .before .before .before .before .before .before .before .before .before .before .before .before .before .before .before .before .before .before .before .before .loop in
+    let r = c .before .before .before .before .before .before .before .before .before .before .before .before .before .before .before .before .before .before .before .before .before .advance in
+    let at-block-end = c .before .before .before .before .before .before .before .before .before .before .before .before .before .before .before .before .before .before .before .before .before .before .before .before .before .before .before .before .before .block-end in
+    let at-add = c .before .before .before .before .before .before .add in
+    let at-added = c .before .before .added in
+    gathering-step (a .formula .now) (a .input .now) (memory (a .names .now) (a .path .now) (a .program .now) (a .values .now) (a .regs .now)) (a .start) (a .out .now)
+    (a .all .now) (a .from) (l .at) (memory (l .names) (l .path) (l .program) (l .values) (l .regs)) (l .stage) (l .out) (l .all) (l .length) (l .inv)
+    (at-block-end .result) (at-block-end .ensures .1) (r .result) (memory (r .last .1 .1 .1 .0) (r .last .1 .1 .1 .1 .0) (r .last .1 .1 .1 .1 .1 .0)
+    (r .last .1 .1 .1 .1 .1 .1 .0) (r .last .1 .1 .1 .1 .1 .1 .1 .0)) (r .last .1 .1 .1 .1 .1 .1 .1 .1 .0) (at-add .last .0) (r .ensures)
+    (record { names = r .kept .1 .1 .1 .0; path = r .kept .1 .1 .1 .1 .0; program = r .kept .1 .1 .1 .1 .1 .0; values = r .kept .1 .1 .1 .1 .1 .1 .0; regs = r .kept .1 .1 .1 .1 .1 .1 .1 .0; output = r .kept .1 .1 .1 .1 .1 .1 .1 .1 .0 })
+    (omega (arith, at-block-end .ensures .0)) (at-add .kept .0) (at-added .given .0 .0) (subst (λ (x : Listing). Copies (l .all) (l .length)
+    (r .last .1 .1 .1 .1 .1 .1 .1 .1 .0) (r .result .length) x (at-add .last .0)) (at-added .given .1) (at-add .ensures))
 
 same-length-8 : tie.Need-same-length-8 Inv-loop μ-loop
 same-length-8 c = c .before .loop .inv .fed .same .names
@@ -101,7 +152,11 @@ same-length-14 : tie.Need-same-length-14 Inv-loop μ-loop
 same-length-14 c = c .before .loop .inv .whole
 
 returns-2 : tie.Need-returns-2 Inv-loop μ-loop
-returns-2 c = let a = c .before .before .before .before .before .before .before .before .before .before .before .args in let l = c .before .loop in gathering-end (a .formula .now) (a .input .now) (memory (a .names .now) (a .path .now) (a .program .now) (a .values .now) (a .regs .now)) (a .start) (a .out .now) (a .all .now) (a .from) (l .at) (memory (l .names) (l .path) (l .program) (l .values) (l .regs)) (l .stage) (l .out) (l .all) (l .length) (l .inv) (c .loop-test .left)
+returns-2 c =
+    let a = c .before .before .before .before .before .before .before .before .before .before .before .args in
+    let l = c .before .loop in
+    gathering-end (a .formula .now) (a .input .now) (memory (a .names .now) (a .path .now) (a .program .now) (a .values .now) (a .regs .now)) (a .start) (a .out .now)
+    (a .all .now) (a .from) (l .at) (memory (l .names) (l .path) (l .program) (l .values) (l .regs)) (l .stage) (l .out) (l .all) (l .length) (l .inv) (c .loop-test .left)
 
 pub feed-spec : {M : Type 1} → statement M
 feed-spec =

@@ -30,7 +30,15 @@ same-length-2 : tie.Need-same-length-2
 same-length-2 c = search needs
 
 returns : tie.Need-returns
-returns c = let a = c .before .before .before .before .before .before .before .before .before .before .before .before .before .before .before .before .before .before .before .before .args in let b = c .before .before .before .before .before .before .before .before .before .start in listed-none (a .readable) (a .formula .now) (a .input .now) (memory (a .names .now) (a .path .now) (a .program .now) (a .values .now) (a .regs .now)) (b .result .stage) (a .all .now) (b .last .1 .1 .0) (b .result .length) (c .before .before .before .before .add .last .0) (c .before .before .before .before .before .before .before .before .before .before .before .before .before .before .before .before .before .before .before .before .pre .0) (b .ensures .begins (c .before .before .before .before .before .before .before .before .before .before .before .before .before .before .before .before .before .before .before .before .pre .1)) (omega (arith, b .ensures .room, b .kept .1 .1 .0)) (subst (λ (x : Listing). Copies (a .all .now) 0 (b .last .1 .1 .0) (b .result .length) x (c .before .before .before .before .add .last .0)) (c .enum-told .given .1) (c .before .before .before .before .add .ensures))
+returns c =
+    let a = c .before .before .before .before .before .before .before .before .before .before .before .before .before .before .before .before .before .before .before .before .args in
+    let b = c .before .before .before .before .before .before .before .before .before .start in
+    let at-add = c .before .before .before .before .add in
+    let at-pre = c .before .before .before .before .before .before .before .before .before .before .before .before .before .before .before .before .before .before .before .before .pre in
+    listed-none (a .readable) (a .formula .now) (a .input .now) (memory (a .names .now) (a .path .now) (a .program .now) (a .values .now) (a .regs .now)) (b .result .stage)
+    (a .all .now) (b .last .1 .1 .0) (b .result .length) (at-add .last .0) (at-pre .0) (b .ensures .begins (at-pre .1)) (omega
+    (arith, b .ensures .room, b .kept .1 .1 .0)) (subst (λ (x : Listing). Copies (a .all .now) 0 (b .last .1 .1 .0) (b .result .length) x (at-add .last .0))
+    (c .enum-told .given .1) (at-add .ensures))
 
 feed-requires : tie.Need-feed-requires
 feed-requires c κs = let a = c .before .before .before .before .before .before .before .before .before .before .before .before .before .before .before .before .before .before .before .before .before .before .before .before .before .before .before .before .args in let b = c .before .before .before .before .before .before .before .before .before .before .before .before .before .before .before .before .before .start in let m = memory (a .names .now) (a .path .now) (a .program .now) (a .values .now) (a .regs .now) in (
@@ -70,14 +78,41 @@ same-length-9 : tie.Need-same-length-9
 same-length-9 c = search needs
 
 returns-2 : tie.Need-returns-2
-returns-2 c = let a = c .before .before .before .before .before .before .before .before .before .before .before .before .before .before .before .before .before .before .before .before .before .before .before .before .before .before .before .before .before .before .before .before .before .before .before .before .before .before .before .before .before .before .before .before .before .args in let b = c .before .before .before .before .before .before .before .before .before .before .before .before .before .before .before .before .before .before .before .before .before .before .before .before .before .before .before .before .before .before .before .before .before .before .start in let f = c .before .before .before .before .before .before .before .before .before .before .before .before .before .before .before .before .feed in listed-some (a .readable) (a .formula .now) (a .input .now) (memory (a .names .now) (a .path .now) (a .program .now) (a .values .now) (a .regs .now)) (b .result .stage) (a .all .now) (b .last .1 .1 .0) (b .result .length) (c .before .before .before .before .before .before .before .before .before .before .before .before .before .before .before .before .before .before .before .before .before .before .before .before .before .before .before .before .before .add .last .0) (c .before .before .before .before .before .before .before .before .before .before .before .before .before .before .before .before .before .before .before .before .before .before .before .before .before .before .before .before .before .before .before .before .before .before .before .before .before .before .before .before .before .before .before .before .before .pre .0) (b .ensures .begins (c .before .before .before .before .before .before .before .before .before .before .before .before .before .before .before .before .before .before .before .before .before .before .before .before .before .before .before .before .before .before .before .before .before .before .before .before .before .before .before .before .before .before .before .before .before .pre .1)) (omega (arith, b .ensures .room, b .kept .1 .1 .0)) (c .before .before .before .before .before .before .before .before .before .before .before .before .before .before .before .before .before .before .before .before .before .before .before .before .before .first .given .0 .0) (subst (λ (x : Listing). Copies (a .all .now) 0 (b .last .1 .1 .0) (b .result .length) x (c .before .before .before .before .before .before .before .before .before .before .before .before .before .before .before .before .before .before .before .before .before .before .before .before .before .before .before .before .before .add .last .0)) (c .before .before .before .before .before .before .before .before .before .before .before .before .before .before .before .before .before .before .before .before .before .before .before .before .before .first .given .1) (c .before .before .before .before .before .before .before .before .before .before .before .before .before .before .before .before .before .before .before .before .before .before .before .before .before .before .before .before .before .add .ensures)) (c .before .before .before .before .before .before .before .before .before .before .before .before .before .before .before .before .before .before .before .before .before .before .before .before .before .before .before .before .before .add .kept .0) (memory (f .last .1 .1 .1 .1 .0) (f .last .1 .1 .1 .1 .1 .0) (f .last .1 .1 .1 .1 .1 .1 .0) (f .last .1 .1 .1 .1 .1 .1 .1 .0) (f .last .1 .1 .1 .1 .1 .1 .1 .1 .0)) (f .last .1 .1 .1 .1 .1 .1 .1 .1 .1 .1 .0)
-    (subst (λ (x : Fed). Feeds-all (a .formula .now) (memory (a .names .now) (a .path .now) (a .program .now) (a .values .now) (a .regs .now)) (b .result .stage) (a .input .now) (memory (f .last .1 .1 .1 .1 .0) (f .last .1 .1 .1 .1 .1 .0) (f .last .1 .1 .1 .1 .1 .1 .0) (f .last .1 .1 .1 .1 .1 .1 .1 .0) (f .last .1 .1 .1 .1 .1 .1 .1 .1 .0)) (c .before .before .before .before .before .before .before .before .before .before .before .before .before .before .before .before .before .before .before .before .before .before .before .before .before .before .before .before .before .add .last .0) (c .before .before .before .before .before .before .before .before .before .before .before .before .before .before .before .before .before .before .before .before .before .before .before .before .before .first .given .0 .0) x (f .last .1 .1 .1 .1 .1 .1 .1 .1 .1 .1 .0)) (c .enum-told2 .given .1) (f .ensures))
+returns-2 c =
+    let a = c .before .before .before .before .before .before .before .before .before .before .before .before .before .before .before .before .before .before .before .before .before .before .before .before .before .before .before .before .before .before .before .before .before .before .before .before .before .before .before .before .before .before .before .before .before .args in
+    let b = c .before .before .before .before .before .before .before .before .before .before .before .before .before .before .before .before .before .before .before .before .before .before .before .before .before .before .before .before .before .before .before .before .before .before .start in
+    let f = c .before .before .before .before .before .before .before .before .before .before .before .before .before .before .before .before .feed in
+    let at-add = c .before .before .before .before .before .before .before .before .before .before .before .before .before .before .before .before .before .before .before .before .before .before .before .before .before .before .before .before .before .add in
+    let at-pre = c .before .before .before .before .before .before .before .before .before .before .before .before .before .before .before .before .before .before .before .before .before .before .before .before .before .before .before .before .before .before .before .before .before .before .before .before .before .before .before .before .before .before .before .before .before .pre in
+    let at-first = c .before .before .before .before .before .before .before .before .before .before .before .before .before .before .before .before .before .before .before .before .before .before .before .before .before .first in
+    listed-some (a .readable) (a .formula .now) (a .input .now) (memory (a .names .now) (a .path .now) (a .program .now) (a .values .now) (a .regs .now)) (b .result .stage)
+    (a .all .now) (b .last .1 .1 .0) (b .result .length) (at-add .last .0) (at-pre .0) (b .ensures .begins (at-pre .1)) (omega
+    (arith, b .ensures .room, b .kept .1 .1 .0)) (at-first .given .0 .0) (subst (λ (x : Listing). Copies (a .all .now) 0 (b .last .1 .1 .0) (b .result .length) x
+    (at-add .last .0)) (at-first .given .1) (at-add .ensures)) (at-add .kept .0) (memory (f .last .1 .1 .1 .1 .0) (f .last .1 .1 .1 .1 .1 .0)
+    (f .last .1 .1 .1 .1 .1 .1 .0) (f .last .1 .1 .1 .1 .1 .1 .1 .0) (f .last .1 .1 .1 .1 .1 .1 .1 .1 .0)) (f .last .1 .1 .1 .1 .1 .1 .1 .1 .1 .1 .0) (subst
+    (λ (x : Fed). Feeds-all (a .formula .now) (memory (a .names .now) (a .path .now) (a .program .now) (a .values .now) (a .regs .now)) (b .result .stage) (a .input .now)
+    (memory (f .last .1 .1 .1 .1 .0) (f .last .1 .1 .1 .1 .1 .0) (f .last .1 .1 .1 .1 .1 .1 .0) (f .last .1 .1 .1 .1 .1 .1 .1 .0) (f .last .1 .1 .1 .1 .1 .1 .1 .1 .0))
+    (at-add .last .0) (at-first .given .0 .0) x (f .last .1 .1 .1 .1 .1 .1 .1 .1 .1 .1 .0)) (c .enum-told2 .given .1) (f .ensures))
 
 finish-requires : tie.Need-finish-requires
 finish-requires c κs = search needs
 
 add-requires-2 : tie.Need-add-requires-2
-add-requires-2 c κs = let a = c .before .before .before .before .before .before .before .before .before .before .before .before .before .before .before .before .before .before .before .before .before .before .before .before .before .before .before .before .before .before .before .before .before .before .before .before .before .before .before .before .before .before .before .before .before .before .before .before .before .before .before .before .before .before .before .before .before .before .before .before .before .before .before .before .before .args in let b = c .before .before .before .before .before .before .before .before .before .before .before .before .before .before .before .before .before .before .before .before .before .before .before .before .before .before .before .before .before .before .before .before .before .before .before .before .before .before .before .before .before .before .before .before .before .before .before .before .before .before .before .before .before .before .start in let f = c .before .before .before .before .before .before .before .before .before .before .before .before .before .before .before .before .before .before .before .before .before .before .before .before .before .before .before .before .before .before .before .before .before .before .before .before .feed in (omega (arith, c .before .before .before .before .before .before .before .before .before .before .before .before .finish .ensures .room, c .before .before .before .before .before .before .before .before .before .before .before .before .finish .kept .1 .1 .1 .1 .1 .1 .1 .0), omega (arith, (subst (λ (x : Fed). Feeds-all (a .formula .now) (memory (a .names .now) (a .path .now) (a .program .now) (a .values .now) (a .regs .now)) (b .result .stage) (a .input .now) (memory (f .last .1 .1 .1 .1 .0) (f .last .1 .1 .1 .1 .1 .0) (f .last .1 .1 .1 .1 .1 .1 .0) (f .last .1 .1 .1 .1 .1 .1 .1 .0) (f .last .1 .1 .1 .1 .1 .1 .1 .1 .0)) (c .before .before .before .before .before .before .before .before .before .before .before .before .before .before .before .before .before .before .before .before .before .before .before .before .before .before .before .before .before .before .before .before .before .before .before .before .before .before .before .before .before .before .before .before .before .before .before .before .before .add .last .0) (c .before .before .before .before .before .before .before .before .before .before .before .before .before .before .before .before .before .before .before .before .before .before .before .before .before .before .before .before .before .before .before .before .before .before .before .before .before .before .before .before .before .before .before .before .before .first .given .0 .0) x (f .last .1 .1 .1 .1 .1 .1 .1 .1 .1 .1 .0)) (c .before .before .before .before .before .before .before .before .before .before .before .before .before .before .before .before .before .before .before .before .fed .given .1) (f .ensures)) .2 .room, f .kept .1 .1 .1 .1 .1 .1 .1 .1 .1 .1 .0))
+add-requires-2 c κs =
+    let a = c .before .before .before .before .before .before .before .before .before .before .before .before .before .before .before .before .before .before .before .before .before .before .before .before .before .before .before .before .before .before .before .before .before .before .before .before .before .before .before .before .before .before .before .before .before .before .before .before .before .before .before .before .before .before .before .before .before .before .before .before .before .before .before .before .before .args in
+    let b = c .before .before .before .before .before .before .before .before .before .before .before .before .before .before .before .before .before .before .before .before .before .before .before .before .before .before .before .before .before .before .before .before .before .before .before .before .before .before .before .before .before .before .before .before .before .before .before .before .before .before .before .before .before .before .start in
+    let f = c .before .before .before .before .before .before .before .before .before .before .before .before .before .before .before .before .before .before .before .before .before .before .before .before .before .before .before .before .before .before .before .before .before .before .before .before .feed in
+    let at-finish = c .before .before .before .before .before .before .before .before .before .before .before .before .finish in (
+      omega (arith, at-finish .ensures .room, at-finish .kept .1 .1 .1 .1 .1 .1 .1 .0),
+      omega (
+        arith,
+        (subst (λ (x : Fed). Feeds-all (a .formula .now) (memory (a .names .now)
+            (a .path .now) (a .program .now) (a .values .now) (a .regs .now)) (b .result .stage) (a .input .now) (memory (f .last .1 .1 .1 .1 .0) (f .last .1 .1 .1 .1 .1 .0)
+            (f .last .1 .1 .1 .1 .1 .1 .0) (f .last .1 .1 .1 .1 .1 .1 .1 .0) (f .last .1 .1 .1 .1 .1 .1 .1 .1 .0)) (c .before .before .before .before .before .before .before .before .before .before .before .before .before .before .before .before .before .before .before .before .before .before .before .before .before .before .before .before .before .before .before .before .before .before .before .before .before .before .before .before .before .before .before .before .before .before .before .before .before .add .last .0) (c .before .before .before .before .before .before .before .before .before .before .before .before .before .before .before .before .before .before .before .before .before .before .before .before .before .before .before .before .before .before .before .before .before .before .before .before .before .before .before .before .before .before .before .before .before .first .given .0 .0) x
+            (f .last .1 .1 .1 .1 .1 .1 .1 .1 .1 .1 .0)) (c .before .before .before .before .before .before .before .before .before .before .before .before .before .before .before .before .before .before .before .before .fed .given .1) (f .ensures)) .2 .room,
+        f .kept .1 .1 .1 .1 .1 .1 .1 .1 .1 .1 .0,
+      ),
+    )
 
 same-length-10 : tie.Need-same-length-10
 same-length-10 c = search needs
@@ -101,9 +136,27 @@ same-length-16 : tie.Need-same-length-16
 same-length-16 c = c .before .before .add2 .kept .0 ∙ (c .before .before .before .before .before .before .before .before .before .before .before .before .before .before .before .before .before .before .before .before .before .before .before .before .before .before .before .before .before .before .before .before .before .before .before .before .before .before .before .feed .kept .1 .1 .1 .1 .1 .1 .1 .1 .1 .1 .0 ∙ c .before .before .before .before .before .before .before .before .before .before .before .before .before .before .before .before .before .before .before .before .before .before .before .before .before .before .before .before .before .before .before .before .before .before .before .before .before .before .before .before .before .before .before .before .before .before .before .before .before .before .before .before .add .kept .0)
 
 returns-3 : tie.Need-returns-3
-returns-3 c = let a = c .before .before .before .before .before .before .before .before .before .before .before .before .before .before .before .before .before .before .before .before .before .before .before .before .before .before .before .before .before .before .before .before .before .before .before .before .before .before .before .before .before .before .before .before .before .before .before .before .before .before .before .before .before .before .before .before .before .before .before .before .before .before .before .before .before .before .before .before .args in let b = c .before .before .before .before .before .before .before .before .before .before .before .before .before .before .before .before .before .before .before .before .before .before .before .before .before .before .before .before .before .before .before .before .before .before .before .before .before .before .before .before .before .before .before .before .before .before .before .before .before .before .before .before .before .before .before .before .before .start in let f = c .before .before .before .before .before .before .before .before .before .before .before .before .before .before .before .before .before .before .before .before .before .before .before .before .before .before .before .before .before .before .before .before .before .before .before .before .before .before .before .feed in let e = c .before .before .before .before .before .before .before .before .before .before .before .before .before .before .before .finish in listed-by (a .readable) (a .formula .now) (a .input .now) (memory (a .names .now) (a .path .now) (a .program .now) (a .values .now) (a .regs .now)) (b .result .stage) (a .all .now) (b .last .1 .1 .0) (b .result .length) (c .before .before .before .before .before .before .before .before .before .before .before .before .before .before .before .before .before .before .before .before .before .before .before .before .before .before .before .before .before .before .before .before .before .before .before .before .before .before .before .before .before .before .before .before .before .before .before .before .before .before .before .before .add .last .0) (c .before .before .before .before .before .before .before .before .before .before .before .before .before .before .before .before .before .before .before .before .before .before .before .before .before .before .before .before .before .before .before .before .before .before .before .before .before .before .before .before .before .before .before .before .before .before .before .before .before .before .before .before .before .before .before .before .before .before .before .before .before .before .before .before .before .before .before .before .pre .0) (b .ensures .begins (c .before .before .before .before .before .before .before .before .before .before .before .before .before .before .before .before .before .before .before .before .before .before .before .before .before .before .before .before .before .before .before .before .before .before .before .before .before .before .before .before .before .before .before .before .before .before .before .before .before .before .before .before .before .before .before .before .before .before .before .before .before .before .before .before .before .before .before .before .pre .1)) (omega (arith, b .ensures .room, b .kept .1 .1 .0)) (c .before .before .before .before .before .before .before .before .before .before .before .before .before .before .before .before .before .before .before .before .before .before .before .before .before .before .before .before .before .before .before .before .before .before .before .before .before .before .before .before .before .before .before .before .before .before .before .before .first .given .0 .0) (subst (λ (x : Listing). Copies (a .all .now) 0 (b .last .1 .1 .0) (b .result .length) x (c .before .before .before .before .before .before .before .before .before .before .before .before .before .before .before .before .before .before .before .before .before .before .before .before .before .before .before .before .before .before .before .before .before .before .before .before .before .before .before .before .before .before .before .before .before .before .before .before .before .before .before .before .add .last .0)) (c .before .before .before .before .before .before .before .before .before .before .before .before .before .before .before .before .before .before .before .before .before .before .before .before .before .before .before .before .before .before .before .before .before .before .before .before .before .before .before .before .before .before .before .before .before .before .before .before .first .given .1) (c .before .before .before .before .before .before .before .before .before .before .before .before .before .before .before .before .before .before .before .before .before .before .before .before .before .before .before .before .before .before .before .before .before .before .before .before .before .before .before .before .before .before .before .before .before .before .before .before .before .before .before .before .add .ensures)) (c .before .before .before .before .before .before .before .before .before .before .before .before .before .before .before .before .before .before .before .before .before .before .before .before .before .before .before .before .before .before .before .before .before .before .before .before .before .before .before .before .before .before .before .before .before .before .before .before .before .before .before .before .add .kept .0) (memory (f .last .1 .1 .1 .1 .0) (f .last .1 .1 .1 .1 .1 .0) (f .last .1 .1 .1 .1 .1 .1 .0) (f .last .1 .1 .1 .1 .1 .1 .1 .0) (f .last .1 .1 .1 .1 .1 .1 .1 .1 .0)) (c .before .before .before .before .before .before .before .before .before .before .before .before .before .before .before .before .before .before .before .before .before .before .before .fed .given .0 .0) (f .last .1 .1 .1 .1 .1 .1 .1 .1 .1 .1 .0) (c .before .before .before .before .before .before .before .before .before .before .before .before .before .before .before .before .before .before .before .before .before .before .before .fed .given .0 .1 .0)
-    (subst (λ (x : Fed). Feeds-all (a .formula .now) (memory (a .names .now) (a .path .now) (a .program .now) (a .values .now) (a .regs .now)) (b .result .stage) (a .input .now) (memory (f .last .1 .1 .1 .1 .0) (f .last .1 .1 .1 .1 .1 .0) (f .last .1 .1 .1 .1 .1 .1 .0) (f .last .1 .1 .1 .1 .1 .1 .1 .0) (f .last .1 .1 .1 .1 .1 .1 .1 .1 .0)) (c .before .before .before .before .before .before .before .before .before .before .before .before .before .before .before .before .before .before .before .before .before .before .before .before .before .before .before .before .before .before .before .before .before .before .before .before .before .before .before .before .before .before .before .before .before .before .before .before .before .before .before .before .add .last .0) (c .before .before .before .before .before .before .before .before .before .before .before .before .before .before .before .before .before .before .before .before .before .before .before .before .before .before .before .before .before .before .before .before .before .before .before .before .before .before .before .before .before .before .before .before .before .before .before .before .first .given .0 .0) x (f .last .1 .1 .1 .1 .1 .1 .1 .1 .1 .1 .0)) (c .before .before .before .before .before .before .before .before .before .before .before .before .before .before .before .before .before .before .before .before .before .before .before .fed .given .1) (f .ensures))
-    (f .kept .1 .1 .1 .1 .1 .1 .1 .1 .1 .1 .0) (e .last .1 .1 .1 .1 .1 .1 .1 .0) (e .result) (omega (arith, e .ensures .room, e .kept .1 .1 .1 .1 .1 .1 .1 .0)) (e .ensures .ends (omega (arith, f .kept .1 .1 .1 .1 .1 .1 .1 .1 .1 .0, b .kept .1 .1 .0, c .before .before .before .before .before .before .before .before .before .before .before .before .before .before .before .before .before .before .before .before .before .before .before .before .before .before .before .before .before .before .before .before .before .before .before .before .before .before .before .before .before .before .before .before .before .before .before .before .before .before .before .before .before .before .before .before .before .before .before .before .before .before .before .before .before .before .before .before .pre .1))) (c .before .before .add2 .result) (c .before .before .add2 .last .0) (c .before .before .add2 .ensures)
+returns-3 c =
+    let a = c .before .before .before .before .before .before .before .before .before .before .before .before .before .before .before .before .before .before .before .before .before .before .before .before .before .before .before .before .before .before .before .before .before .before .before .before .before .before .before .before .before .before .before .before .before .before .before .before .before .before .before .before .before .before .before .before .before .before .before .before .before .before .before .before .before .before .before .before .args in
+    let b = c .before .before .before .before .before .before .before .before .before .before .before .before .before .before .before .before .before .before .before .before .before .before .before .before .before .before .before .before .before .before .before .before .before .before .before .before .before .before .before .before .before .before .before .before .before .before .before .before .before .before .before .before .before .before .before .before .before .start in
+    let f = c .before .before .before .before .before .before .before .before .before .before .before .before .before .before .before .before .before .before .before .before .before .before .before .before .before .before .before .before .before .before .before .before .before .before .before .before .before .before .before .feed in
+    let e = c .before .before .before .before .before .before .before .before .before .before .before .before .before .before .before .finish in
+    let at-add = c .before .before .before .before .before .before .before .before .before .before .before .before .before .before .before .before .before .before .before .before .before .before .before .before .before .before .before .before .before .before .before .before .before .before .before .before .before .before .before .before .before .before .before .before .before .before .before .before .before .before .before .before .add in
+    let at-pre = c .before .before .before .before .before .before .before .before .before .before .before .before .before .before .before .before .before .before .before .before .before .before .before .before .before .before .before .before .before .before .before .before .before .before .before .before .before .before .before .before .before .before .before .before .before .before .before .before .before .before .before .before .before .before .before .before .before .before .before .before .before .before .before .before .before .before .before .before .pre in
+    let at-first = c .before .before .before .before .before .before .before .before .before .before .before .before .before .before .before .before .before .before .before .before .before .before .before .before .before .before .before .before .before .before .before .before .before .before .before .before .before .before .before .before .before .before .before .before .before .before .before .before .first in
+    let at-fed = c .before .before .before .before .before .before .before .before .before .before .before .before .before .before .before .before .before .before .before .before .before .before .before .fed in
+    let at-add2 = c .before .before .add2 in
+    listed-by (a .readable) (a .formula .now) (a .input .now) (memory (a .names .now) (a .path .now) (a .program .now) (a .values .now) (a .regs .now)) (b .result .stage)
+    (a .all .now) (b .last .1 .1 .0) (b .result .length) (at-add .last .0) (at-pre .0) (b .ensures .begins (at-pre .1)) (omega
+    (arith, b .ensures .room, b .kept .1 .1 .0)) (at-first .given .0 .0) (subst (λ (x : Listing). Copies (a .all .now) 0 (b .last .1 .1 .0) (b .result .length) x
+    (at-add .last .0)) (at-first .given .1) (at-add .ensures)) (at-add .kept .0) (memory (f .last .1 .1 .1 .1 .0) (f .last .1 .1 .1 .1 .1 .0)
+    (f .last .1 .1 .1 .1 .1 .1 .0) (f .last .1 .1 .1 .1 .1 .1 .1 .0) (f .last .1 .1 .1 .1 .1 .1 .1 .1 .0)) (at-fed .given .0 .0)
+    (f .last .1 .1 .1 .1 .1 .1 .1 .1 .1 .1 .0) (at-fed .given .0 .1 .0) (subst (λ (x : Fed). Feeds-all (a .formula .now) (memory (a .names .now) (a .path .now)
+    (a .program .now) (a .values .now) (a .regs .now)) (b .result .stage) (a .input .now) (memory (f .last .1 .1 .1 .1 .0) (f .last .1 .1 .1 .1 .1 .0)
+    (f .last .1 .1 .1 .1 .1 .1 .0) (f .last .1 .1 .1 .1 .1 .1 .1 .0) (f .last .1 .1 .1 .1 .1 .1 .1 .1 .0)) (at-add .last .0) (at-first .given .0 .0) x
+    (f .last .1 .1 .1 .1 .1 .1 .1 .1 .1 .1 .0)) (at-fed .given .1) (f .ensures)) (f .kept .1 .1 .1 .1 .1 .1 .1 .1 .1 .1 .0) (e .last .1 .1 .1 .1 .1 .1 .1 .0) (e .result)
+    (omega (arith, e .ensures .room, e .kept .1 .1 .1 .1 .1 .1 .1 .0)) (e .ensures .ends (omega
+    (arith, f .kept .1 .1 .1 .1 .1 .1 .1 .1 .1 .0, b .kept .1 .1 .0, at-pre .1))) (at-add2 .result) (at-add2 .last .0) (at-add2 .ensures)
 
 pub list-in-spec : {M : Type 1} → statement M
 list-in-spec =
