@@ -28,7 +28,16 @@ same-length-3 : tie.Need-same-length-3
 same-length-3 c = search needs
 
 returns : tie.Need-returns
-returns c = ((c .before .before .before .before .before .before .before .before .before .write-program .ensures .2, c .before .before .before .before .before .before .before .before .before .write-program .ensures .3), turned-away (c .before .before .before .before .before .before .before .before .before .write-program .last .1 .1 .1 .1 .1 .0) (c .before .before .before .before .before .before .before .before .before .before .before .before .before .before .before .before .before .before .before .before .before .before .before .before .args .inputs .now) (c .before .before .before .before .before .before .before .before .before .before .before .before .before .before .before .before .before .before .before .before .before .before .before .before .args .rooms .now) (c .before .before .before .before .before .before .before .before .before .before .before .before .before .before .before .before .before .before .before .before .before .before .before .before .args .budgets .now) (c .before .before .before .before .before .before .before .before .before .before .before .before .before .before .before .before .before .before .before .before .before .before .before .before .args .flags .now) (c .before .before .before .before .before .before .before .before .before .before .before .before .before .before .before .before .before .before .before .before .before .before .before .before .args .values .now) (c .before .before .before .before .before .before .before .before .before .before .before .before .before .before .before .before .before .before .before .before .before .before .before .before .args .regs .now) (c .before .before .before .before .before .before .before .before .before .before .before .before .before .before .before .before .before .before .before .before .before .before .before .before .args .path .now) (c .before .before .before .before .before .before .before .before .before .write-program .last .1 .1 .1 .0) (make (c .before .before .before .before .before .before .before .before .before .before .before .before .before .before .before .before .before .before .before .before .before .before .before .before .args .formula .now) (c .before .before .before .before .before .before .before .before .before .before .before .before .before .before .before .before .before .before .before .before .before .before .before .before .args .names .now) (c .before .before .before .before .before .before .before .before .before .before .before .before .before .before .before .before .before .before .before .before .before .before .before .before .args .wanted) (length (c .before .before .before .before .before .before .before .before .before .before .before .before .before .before .before .before .before .before .before .before .before .before .before .before .args .path .now)) (length (c .before .before .before .before .before .before .before .before .before .before .before .before .before .before .before .before .before .before .before .before .before .before .before .before .args .tree .now)) (length (c .before .before .before .before .before .before .before .before .before .before .before .before .before .before .before .before .before .before .before .before .before .before .before .before .args .program .now))) (c .before .before .before .before .before .before .before .before .before .write-program .result) (c .before .made .given .0 .0) (c .before .before .before .before .before .before .before .before .before .write-program .ensures .0) (c .before .made .given .1) (c .before .before .before .before .before .before .before .before .before .write-program .ensures .1))
+returns c =
+    let args = c .before .before .before .before .before .before .before .before .before .before .before .before .before .before .before .before .before .before .before .before .before .before .before .before .args in
+    let write-program = c .before .before .before .before .before .before .before .before .before .write-program in
+    let made = c .before .made in (
+      (write-program .ensures .2, write-program .ensures .3),
+      turned-away (write-program .last .1 .1 .1 .1 .1 .0) (args .inputs .now) (args .rooms .now) (args .budgets .now) (args .flags .now) (args .values .now)
+          (args .regs .now) (args .path .now) (write-program .last .1 .1 .1 .0)
+          (make (args .formula .now) (args .names .now) (args .wanted) (length (args .path .now)) (length (args .tree .now)) (length (args .program .now)))
+          (write-program .result) (made .given .0 .0) (write-program .ensures .0) (made .given .1) (write-program .ensures .1),
+    )
 
 same-length-4 : tie.Need-same-length-4
 same-length-4 c = search needs
@@ -43,7 +52,19 @@ same-length-7 : tie.Need-same-length-7
 same-length-7 c = search needs
 
 returns-2 : tie.Need-returns-2
-returns-2 c = ((c .before .before .before .before .before .before .before .before .before .before .before .before .before .before .before .before .write-program .ensures .2, c .before .before .before .before .before .before .before .before .before .before .before .before .before .before .before .before .write-program .ensures .3), played (c .before .before .before .before .before .before .before .before .before .before .before .before .before .before .before .before .before .before .before .before .before .before .before .before .before .before .before .before .before .before .before .args .formula .now) (c .before .before .before .before .before .before .before .before .before .before .before .before .before .before .before .before .before .before .before .before .before .before .before .before .before .before .before .before .before .before .before .args .names .now) (λ i. omega (arith, c .before .before .before .before .before .before .before .before .before .before .before .before .before .before .before .before .before .before .before .before .before .before .before .before .before .before .before .before .before .before .shared-slice-known .given i)) (c .before .before .before .before .before .before .before .before .before .before .before .before .before .before .before .before .before .before .before .before .before .before .before .before .before .before .before .before .before .before .before .args .wanted) (length (c .before .before .before .before .before .before .before .before .before .before .before .before .before .before .before .before .before .before .before .before .before .before .before .before .before .before .before .before .before .before .before .args .tree .now)) (c .before .before .before .before .before .before .before .before .before .before .before .before .before .before .before .before .before .before .before .before .before .before .before .before .before .before .before .before .before .before .before .args .program .now) (c .before .before .before .before .before .before .before .before .before .before .before .before .before .before .before .before .write-program .last .1 .1 .1 .1 .1 .0) (c .before .before .before .before .before .before .before .before .before .before .before .before .before .before .before .before .before .before .before .before .before .before .before .before .before .before .before .before .before .before .before .args .inputs .now) (c .before .before .before .before .before .before .before .before .before .before .before .before .before .before .before .before .before .before .before .before .before .before .before .before .before .before .before .before .before .before .before .args .rooms .now) (c .before .before .before .before .before .before .before .before .before .before .before .before .before .before .before .before .before .before .before .before .before .before .before .before .before .before .before .before .before .before .before .args .budgets .now) (c .before .before .before .before .before .before .before .before .before .before .before .before .before .before .before .before .before .before .before .before .before .before .before .before .before .before .before .before .before .before .before .args .flags .now) (c .before .before .before .before .before .before .before .before .before .before .before .before .before .before .before .before .before .before .before .before .before .before .before .before .before .before .before .before .before .before .before .args .values .now) (c .before .before .before .before .before .before .before .before .before .before .before .before .before .before .before .before .before .before .before .before .before .before .before .before .before .before .before .before .before .before .before .args .regs .now) (c .before .before .before .before .play .last .1 .1 .0) (c .before .before .before .before .before .before .before .before .before .before .before .before .before .before .before .before .before .before .before .before .before .before .before .before .before .before .before .before .before .before .before .args .path .now) (c .before .before .before .before .before .before .before .before .before .before .before .before .before .before .before .before .write-program .last .1 .1 .1 .0) (c .before .before .before .before .play .last .1 .1 .1 .0) (c .before .before .before .before .play .result) (c .before .before .before .before .before .before .before .before .before .before .before .before .before .before .before .before .write-program .result) (c .before .before .before .before .before .before .before .before .before .before .before .before .before .before .before .before .write-program .ensures .0) (c .before .before .before .before .before .before .before .before .enum-told .given .1) (c .before .before .before .before .before .before .before .before .before .before .before .before .before .before .before .before .write-program .ensures .1) (c .before .before .before .before .before .before .before .before .before .before .before .before .before .before .before .before .write-program .ensures .3) (c .before .before .before .before .play .ensures .0) (c .before .before .before .before .play .ensures .1 .0) (c .before .before .before .before .play .ensures .1 .1))
+returns-2 c =
+    let args = c .before .before .before .before .before .before .before .before .before .before .before .before .before .before .before .before .before .before .before .before .before .before .before .before .before .before .before .before .before .before .before .args in
+    let shared-slice-known = c .before .before .before .before .before .before .before .before .before .before .before .before .before .before .before .before .before .before .before .before .before .before .before .before .before .before .before .before .before .before .shared-slice-known in
+    let write-program = c .before .before .before .before .before .before .before .before .before .before .before .before .before .before .before .before .write-program in
+    let enum-told = c .before .before .before .before .before .before .before .before .enum-told in
+    let play = c .before .before .before .before .play in (
+      (write-program .ensures .2, write-program .ensures .3),
+      played (args .formula .now) (args .names .now) (λ i. omega (arith, shared-slice-known .given i)) (args .wanted) (length (args .tree .now))
+          (args .program .now) (write-program .last .1 .1 .1 .1 .1 .0) (args .inputs .now) (args .rooms .now) (args .budgets .now) (args .flags .now)
+          (args .values .now) (args .regs .now) (play .last .1 .1 .0) (args .path .now) (write-program .last .1 .1 .1 .0) (play .last .1 .1 .1 .0)
+          (play .result) (write-program .result) (write-program .ensures .0) (enum-told .given .1) (write-program .ensures .1) (write-program .ensures .3)
+          (play .ensures .0) (play .ensures .1 .0) (play .ensures .1 .1),
+    )
 
 pub make-and-play-spec : {M : Type 1} → statement M
 make-and-play-spec =

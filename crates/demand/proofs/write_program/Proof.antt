@@ -35,7 +35,13 @@ same-length-2 : tie.Need-same-length-2
 same-length-2 c = search needs
 
 returns : tie.Need-returns
-returns c = formula-done (c .before .before .before .before .before .before .before .before .before .before .before .before .before .before .before .before .args .formula .now) (c .before .before .before .before .before .before .before .before .before .before .before .before .before .before .before .before .args .names .now) (c .before .before .before .before .before .before .before .before .before .before .before .before .before .before .before .before .args .path .now) (c .before .before .before .before .before .before .compile .last .1 .1 .0) (c .before .before .before .before .before .before .before .before .before .before .before .before .before .before .before .before .args .tree .now) (c .before .before .before .before .before .before .before .before .before .before .before .before .before .before .before .before .args .tree .now) (c .before .before .before .before .before .before .before .before .before .before .before .before .before .before .before .before .args .program .now) (c .before .before .before .before .before .before .compile .last .1 .1 .1 .0) (c .before .before .before .before .before .before .before .before .before .before .before .before .before .before .before .before .args .wanted) (c .before .before .before .before .before .before .compile .result) _ (c .before .before .before .before .before .before .before .before .before .enum-told .given .1) (ap compiling (c .enum-told2 .given .1)) refl (c .before .before .before .before .before .before .compile .ensures .0) (c .before .before .before .before .before .before .compile .ensures .1) (c .before .before .before .before .before .before .compile .ensures .2)
+returns c =
+    let args = c .before .before .before .before .before .before .before .before .before .before .before .before .before .before .before .before .args in
+    let enum-told = c .before .before .before .before .before .before .before .before .before .enum-told in
+    let compile = c .before .before .before .before .before .before .compile in
+    formula-done (args .formula .now) (args .names .now) (args .path .now) (compile .last .1 .1 .0) (args .tree .now) (args .tree .now)
+    (args .program .now) (compile .last .1 .1 .1 .0) (args .wanted) (compile .result) _ (enum-told .given .1) (ap compiling (c .enum-told2 .given .1))
+    refl (compile .ensures .0) (compile .ensures .1) (compile .ensures .2)
 
 same-length-3 : tie.Need-same-length-3
 same-length-3 c = search needs
@@ -44,7 +50,13 @@ same-length-4 : tie.Need-same-length-4
 same-length-4 c = search needs
 
 returns-2 : tie.Need-returns-2
-returns-2 c = formula-done (c .before .before .before .before .before .before .before .before .before .before .before .before .before .before .before .before .before .args .formula .now) (c .before .before .before .before .before .before .before .before .before .before .before .before .before .before .before .before .before .args .names .now) (c .before .before .before .before .before .before .before .before .before .before .before .before .before .before .before .before .before .args .path .now) (c .before .before .before .before .before .before .before .compile .last .1 .1 .0) (c .before .before .before .before .before .before .before .before .before .before .before .before .before .before .before .before .before .args .tree .now) (c .before .before .before .before .before .before .before .before .before .before .before .before .before .before .before .before .before .args .tree .now) (c .before .before .before .before .before .before .before .before .before .before .before .before .before .before .before .before .before .args .program .now) (c .before .before .before .before .before .before .before .compile .last .1 .1 .1 .0) (c .before .before .before .before .before .before .before .before .before .before .before .before .before .before .before .before .before .args .wanted) (c .before .before .before .before .before .before .before .compile .result) _ (c .before .before .before .before .before .before .before .before .before .before .enum-told .given .1) (ap compiling (c .before .a .given .1)) refl (c .before .before .before .before .before .before .before .compile .ensures .0) (c .before .before .before .before .before .before .before .compile .ensures .1) (c .before .before .before .before .before .before .before .compile .ensures .2)
+returns-2 c =
+    let args = c .before .before .before .before .before .before .before .before .before .before .before .before .before .before .before .before .before .args in
+    let enum-told = c .before .before .before .before .before .before .before .before .before .before .enum-told in
+    let compile = c .before .before .before .before .before .before .before .compile in
+    formula-done (args .formula .now) (args .names .now) (args .path .now) (compile .last .1 .1 .0) (args .tree .now) (args .tree .now)
+    (args .program .now) (compile .last .1 .1 .1 .0) (args .wanted) (compile .result) _ (enum-told .given .1) (ap compiling (c .before .a .given .1)) refl
+    (compile .ensures .0) (compile .ensures .1) (compile .ensures .2)
 
 same-length-5 : tie.Need-same-length-5
 same-length-5 c = search needs
@@ -56,7 +68,13 @@ same-length-7 : tie.Need-same-length-7
 same-length-7 c = search needs
 
 returns-3 : tie.Need-returns-3
-returns-3 c = derivative-done (c .before .before .before .before .before .before .before .before .before .before .before .before .before .before .before .before .before .before .before .before .args .formula .now) (c .before .before .before .before .before .before .before .before .before .before .before .before .before .before .before .before .before .before .before .before .args .names .now) (c .before .before .before .before .before .before .before .before .before .before .before .before .before .before .before .before .before .before .before .before .args .path .now) (c .before .before .before .before .before .before .before .before .derive .last .1 .1 .1 .0) (c .before .before .before .before .before .before .before .before .before .before .before .before .before .before .before .before .before .before .before .before .args .tree .now) (c .before .before .before .before .before .before .before .before .derive .last .1 .1 .1 .1 .0) (c .before .before .before .before .before .before .before .before .before .before .before .before .before .before .before .before .before .before .before .before .args .program .now) (c .before .before .before .before .before .before .before .before .derive .last .1 .1 .1 .1 .1 .0) (c .before .before .before .before .before .before .before .before .before .before .before .before .before .before .before .before .before .before .before .before .args .wanted) (c .before .before .before .before .before .before .before .before .before .before .before .before .before .wanted .given .0 .0) (c .before .before .before .before .before .before .before .before .derive .result) _ (c .before .before .before .before .before .before .before .before .before .before .before .before .before .wanted .given .1) (ap differentiating (c .enum-told3 .given .1)) (c .before .before .before .before .before .before .before .before .derive .ensures)
+returns-3 c =
+    let args = c .before .before .before .before .before .before .before .before .before .before .before .before .before .before .before .before .before .before .before .before .args in
+    let wanted = c .before .before .before .before .before .before .before .before .before .before .before .before .before .wanted in
+    let derive = c .before .before .before .before .before .before .before .before .derive in
+    derivative-done (args .formula .now) (args .names .now) (args .path .now) (derive .last .1 .1 .1 .0) (args .tree .now) (derive .last .1 .1 .1 .1 .0)
+    (args .program .now) (derive .last .1 .1 .1 .1 .1 .0) (args .wanted) (wanted .given .0 .0) (derive .result) _ (wanted .given .1)
+    (ap differentiating (c .enum-told3 .given .1)) (derive .ensures)
 
 same-length-8 : tie.Need-same-length-8
 same-length-8 c = search needs
@@ -68,7 +86,13 @@ same-length-10 : tie.Need-same-length-10
 same-length-10 c = search needs
 
 returns-4 : tie.Need-returns-4
-returns-4 c = derivative-done (c .before .before .before .before .before .before .before .before .before .before .before .before .before .before .before .before .before .before .before .before .before .args .formula .now) (c .before .before .before .before .before .before .before .before .before .before .before .before .before .before .before .before .before .before .before .before .before .args .names .now) (c .before .before .before .before .before .before .before .before .before .before .before .before .before .before .before .before .before .before .before .before .before .args .path .now) (c .before .before .before .before .before .before .before .before .before .derive .last .1 .1 .1 .0) (c .before .before .before .before .before .before .before .before .before .before .before .before .before .before .before .before .before .before .before .before .before .args .tree .now) (c .before .before .before .before .before .before .before .before .before .derive .last .1 .1 .1 .1 .0) (c .before .before .before .before .before .before .before .before .before .before .before .before .before .before .before .before .before .before .before .before .before .args .program .now) (c .before .before .before .before .before .before .before .before .before .derive .last .1 .1 .1 .1 .1 .0) (c .before .before .before .before .before .before .before .before .before .before .before .before .before .before .before .before .before .before .before .before .before .args .wanted) (c .before .before .before .before .before .before .before .before .before .before .before .before .before .before .wanted .given .0 .0) (c .before .before .before .before .before .before .before .before .before .derive .result) _ (c .before .before .before .before .before .before .before .before .before .before .before .before .before .before .wanted .given .1) (ap differentiating (c .before .a2 .given .1)) (c .before .before .before .before .before .before .before .before .before .derive .ensures)
+returns-4 c =
+    let args = c .before .before .before .before .before .before .before .before .before .before .before .before .before .before .before .before .before .before .before .before .before .args in
+    let wanted = c .before .before .before .before .before .before .before .before .before .before .before .before .before .before .wanted in
+    let derive = c .before .before .before .before .before .before .before .before .before .derive in
+    derivative-done (args .formula .now) (args .names .now) (args .path .now) (derive .last .1 .1 .1 .0) (args .tree .now) (derive .last .1 .1 .1 .1 .0)
+    (args .program .now) (derive .last .1 .1 .1 .1 .1 .0) (args .wanted) (wanted .given .0 .0) (derive .result) _ (wanted .given .1)
+    (ap differentiating (c .before .a2 .given .1)) (derive .ensures)
 
 pub write-program-spec : {M : Type 1} → statement M
 write-program-spec =

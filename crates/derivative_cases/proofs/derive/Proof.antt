@@ -29,7 +29,13 @@ survey-formula-requires : tie.Need-survey-formula-requires
 survey-formula-requires c κs = room-from (c .before .before .before .before .before .before .before .args .f .now) _ (sym (c .before .before .before .before .is-formula .ensures) ∙ c .before .before .before .if1 .taken) (sym (c .before .before .within-limits .ensures) ∙ c .before .if2 .taken) (omega arith)
 
 with-primal-requires : tie.Need-with-primal-requires
-with-primal-requires c κs = (own-capped (c .before .before .before .before .before .before .before .before .before .before .before .before .args .by .symbol) (c .before .before .before .before .before .before .before .before .before .before .before .before .args .by .state) (tree (c .before .before .before .before .before .before .before .before .before .before .before .before .args .f .now) 0) (c .before .before .before .before .survey-formula .result) (c .before .before .before .before .survey-formula .ensures .0), diff-capped (c .before .before .before .before .before .before .before .before .before .before .before .before .args .by .symbol) (c .before .before .before .before .before .before .before .before .before .before .before .before .args .by .state) (tree (c .before .before .before .before .before .before .before .before .before .before .before .before .args .f .now) 0) (c .before .before .before .before .survey-formula .result) (c .before .before .before .before .survey-formula .ensures .0) (c .before .before .if3 .taken))
+with-primal-requires c κs =
+    let args = c .before .before .before .before .before .before .before .before .before .before .before .before .args in
+    let survey-formula = c .before .before .before .before .survey-formula in
+    let if3 = c .before .before .if3 in (
+      own-capped (args .by .symbol) (args .by .state) (tree (args .f .now) 0) (survey-formula .result) (survey-formula .ensures .0),
+      diff-capped (args .by .symbol) (args .by .state) (tree (args .f .now) 0) (survey-formula .result) (survey-formula .ensures .0) (if3 .taken),
+    )
 
 returns : tie.Need-returns
 returns c = search needs
@@ -44,7 +50,22 @@ slice-aggregate-write-derivative : tie.Need-slice-aggregate-write-derivative
 slice-aggregate-write-derivative c = search needs
 
 write-derivative-requires : tie.Need-write-derivative-requires
-write-derivative-requires c κs = job-of (c .before .before .before .before .before .before .before .before .before .before .before .before .before .before .before .before .before .before .before .before .before .args .by .symbol) (c .before .before .before .before .before .before .before .before .before .before .before .before .before .before .before .before .before .before .before .before .before .args .by .state) (c .before .before .before .before .before .before .before .before .before .before .before .before .before .before .before .before .before .before .before .before .before .args .f .now) _ _ 32 (room-from (c .before .before .before .before .before .before .before .before .before .before .before .before .before .before .before .before .before .before .before .before .before .args .f .now) _ (sym (c .before .before .before .before .before .before .before .before .before .before .before .before .before .before .before .before .before .before .is-formula .ensures) ∙ c .before .before .before .before .before .before .before .before .before .before .before .before .before .before .before .before .before .if1 .taken) (sym (c .before .before .before .before .before .before .before .before .before .before .before .before .before .before .before .before .within-limits .ensures) ∙ c .before .before .before .before .before .before .before .before .before .before .before .before .before .before .before .if2 .taken) (omega arith)) (c .before .before .before .before .before .before .before .before .before .before .before .before .before .survey-formula .kept .1 .1 .1 .0) (c .before .before .before .before .before .before .before .before .before .before .before .before .before .survey-formula .ensures .1) (c .before .before .before .before .before .before .before .before .before .before .before .before .before .survey-formula .result) (c .before .before .before .before .before .before .before .before .before .before .before .before .before .survey-formula .ensures .0) (c .before .before .before .before .before .before .before .before .before .before .before .if3 .taken) (c .before .before .before .before .before .before .before .before .with-primal .result .nodes) (c .before .before .before .before .before .before .before .before .before .before .before .before .before .before .before .before .before .before .before .before .before .args .out .now) (ap (λ (x : Attributes). x .nodes) (c .before .before .before .before .before .before .before .before .with-primal .ensures)) (omega (arith, c .before .before .before .before .before .before .if4 .left)) (omega (arith, c .before .before .if6 .left))
+write-derivative-requires c κs =
+    let args = c .before .before .before .before .before .before .before .before .before .before .before .before .before .before .before .before .before .before .before .before .before .args in
+    let is-formula = c .before .before .before .before .before .before .before .before .before .before .before .before .before .before .before .before .before .before .is-formula in
+    let if1 = c .before .before .before .before .before .before .before .before .before .before .before .before .before .before .before .before .before .if1 in
+    let within-limits = c .before .before .before .before .before .before .before .before .before .before .before .before .before .before .before .before .within-limits in
+    let if2 = c .before .before .before .before .before .before .before .before .before .before .before .before .before .before .before .if2 in
+    let survey-formula = c .before .before .before .before .before .before .before .before .before .before .before .before .before .survey-formula in
+    let if3 = c .before .before .before .before .before .before .before .before .before .before .before .if3 in
+    let with-primal = c .before .before .before .before .before .before .before .before .with-primal in
+    let if4 = c .before .before .before .before .before .before .if4 in
+    let if6 = c .before .before .if6 in
+    job-of (args .by .symbol) (args .by .state) (args .f .now) _ _ 32
+    (room-from (args .f .now) _ (sym (is-formula .ensures) ∙ if1 .taken) (sym (within-limits .ensures) ∙ if2 .taken) (omega arith))
+    (survey-formula .kept .1 .1 .1 .0) (survey-formula .ensures .1) (survey-formula .result) (survey-formula .ensures .0) (if3 .taken)
+    (with-primal .result .nodes) (args .out .now) (ap (λ (x : Attributes). x .nodes) (with-primal .ensures)) (omega (arith, if4 .left))
+    (omega (arith, if6 .left))
 
 same-length : tie.Need-same-length
 same-length c = search needs

@@ -58,7 +58,10 @@ go-on-requires : tie.Need-go-on-requires Inv-loop μ-loop
 go-on-requires c κs = search needs
 
 add-i : tie.Need-add-i Inv-loop μ-loop
-add-i c = omega (arith, c .before .before .before .before .before .before .before .before .before .before .before .before .before .loop-test .taken, c .before .before .before .before .before .before .before .before .before .before .before .before .before .before .before .before .before .before .before .before .before .before .before .before .before .before .before .before .before .before .before .before .before .before .before .before .good .1 .1 .1 .1 .1 .0 .0)
+add-i c =
+    let good = c .before .before .before .before .before .before .before .before .before .before .before .before .before .before .before .before .before .before .before .before .before .before .before .before .before .before .before .before .before .before .before .before .before .before .before .before .good in
+    let loop-test = c .before .before .before .before .before .before .before .before .before .before .before .before .before .loop-test in
+    omega (arith, loop-test .taken, good .1 .1 .1 .1 .1 .0 .0)
 
 loop-less : tie.Need-loop-less Inv-loop μ-loop
 loop-less c = omega arith
@@ -67,11 +70,16 @@ loop-again : tie.Need-loop-again Inv-loop μ-loop
 loop-again c =
     let a = c .before .before .before .before .before .before .before .before .before .before .before .before .before .before .before .before .before .before .before .before .before .before .before .before .before .before .before .before .before .before .before .before .before .before .before .before .args in
     let l = c .before .before .before .before .before .before .before .before .before .before .before .before .before .before .loop in
+    let loop-test = c .before .before .before .before .before .before .before .before .before .before .before .before .before .loop-test in
+    let room-at2 = c .before .before .before .before .before .before .before .before .before .before .before .before .room-at2 in
+    let budget-at2 = c .before .before .before .before .before .before .before .before .before .before .before .budget-at2 in
+    let supplied-at = c .before .before .before .before .before .before .before .before .before .before .supplied-at in
     let r = c .before .before .before .before .before .before .go-on in
     inv-step (a .inputs .now) (a .program .now) (length (a .path .now)) (a .rooms .now) (a .budgets .now) (a .flags .now) (a .values .now) _ _ _ _
     (l .number) (l .cells) (l .registers) (l .path) (l .i) (l .inv) (r .result) (r .last .1 .1 .1 .1 .1 .0) (r .last .1 .1 .0) (r .last .1 .1 .1 .0)
-    (c .before .before .before .before .before .before .before .before .before .before .before .before .room-at2 .result) (c .before .before .before .before .before .before .before .before .before .before .before .budget-at2 .result) (supplied-of (c .before .before .before .before .before .before .before .before .before .before .supplied-at .result)) (c .before .before .before .before .before .before .before .before .before .before .before .before .room-at2 .ensures .0) (omega (arith, c .before .before .before .before .before .before .before .before .before .before .before .before .room-at2 .ensures .1, l .inv .path-long))
-    (c .before .before .before .before .before .before .before .before .before .before .before .before .before .loop-test .taken) (c .before .before .before .before .before .before .before .before .before .before .before .budget-at2 .ensures) (c .before .before .before .before .before .before .before .before .before .before .supplied-at .ensures) (r .ensures .0) (r .ensures .1) (r .kept .1 .1 .1 .1 .1 .0) (r .kept .1 .1 .0) (r .kept .1 .1 .1 .0)
+    (room-at2 .result) (budget-at2 .result) (supplied-of (supplied-at .result)) (room-at2 .ensures .0)
+    (omega (arith, room-at2 .ensures .1, l .inv .path-long)) (loop-test .taken) (budget-at2 .ensures) (supplied-at .ensures) (r .ensures .0)
+    (r .ensures .1) (r .kept .1 .1 .1 .1 .1 .0) (r .kept .1 .1 .0) (r .kept .1 .1 .1 .0)
 
 same-length : tie.Need-same-length Inv-loop μ-loop
 same-length c = c .before .loop .inv .registers-long ∙ c .before .before .before .before .before .before .before .before .vebrostin-run .kept .1 .1 .0
@@ -85,11 +93,13 @@ same-length-3 c = c .before .loop .inv .cells-long ∙ c .before .before .before
 returns : tie.Need-returns Inv-loop μ-loop
 returns c =
     let a = c .before .before .before .before .before .before .before .before .before .before .before .before .before .before .before .before .before .before .before .before .before .before .before .args in
-    let l = c .before .loop in
+    let room-at = c .before .before .before .before .before .before .before .before .before .before .before .before .before .room-at in
+    let budget-at = c .before .before .before .before .before .before .before .before .before .before .before .before .budget-at in
     let r = c .before .before .before .before .before .before .before .before .vebrostin-run in
+    let l = c .before .loop in
     inv-end (a .inputs .now) (a .program .now) (length (a .path .now)) (a .rooms .now) (a .budgets .now) (a .flags .now) (a .values .now)
-    (a .registers .now) (r .last .1 .1 .0) (l .registers) (a .cells .now) (r .last .1 .1 .1 .1 .1 .0) (l .cells) (a .path .now) (r .last .1 .1 .1 .0) (l .path)
-    (r .result) (l .number) (c .before .before .before .before .before .before .before .before .before .before .before .before .before .room-at .result) (c .before .before .before .before .before .before .before .before .before .before .before .before .budget-at .result) (l .i) refl (c .before .before .before .before .before .before .before .before .before .before .before .before .before .room-at .ensures .0) (c .before .before .before .before .before .before .before .before .before .before .before .before .before .room-at .ensures .1) (c .before .before .before .before .before .before .before .before .before .before .before .before .budget-at .ensures)
+    (a .registers .now) (r .last .1 .1 .0) (l .registers) (a .cells .now) (r .last .1 .1 .1 .1 .1 .0) (l .cells) (a .path .now) (r .last .1 .1 .1 .0)
+    (l .path) (r .result) (l .number) (room-at .result) (budget-at .result) (l .i) refl (room-at .ensures .0) (room-at .ensures .1) (budget-at .ensures)
     (r .ensures .0) (r .ensures .1) (r .kept .1 .1 .1 .1 .1 .0) (c .loop-test .left) (l .inv)
 
 pub call-all-spec : {M : Type 1} → statement M

@@ -23,7 +23,11 @@ operation-requires : tie.Need-operation-requires
 operation-requires c κs = search needs
 
 returns : tie.Need-returns
-returns c = operation-is (c .before .before .before .before .before .before .args .inputs .now) (c .before .before .before .before .before .before .args .p .now) (c .before .before .before .before .before .before .args .n) (kept-values (c .before .before .before .before .before .before .args .kept)) (c .before .before .before .before .before .before .args .regs .now) (c .before .before .byte .result) (c .before .before .byte .ensures) (c .before .if1 .taken) (c .operation .ensures)
+returns c =
+    let args = c .before .before .before .before .before .before .args in
+    let byte = c .before .before .byte in
+    operation-is (args .inputs .now) (args .p .now) (args .n) (kept-values (args .kept)) (args .regs .now) (byte .result) (byte .ensures)
+    (c .before .if1 .taken) (c .operation .ensures)
 
 add-long : tie.Need-add-long
 add-long c = search needs
@@ -69,7 +73,14 @@ word-requires-4 c κs = search needs
 
 returns-2 : tie.Need-returns-2
 unfolding ofBits
-returns-2 c = taken-is (c .before .before .before .before .before .before .before .before .before .before .args .inputs .now) (c .before .before .before .before .before .before .before .before .before .before .args .p .now) (c .before .before .before .before .before .before .before .before .before .before .args .n) (kept-values (c .before .before .before .before .before .before .before .before .before .before .args .kept)) (c .before .before .before .before .before .before .before .before .before .before .args .regs .now) (c .before .before .before .before .before .before .byte .result) (c .before .before .before .word3 .result) (c .word4 .result) (c .before .before .value-at3 .result) (c .before .before .before .before .before .before .byte .ensures) (c .before .before .before .before .match .keys4) (c .before .before .before .word3 .ensures .0) (c .before .before .value-at3 .ensures) (c .before .if2 .taken) (c .word4 .ensures .0)
+returns-2 c =
+    let args = c .before .before .before .before .before .before .before .before .before .before .args in
+    let byte = c .before .before .before .before .before .before .byte in
+    let match = c .before .before .before .before .match in
+    let word3 = c .before .before .before .word3 in
+    let value-at3 = c .before .before .value-at3 in
+    taken-is (args .inputs .now) (args .p .now) (args .n) (kept-values (args .kept)) (args .regs .now) (byte .result) (word3 .result) (c .word4 .result)
+    (value-at3 .result) (byte .ensures) (match .keys4) (word3 .ensures .0) (value-at3 .ensures) (c .before .if2 .taken) (c .word4 .ensures .0)
 
 add-t25 : tie.Need-add-t25
 add-t25 c = search needs
@@ -81,20 +92,49 @@ word-requires-5 : tie.Need-word-requires-5
 word-requires-5 c κs = search needs
 
 returns-3 : tie.Need-returns-3
-returns-3 c = constant-is (c .before .before .before .before .before .before .before .before .args .inputs .now) (c .before .before .before .before .before .before .before .before .args .p .now) (c .before .before .before .before .before .before .before .before .args .n) (kept-values (c .before .before .before .before .before .before .before .before .args .kept)) (c .before .before .before .before .before .before .before .before .args .regs .now) (c .before .before .before .before .byte .result) (c .before .long .result) (c .of-bits .result) (c .before .before .before .before .byte .ensures) (c .before .before .match .keys1) (c .before .long .ensures) (c .of-bits .ensures)
+returns-3 c =
+    let args = c .before .before .before .before .before .before .before .before .args in
+    let byte = c .before .before .before .before .byte in
+    let match = c .before .before .match in
+    let long = c .before .long in
+    constant-is (args .inputs .now) (args .p .now) (args .n) (kept-values (args .kept)) (args .regs .now) (byte .result) (long .result)
+    (c .of-bits .result) (byte .ensures) (match .keys1) (long .ensures) (c .of-bits .ensures)
 
 returns-4 : tie.Need-returns-4
-returns-4 c = load-is (c .before .before .before .before .before .before .before .before .args .inputs .now) (c .before .before .before .before .before .before .before .before .args .p .now) (c .before .before .before .before .before .before .before .before .args .n) (kept-values (c .before .before .before .before .before .before .before .before .args .kept)) (c .before .before .before .before .before .before .before .before .args .regs .now) (c .before .before .before .before .byte .result) (c .before .word .result) (c .value-at .result) (c .before .before .before .before .byte .ensures) (c .before .before .match .keys2) (c .before .word .ensures .0) (c .value-at .ensures)
+returns-4 c =
+    let args = c .before .before .before .before .before .before .before .before .args in
+    let byte = c .before .before .before .before .byte in
+    let match = c .before .before .match in
+    let word = c .before .word in
+    load-is (args .inputs .now) (args .p .now) (args .n) (kept-values (args .kept)) (args .regs .now) (byte .result) (word .result) (c .value-at .result)
+    (byte .ensures) (match .keys2) (word .ensures .0) (c .value-at .ensures)
 
 returns-5 : tie.Need-returns-5
-returns-5 c = copy-is (c .before .before .before .before .before .before .before .before .args .inputs .now) (c .before .before .before .before .before .before .before .before .args .p .now) (c .before .before .before .before .before .before .before .before .args .n) (kept-values (c .before .before .before .before .before .before .before .before .args .kept)) (c .before .before .before .before .before .before .before .before .args .regs .now) (c .before .before .before .before .byte .result) (c .before .word2 .result) (c .value-at2 .result) (c .before .before .before .before .byte .ensures) (c .before .before .match .keys3) (c .before .word2 .ensures .0) (c .value-at2 .ensures)
+returns-5 c =
+    let args = c .before .before .before .before .before .before .before .before .args in
+    let byte = c .before .before .before .before .byte in
+    let match = c .before .before .match in
+    let word2 = c .before .word2 in
+    copy-is (args .inputs .now) (args .p .now) (args .n) (kept-values (args .kept)) (args .regs .now) (byte .result) (word2 .result)
+    (c .value-at2 .result) (byte .ensures) (match .keys3) (word2 .ensures .0) (c .value-at2 .ensures)
 
 returns-6 : tie.Need-returns-6
 unfolding ofBits
-returns-6 c = passed-is (c .before .before .before .before .before .before .before .before .before .args .inputs .now) (c .before .before .before .before .before .before .before .before .before .args .p .now) (c .before .before .before .before .before .before .before .before .before .args .n) (kept-values (c .before .before .before .before .before .before .before .before .before .args .kept)) (c .before .before .before .before .before .before .before .before .before .args .regs .now) (c .before .before .before .before .before .byte .result) (c .before .before .word3 .result) _ (c .before .value-at3 .result) (c .before .before .before .before .before .byte .ensures) (c .before .before .before .match .keys4) (c .before .before .word3 .ensures .0) (c .before .value-at3 .ensures) (c .if2 .left) (add-one (c .before .before .before .before .before .before .before .before .before .args .n))
+returns-6 c =
+    let args = c .before .before .before .before .before .before .before .before .before .args in
+    let byte = c .before .before .before .before .before .byte in
+    let match = c .before .before .before .match in
+    let word3 = c .before .before .word3 in
+    let value-at3 = c .before .value-at3 in
+    passed-is (args .inputs .now) (args .p .now) (args .n) (kept-values (args .kept)) (args .regs .now) (byte .result) (word3 .result) _
+    (value-at3 .result) (byte .ensures) (match .keys4) (word3 .ensures .0) (value-at3 .ensures) (c .if2 .left) (add-one (args .n))
 
 returns-7 : tie.Need-returns-7
-returns-7 c = jump-is (c .before .before .before .before .before .before .before .args .inputs .now) (c .before .before .before .before .before .before .before .args .p .now) (c .before .before .before .before .before .before .before .args .n) (kept-values (c .before .before .before .before .before .before .before .args .kept)) (c .before .before .before .before .before .before .before .args .regs .now) (c .before .before .before .byte .result) (c .word5 .result) (c .before .before .before .byte .ensures) (omega arith) (c .word5 .ensures .0)
+returns-7 c =
+    let args = c .before .before .before .before .before .before .before .args in
+    let byte = c .before .before .before .byte in
+    jump-is (args .inputs .now) (args .p .now) (args .n) (kept-values (args .kept)) (args .regs .now) (byte .result) (c .word5 .result) (byte .ensures)
+    (omega arith) (c .word5 .ensures .0)
 
 pub effect-at-spec : {M : Type 1} → statement M
 effect-at-spec =

@@ -50,7 +50,18 @@ value-at-requires : tie.Need-value-at-requires Inv-loop μ-loop
 value-at-requires c κs = search needs
 
 loop-holds : tie.Need-loop-holds Inv-loop μ-loop
-loop-holds c = (omega arith, extreme-start (c .before .before .before .before .before .before .before .args .most) (c .before .before .before .before .before .before .before .args .p .now) (c .before .before .before .before .before .before .before .args .count) (c .before .before .before .before .before .before .before .args .a) (c .before .before .before .before .before .before .before .args .regs .now) (c .value-at .result) (c .before .word3 .result) (c .before .before .before .before .if1 .left) (c .value-at .ensures) (c .before .word3 .ensures .0 ∙ ap (word-at (c .before .before .before .before .before .before .before .args .p .now)) (list-place (c .before .before .before .before .before .before .before .args .p .now) (c .before .before .before .word .result) (c .before .before .word2 .result) (c .before .before .before .before .before .before .before .args .a) (c .before .before .before .word .ensures .0) (c .before .before .word2 .ensures .0))))
+loop-holds c =
+    let args = c .before .before .before .before .before .before .before .args in
+    let if1 = c .before .before .before .before .if1 in
+    let word = c .before .before .before .word in
+    let word2 = c .before .before .word2 in
+    let word3 = c .before .word3 in (
+      omega arith,
+      extreme-start (args .most) (args .p .now) (args .count) (args .a) (args .regs .now) (c .value-at .result) (word3 .result) (if1 .left)
+          (c .value-at .ensures)
+          (word3 .ensures .0
+          ∙ ap (word-at (args .p .now)) (list-place (args .p .now) (word .result) (word2 .result) (args .a) (word .ensures .0) (word2 .ensures .0))),
+    )
 
 add-word-2 : tie.Need-add-word-2 Inv-loop μ-loop
 add-word-2 c = omega arith
@@ -77,15 +88,28 @@ loop-less : tie.Need-loop-less Inv-loop μ-loop
 loop-less c = omega arith
 
 loop-again : tie.Need-loop-again Inv-loop μ-loop
-loop-again c = (
-  omega arith,
-  c .before .before .before .before .loop .inv .1 ∙ extreme-step (c .before .before .before .before .before .before .before .before .before .before .before .before .args .most) (c .before .before .before .before .before .before .before .before .before .before .before .before .args .p .now) (c .before .before .before .before .before .before .before .before .before .before .before .before .args .count) (c .before .before .before .before .before .before .before .before .before .before .before .before .args .a) (c .before .before .before .before .before .before .before .before .before .before .before .before .args .regs .now) (c .before .before .before .before .loop .extreme) (c .before .value-at2 .result) (c .before .before .before .before .loop .i) (c .before .before .word4 .result) (c .before .before .before .loop-test .taken) (c .before .value-at2 .ensures)
-      (c .before .before .word4 .ensures .0 ∙ ap (word-at (c .before .before .before .before .before .before .before .before .before .before .before .before .args .p .now)) (list-place (c .before .before .before .before .before .before .before .before .before .before .before .before .args .p .now) (c .before .before .before .before .before .before .before .before .word .result) (c .before .before .before .before .before .before .before .word2 .result) (c .before .before .before .before .before .before .before .before .before .before .before .before .args .a + c .before .before .before .before .loop .i) (c .before .before .before .before .before .before .before .before .word .ensures .0) (c .before .before .before .before .before .before .before .word2 .ensures .0)))
-      ∙ ap (λ x. extreme-left (c .before .before .before .before .before .before .before .before .before .before .before .before .args .most) (c .before .before .before .before .before .before .before .before .before .before .before .before .args .p .now) (c .before .before .before .before .before .before .before .before .before .before .before .before .args .count) (c .before .before .before .before .before .before .before .before .before .before .before .before .args .a) (c .before .before .before .before .before .before .before .before .before .before .before .before .args .regs .now) x (c .before .before .before .before .loop .i + 1)) (sym (c .hold .ensures)),
-)
+loop-again c =
+    let args = c .before .before .before .before .before .before .before .before .before .before .before .before .args in
+    let word = c .before .before .before .before .before .before .before .before .word in
+    let word2 = c .before .before .before .before .before .before .before .word2 in
+    let loop = c .before .before .before .before .loop in
+    let loop-test = c .before .before .before .loop-test in
+    let word4 = c .before .before .word4 in
+    let value-at2 = c .before .value-at2 in (
+      omega arith,
+      loop .inv .1
+          ∙ extreme-step (args .most) (args .p .now) (args .count) (args .a) (args .regs .now) (loop .extreme) (value-at2 .result) (loop .i) (word4 .result)
+          (loop-test .taken) (value-at2 .ensures)
+          (word4 .ensures .0
+          ∙ ap (word-at (args .p .now)) (list-place (args .p .now) (word .result) (word2 .result) (args .a + loop .i) (word .ensures .0) (word2 .ensures .0)))
+          ∙ ap (λ x. extreme-left (args .most) (args .p .now) (args .count) (args .a) (args .regs .now) x (loop .i + 1)) (sym (c .hold .ensures)),
+    )
 
 returns-2 : tie.Need-returns-2 Inv-loop μ-loop
-returns-2 c = sym (c .before .loop .inv .1 ∙ extreme-end (c .before .before .before .before .before .before .before .before .before .args .most) (c .before .before .before .before .before .before .before .before .before .args .p .now) (c .before .before .before .before .before .before .before .before .before .args .count) (c .before .before .before .before .before .before .before .before .before .args .a) (c .before .before .before .before .before .before .before .before .before .args .regs .now) (c .before .loop .extreme) (c .before .loop .i) (c .loop-test .left))
+returns-2 c =
+    let args = c .before .before .before .before .before .before .before .before .before .args in
+    let loop = c .before .loop in
+    sym (loop .inv .1 ∙ extreme-end (args .most) (args .p .now) (args .count) (args .a) (args .regs .now) (loop .extreme) (loop .i) (c .loop-test .left))
 
 pub extremum-spec : {M : Type 1} → statement M
 extremum-spec =

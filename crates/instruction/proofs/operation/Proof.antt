@@ -22,7 +22,13 @@ extremum-requires : tie.Need-extremum-requires
 extremum-requires c κs = search needs
 
 returns : tie.Need-returns
-returns c = least-effect (c .before .before .before .before .before .before .args .p .now) (c .before .before .before .before .before .before .args .at) (kept-values (c .before .before .before .before .before .before .args .kept)) (c .before .before .before .before .before .before .args .regs .now) (c .before .before .before .before .before .before .args .op) (c .before .half .result) (c .before .before .before .word .result) (c .extremum .result) (c .before .before .if1 .taken) (c .before .half .ensures .0) (c .before .before .before .word .ensures .0) (c .extremum .ensures)
+returns c =
+    let args = c .before .before .before .before .before .before .args in
+    let word = c .before .before .before .word in
+    let if1 = c .before .before .if1 in
+    let half = c .before .half in
+    least-effect (args .p .now) (args .at) (kept-values (args .kept)) (args .regs .now) (args .op) (half .result) (word .result) (c .extremum .result)
+    (if1 .taken) (half .ensures .0) (word .ensures .0) (c .extremum .ensures)
 
 add-half-2 : tie.Need-add-half-2
 add-half-2 c = search needs
@@ -34,7 +40,13 @@ extremum-requires-2 : tie.Need-extremum-requires-2
 extremum-requires-2 c κs = search needs
 
 returns-2 : tie.Need-returns-2
-returns-2 c = most-effect (c .before .before .before .before .before .before .before .args .p .now) (c .before .before .before .before .before .before .before .args .at) (kept-values (c .before .before .before .before .before .before .before .args .kept)) (c .before .before .before .before .before .before .before .args .regs .now) (c .before .before .before .before .before .before .before .args .op) (c .before .half2 .result) (c .before .before .before .before .word .result) (c .extremum2 .result) (c .before .before .if2 .taken) (c .before .half2 .ensures .0) (c .before .before .before .before .word .ensures .0) (c .extremum2 .ensures)
+returns-2 c =
+    let args = c .before .before .before .before .before .before .before .args in
+    let word = c .before .before .before .before .word in
+    let if2 = c .before .before .if2 in
+    let half2 = c .before .half2 in
+    most-effect (args .p .now) (args .at) (kept-values (args .kept)) (args .regs .now) (args .op) (half2 .result) (word .result) (c .extremum2 .result)
+    (if2 .taken) (half2 .ensures .0) (word .ensures .0) (c .extremum2 .ensures)
 
 value-at-requires : tie.Need-value-at-requires
 value-at-requires c κs = search needs
@@ -53,14 +65,28 @@ work-requires c κs = search needs
 
 returns-3 : tie.Need-returns-3
 unfolding ofBits
-returns-3 c = pair-effect (c .before .before .before .before .before .before .before .before .before .before .args .p .now) (c .before .before .before .before .before .before .before .before .before .before .args .at) (kept-values (c .before .before .before .before .before .before .before .before .before .before .args .kept)) (c .before .before .before .before .before .before .before .before .before .before .args .regs .now) (c .before .before .before .before .before .before .before .before .before .before .args .op) (c .before .before .before .before .before .before .before .word .result) (c .before .before .before .word2 .result) (c .before .before .before .before .value-at .result) (c .before .before .value-at2 .result) (omega arith) (c .before .if3 .taken) (c .before .before .before .before .before .before .before .word .ensures .0) (c .before .before .before .before .value-at .ensures) (c .before .before .before .word2 .ensures .0) (c .before .before .value-at2 .ensures) (c .work .ensures)
+returns-3 c =
+    let args = c .before .before .before .before .before .before .before .before .before .before .args in
+    let word = c .before .before .before .before .before .before .before .word in
+    let value-at = c .before .before .before .before .value-at in
+    let word2 = c .before .before .before .word2 in
+    let value-at2 = c .before .before .value-at2 in
+    pair-effect (args .p .now) (args .at) (kept-values (args .kept)) (args .regs .now) (args .op) (word .result) (word2 .result) (value-at .result)
+    (value-at2 .result) (omega arith) (c .before .if3 .taken) (word .ensures .0) (value-at .ensures) (word2 .ensures .0) (value-at2 .ensures)
+    (c .work .ensures)
 
 work-requires-2 : tie.Need-work-requires-2
 work-requires-2 c κs = search needs
 
 returns-4 : tie.Need-returns-4
 unfolding ofBits
-returns-4 c = single-effect (c .before .before .before .before .before .before .before .before .before .before .before .args .p .now) (c .before .before .before .before .before .before .before .before .before .before .before .args .at) (kept-values (c .before .before .before .before .before .before .before .before .before .before .before .args .kept)) (c .before .before .before .before .before .before .before .before .before .before .before .args .regs .now) (c .before .before .before .before .before .before .before .before .before .before .before .args .op) (c .before .before .before .before .before .before .before .before .word .result) (c .before .before .before .before .before .value-at .result) (c .before .before .if3 .left) (c .before .if4 .taken) (c .before .before .before .before .before .before .before .before .word .ensures .0) (c .before .before .before .before .before .value-at .ensures) (c .work2 .ensures)
+returns-4 c =
+    let args = c .before .before .before .before .before .before .before .before .before .before .before .args in
+    let word = c .before .before .before .before .before .before .before .before .word in
+    let value-at = c .before .before .before .before .before .value-at in
+    let if3 = c .before .before .if3 in
+    single-effect (args .p .now) (args .at) (kept-values (args .kept)) (args .regs .now) (args .op) (word .result) (value-at .result) (if3 .left)
+    (c .before .if4 .taken) (word .ensures .0) (value-at .ensures) (c .work2 .ensures)
 
 add-word-3 : tie.Need-add-word-3
 add-word-3 c = search needs
@@ -75,10 +101,23 @@ work-requires-3 : tie.Need-work-requires-3
 work-requires-3 c κs = search needs
 
 returns-5 : tie.Need-returns-5
-returns-5 c = triple-effect (c .before .before .before .before .before .before .before .before .before .before .before .before .before .before .args .p .now) (c .before .before .before .before .before .before .before .before .before .before .before .before .before .before .args .at) (kept-values (c .before .before .before .before .before .before .before .before .before .before .before .before .before .before .args .kept)) (c .before .before .before .before .before .before .before .before .before .before .before .before .before .before .args .regs .now) (c .before .before .before .before .before .before .before .before .before .before .before .before .before .before .args .op) (c .before .before .before .before .before .before .before .before .before .before .before .word .result) (c .before .before .before .before .before .before .before .word2 .result) (c .before .before .word3 .result) (c .before .before .before .before .before .before .before .before .value-at .result) (c .before .before .before .before .before .before .value-at2 .result) (c .before .value-at3 .result) (omega arith) (c .before .before .before .if5 .taken) (c .before .before .before .before .before .before .before .before .before .before .before .word .ensures .0) (c .before .before .before .before .before .before .before .before .value-at .ensures) (c .before .before .before .before .before .before .before .word2 .ensures .0) (c .before .before .before .before .before .before .value-at2 .ensures) (c .before .before .word3 .ensures .0) (c .before .value-at3 .ensures) (c .work3 .ensures)
+returns-5 c =
+    let args = c .before .before .before .before .before .before .before .before .before .before .before .before .before .before .args in
+    let word = c .before .before .before .before .before .before .before .before .before .before .before .word in
+    let value-at = c .before .before .before .before .before .before .before .before .value-at in
+    let word2 = c .before .before .before .before .before .before .before .word2 in
+    let value-at2 = c .before .before .before .before .before .before .value-at2 in
+    let if5 = c .before .before .before .if5 in
+    let word3 = c .before .before .word3 in
+    let value-at3 = c .before .value-at3 in
+    triple-effect (args .p .now) (args .at) (kept-values (args .kept)) (args .regs .now) (args .op) (word .result) (word2 .result) (word3 .result)
+    (value-at .result) (value-at2 .result) (value-at3 .result) (omega arith) (if5 .taken) (word .ensures .0) (value-at .ensures) (word2 .ensures .0)
+    (value-at2 .ensures) (word3 .ensures .0) (value-at3 .ensures) (c .work3 .ensures)
 
 returns-6 : tie.Need-returns-6
-returns-6 c = no-effect (c .before .before .before .before .before .before .before .before .before .before .before .args .p .now) (c .before .before .before .before .before .before .before .before .before .before .before .args .at) (kept-values (c .before .before .before .before .before .before .before .before .before .before .before .args .kept)) (c .before .before .before .before .before .before .before .before .before .before .before .args .regs .now) (c .before .before .before .before .before .before .before .before .before .before .before .args .op) (c .if5 .left)
+returns-6 c =
+    let args = c .before .before .before .before .before .before .before .before .before .before .before .args in
+    no-effect (args .p .now) (args .at) (kept-values (args .kept)) (args .regs .now) (args .op) (c .if5 .left)
 
 pub operation-spec : {M : Type 1} → statement M
 operation-spec =

@@ -45,7 +45,17 @@ same-length c = search needs
 
 returns : tie.Need-returns
 unfolding destination-at
-returns c = value-done (c .before .before .before .before .before .before .before .before .before .before .before .before .before .before .before .before .before .before .args .inputs .now) (c .before .before .before .before .before .before .before .before .before .before .before .before .before .before .before .before .before .before .args .p .now) (c .before .before .before .before .before .before .before .before .before .before .before .before .before .before .before .before .before .before .args .n) (kept-values (c .before .before .before .before .before .before .before .before .before .before .before .before .before .before .before .before .before .before .args .kept)) (c .before .before .before .before .before .before .before .before .before .before .before .before .before .before .before .before .before .before .args .regs .now) (c .before .before .before .before .before .before .before .before .before .before .before .before .before .effect-at .ensures) (c .before .before .before .before .before .before .before .before .w .given .0 .0) (c .before .before .before .word .result) (c .before .before .before .before .before .before .before .before .before .before .before .e2 .given .1 ∙ ap Work (c .before .before .before .before .before .before .before .before .w .given .1)) (sym (c .before .before .before .before .before .before .is-finite .ensures) ∙ c .before .before .before .before .before .if1 .taken) (c .before .before .before .word .ensures .0) (c .before .before .store .ensures)
+returns c =
+    let args = c .before .before .before .before .before .before .before .before .before .before .before .before .before .before .before .before .before .before .args in
+    let effect-at = c .before .before .before .before .before .before .before .before .before .before .before .before .before .effect-at in
+    let e2 = c .before .before .before .before .before .before .before .before .before .before .before .e2 in
+    let w = c .before .before .before .before .before .before .before .before .w in
+    let is-finite = c .before .before .before .before .before .before .is-finite in
+    let if1 = c .before .before .before .before .before .if1 in
+    let word = c .before .before .before .word in
+    let store = c .before .before .store in
+    value-done (args .inputs .now) (args .p .now) (args .n) (kept-values (args .kept)) (args .regs .now) (effect-at .ensures) (w .given .0 .0)
+    (word .result) (e2 .given .1 ∙ ap Work (w .given .1)) (sym (is-finite .ensures) ∙ if1 .taken) (word .ensures .0) (store .ensures)
 
 add-word-2 : tie.Need-add-word-2
 add-word-2 c = search needs
@@ -72,33 +82,62 @@ same-length-2 : tie.Need-same-length-2
 same-length-2 c = search needs
 
 returns-2 : tie.Need-returns-2
-returns-2 c = jump-done (c .before .before .before .before .before .before .before .before .args .inputs .now) (c .before .before .before .before .before .before .before .before .args .p .now) (c .before .before .before .before .before .before .before .before .args .n) (kept-values (c .before .before .before .before .before .before .before .before .args .kept)) (c .before .before .before .before .before .before .before .before .args .regs .now) (c .before .before .before .effect-at .ensures) (c .before .e .given .0 .0) (c .before .e .given .1)
+returns-2 c =
+    let args = c .before .before .before .before .before .before .before .before .args in
+    let effect-at = c .before .before .before .effect-at in
+    let e = c .before .e in
+    jump-done (args .inputs .now) (args .p .now) (args .n) (kept-values (args .kept)) (args .regs .now) (effect-at .ensures) (e .given .0 .0)
+    (e .given .1)
 
 same-length-3 : tie.Need-same-length-3
 same-length-3 c = search needs
 
 returns-3 : tie.Need-returns-3
 unfolding path-number
-returns-3 c = infinite-done (c .before .before .before .before .before .before .before .before .before .before .before .before .before .before .args .inputs .now) (c .before .before .before .before .before .before .before .before .before .before .before .before .before .before .args .p .now) (c .before .before .before .before .before .before .before .before .before .before .before .before .before .before .args .n) (kept-values (c .before .before .before .before .before .before .before .before .before .before .before .before .before .before .args .kept)) (c .before .before .before .before .before .before .before .before .before .before .before .before .before .before .args .regs .now) (c .before .before .before .before .before .before .before .before .before .effect-at .ensures) (c .before .before .before .before .w .given .0 .0) (c .word2 .result) (c .before .before .before .before .before .before .before .e2 .given .1 ∙ ap Work (c .before .before .before .before .w .given .1)) (sym (c .before .before .is-finite .ensures) ∙ c .before .if1 .left) (c .word2 .ensures .0)
+returns-3 c =
+    let args = c .before .before .before .before .before .before .before .before .before .before .before .before .before .before .args in
+    let effect-at = c .before .before .before .before .before .before .before .before .before .effect-at in
+    let e2 = c .before .before .before .before .before .before .before .e2 in
+    let w = c .before .before .before .before .w in
+    let is-finite = c .before .before .is-finite in
+    infinite-done (args .inputs .now) (args .p .now) (args .n) (kept-values (args .kept)) (args .regs .now) (effect-at .ensures) (w .given .0 .0)
+    (c .word2 .result) (e2 .given .1 ∙ ap Work (w .given .1)) (sym (is-finite .ensures) ∙ c .before .if1 .left) (c .word2 .ensures .0)
 
 same-length-4 : tie.Need-same-length-4
 same-length-4 c = search needs
 
 returns-4 : tie.Need-returns-4
 unfolding path-number
-returns-4 c = undefined-done (c .before .before .before .before .before .before .before .before .before .before .before .args .inputs .now) (c .before .before .before .before .before .before .before .before .before .before .before .args .p .now) (c .before .before .before .before .before .before .before .before .before .before .before .args .n) (kept-values (c .before .before .before .before .before .before .before .before .before .before .before .args .kept)) (c .before .before .before .before .before .before .before .before .before .before .before .args .regs .now) (c .before .before .before .before .before .before .effect-at .ensures) (c .word3 .result) (c .before .before .before .before .e2 .given .1 ∙ ap Work (c .before .enum-told .given .1)) (c .word3 .ensures .0)
+returns-4 c =
+    let args = c .before .before .before .before .before .before .before .before .before .before .before .args in
+    let effect-at = c .before .before .before .before .before .before .effect-at in
+    let e2 = c .before .before .before .before .e2 in
+    undefined-done (args .inputs .now) (args .p .now) (args .n) (kept-values (args .kept)) (args .regs .now) (effect-at .ensures) (c .word3 .result)
+    (e2 .given .1 ∙ ap Work (c .before .enum-told .given .1)) (c .word3 .ensures .0)
 
 same-length-5 : tie.Need-same-length-5
 same-length-5 c = search needs
 
 returns-5 : tie.Need-returns-5
-returns-5 c = elementary-done (c .before .before .before .before .before .before .before .before .before .before .before .args .inputs .now) (c .before .before .before .before .before .before .before .before .before .before .before .args .p .now) (c .before .before .before .before .before .before .before .before .before .before .before .args .n) (kept-values (c .before .before .before .before .before .before .before .before .before .before .before .args .kept)) (c .before .before .before .before .before .before .before .before .before .before .before .args .regs .now) (c .before .before .before .before .before .before .effect-at .ensures) (c .before .w2 .given .0 .0) (c .before .w2 .given .0 .1 .0) (c .before .before .before .before .e2 .given .1 ∙ ap Work (c .before .w2 .given .1))
+returns-5 c =
+    let args = c .before .before .before .before .before .before .before .before .before .before .before .args in
+    let effect-at = c .before .before .before .before .before .before .effect-at in
+    let e2 = c .before .before .before .before .e2 in
+    let w2 = c .before .w2 in
+    elementary-done (args .inputs .now) (args .p .now) (args .n) (kept-values (args .kept)) (args .regs .now) (effect-at .ensures) (w2 .given .0 .0)
+    (w2 .given .0 .1 .0) (e2 .given .1 ∙ ap Work (w2 .given .1))
 
 same-length-6 : tie.Need-same-length-6
 same-length-6 c = search needs
 
 returns-6 : tie.Need-returns-6
-returns-6 c = power-done (c .before .before .before .before .before .before .before .before .before .before .before .args .inputs .now) (c .before .before .before .before .before .before .before .before .before .before .before .args .p .now) (c .before .before .before .before .before .before .before .before .before .before .before .args .n) (kept-values (c .before .before .before .before .before .before .before .before .before .before .before .args .kept)) (c .before .before .before .before .before .before .before .before .before .before .before .args .regs .now) (c .before .before .before .before .before .before .effect-at .ensures) (c .before .w3 .given .0 .0) (c .before .w3 .given .0 .1 .0) (c .before .before .before .before .e2 .given .1 ∙ ap Work (c .before .w3 .given .1))
+returns-6 c =
+    let args = c .before .before .before .before .before .before .before .before .before .before .before .args in
+    let effect-at = c .before .before .before .before .before .before .effect-at in
+    let e2 = c .before .before .before .before .e2 in
+    let w3 = c .before .w3 in
+    power-done (args .inputs .now) (args .p .now) (args .n) (kept-values (args .kept)) (args .regs .now) (effect-at .ensures) (w3 .given .0 .0)
+    (w3 .given .0 .1 .0) (e2 .given .1 ∙ ap Work (w3 .given .1))
 
 pub step-spec : {M : Type 1} → statement M
 step-spec =

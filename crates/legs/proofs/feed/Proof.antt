@@ -59,7 +59,10 @@ same-length-5 : tie.Need-same-length-5 Inv-loop μ-loop
 same-length-5 c = c .before .before .before .before .before .before .before .before .before .before .before .before .before .before .before .advance .kept .1 .1 .1 .1 .1 .1 .1 .0 ∙ c .before .before .before .before .before .before .before .before .before .before .before .before .before .before .before .before .before .before .before .before .before .before .before .before .loop .inv .1 .same .regs
 
 same-length-6 : tie.Need-same-length-6 Inv-loop μ-loop
-same-length-6 c = c .before .before .before .before .before .before .before .before .before .before .before .before .before .before .before .advance .kept .1 .1 .1 .1 .1 .1 .1 .1 .0 ∙ c .before .before .before .before .before .before .before .before .before .before .before .before .before .before .before .before .before .before .before .before .before .before .before .before .loop .inv .1 .same .output
+same-length-6 c =
+    let loop = c .before .before .before .before .before .before .before .before .before .before .before .before .before .before .before .before .before .before .before .before .before .before .before .before .loop in
+    let advance = c .before .before .before .before .before .before .before .before .before .before .before .before .before .before .before .advance in
+    advance .kept .1 .1 .1 .1 .1 .1 .1 .1 .0 ∙ loop .inv .1 .same .output
 
 returns : tie.Need-returns Inv-loop μ-loop
 returns c = tt

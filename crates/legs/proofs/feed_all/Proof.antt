@@ -109,25 +109,46 @@ enum-known-fed : tie.Need-enum-known-fed Inv-loop μ-loop
 enum-known-fed c = search needs
 
 same-length-15 : tie.Need-same-length-15 Inv-loop μ-loop
-same-length-15 c = c .before .before .before .before .before .before .before .before .before .before .before .before .before .before .before .before .before .before .before .before .before .before .before .before .before .before .before .read-once .kept .1 .0 ∙ c .before .before .before .before .before .before .before .before .before .before .before .before .before .before .before .before .before .before .before .before .before .before .before .before .before .before .before .before .before .before .loop .inv .same-block
+same-length-15 c =
+    let loop = c .before .before .before .before .before .before .before .before .before .before .before .before .before .before .before .before .before .before .before .before .before .before .before .before .before .before .before .before .before .before .loop in
+    let read-once = c .before .before .before .before .before .before .before .before .before .before .before .before .before .before .before .before .before .before .before .before .before .before .before .before .before .before .before .read-once in
+    read-once .kept .1 .0 ∙ loop .inv .same-block
 
 same-length-16 : tie.Need-same-length-16 Inv-loop μ-loop
-same-length-16 c = c .before .before .before .before .before .before .before .before .before .before .before .before .before .feed .kept .1 .1 .1 .0 ∙ c .before .before .before .before .before .before .before .before .before .before .before .before .before .before .before .before .before .before .before .before .before .before .before .before .before .before .before .before .before .before .loop .inv .same .names
+same-length-16 c =
+    let loop = c .before .before .before .before .before .before .before .before .before .before .before .before .before .before .before .before .before .before .before .before .before .before .before .before .before .before .before .before .before .before .loop in
+    let feed = c .before .before .before .before .before .before .before .before .before .before .before .before .before .feed in
+    feed .kept .1 .1 .1 .0 ∙ loop .inv .same .names
 
 same-length-17 : tie.Need-same-length-17 Inv-loop μ-loop
-same-length-17 c = c .before .before .before .before .before .before .before .before .before .before .before .before .before .feed .kept .1 .1 .1 .1 .0 ∙ c .before .before .before .before .before .before .before .before .before .before .before .before .before .before .before .before .before .before .before .before .before .before .before .before .before .before .before .before .before .before .loop .inv .same .path
+same-length-17 c =
+    let loop = c .before .before .before .before .before .before .before .before .before .before .before .before .before .before .before .before .before .before .before .before .before .before .before .before .before .before .before .before .before .before .loop in
+    let feed = c .before .before .before .before .before .before .before .before .before .before .before .before .before .feed in
+    feed .kept .1 .1 .1 .1 .0 ∙ loop .inv .same .path
 
 same-length-18 : tie.Need-same-length-18 Inv-loop μ-loop
-same-length-18 c = c .before .before .before .before .before .before .before .before .before .before .before .before .before .feed .kept .1 .1 .1 .1 .1 .0 ∙ c .before .before .before .before .before .before .before .before .before .before .before .before .before .before .before .before .before .before .before .before .before .before .before .before .before .before .before .before .before .before .loop .inv .same .program
+same-length-18 c =
+    let loop = c .before .before .before .before .before .before .before .before .before .before .before .before .before .before .before .before .before .before .before .before .before .before .before .before .before .before .before .before .before .before .loop in
+    let feed = c .before .before .before .before .before .before .before .before .before .before .before .before .before .feed in
+    feed .kept .1 .1 .1 .1 .1 .0 ∙ loop .inv .same .program
 
 same-length-19 : tie.Need-same-length-19 Inv-loop μ-loop
-same-length-19 c = c .before .before .before .before .before .before .before .before .before .before .before .before .before .feed .kept .1 .1 .1 .1 .1 .1 .0 ∙ c .before .before .before .before .before .before .before .before .before .before .before .before .before .before .before .before .before .before .before .before .before .before .before .before .before .before .before .before .before .before .loop .inv .same .values
+same-length-19 c =
+    let loop = c .before .before .before .before .before .before .before .before .before .before .before .before .before .before .before .before .before .before .before .before .before .before .before .before .before .before .before .before .before .before .loop in
+    let feed = c .before .before .before .before .before .before .before .before .before .before .before .before .before .feed in
+    feed .kept .1 .1 .1 .1 .1 .1 .0 ∙ loop .inv .same .values
 
 same-length-20 : tie.Need-same-length-20 Inv-loop μ-loop
-same-length-20 c = c .before .before .before .before .before .before .before .before .before .before .before .before .before .feed .kept .1 .1 .1 .1 .1 .1 .1 .0 ∙ c .before .before .before .before .before .before .before .before .before .before .before .before .before .before .before .before .before .before .before .before .before .before .before .before .before .before .before .before .before .before .loop .inv .same .regs
+same-length-20 c =
+    let loop = c .before .before .before .before .before .before .before .before .before .before .before .before .before .before .before .before .before .before .before .before .before .before .before .before .before .before .before .before .before .before .loop in
+    let feed = c .before .before .before .before .before .before .before .before .before .before .before .before .before .feed in
+    feed .kept .1 .1 .1 .1 .1 .1 .1 .0 ∙ loop .inv .same .regs
 
 same-length-21 : tie.Need-same-length-21 Inv-loop μ-loop
-same-length-21 c = c .before .before .before .before .before .before .before .before .before .before .before .before .before .feed .kept .1 .1 .1 .1 .1 .1 .1 .1 .0 ∙ c .before .before .before .before .before .before .before .before .before .before .before .before .before .before .before .before .before .before .before .before .before .before .before .before .before .before .before .before .before .before .loop .inv .same .output
+same-length-21 c =
+    let loop = c .before .before .before .before .before .before .before .before .before .before .before .before .before .before .before .before .before .before .before .before .before .before .before .before .before .before .before .before .before .before .loop in
+    let feed = c .before .before .before .before .before .before .before .before .before .before .before .before .before .feed in
+    feed .kept .1 .1 .1 .1 .1 .1 .1 .1 .0 ∙ loop .inv .same .output
 
 returns-3 : tie.Need-returns-3 Inv-loop μ-loop
 returns-3 c = tt
@@ -141,18 +162,30 @@ loop-less c = omega (arith, c .before .before .before .before .before .before .b
 loop-again : tie.Need-loop-again Inv-loop μ-loop
 loop-again c =
     let a = c .before .before .before .before .before .before .before .before .before .before .before .before .before .before .before .before .before .before .before .before .before .before .before .before .before .before .before .before .before .before .before .before .before .before .before .before .before .before .before .before .before .args in
+    let pre = c .before .before .before .before .before .before .before .before .before .before .before .before .before .before .before .before .before .before .before .before .before .before .before .before .before .before .before .before .before .before .before .before .before .before .before .before .before .before .before .before .before .pre in
     let l = c .before .before .before .before .before .before .before .before .before .before .before .before .before .before .before .before .before .before .before .before .before .before .before .before .before .before .before .before .before .before .before .before .loop in
+    let loop-test = c .before .before .before .before .before .before .before .before .before .before .before .before .before .before .before .before .before .before .before .before .before .before .before .before .before .before .before .before .before .before .before .loop-test in
     let b = c .before .before .before .before .before .before .before .before .before .before .before .before .before .before .before .before .before .before .before .before .before .before .before .before .before .before .before .before .before .read-once in
-    let f = c .before .before .before .before .before .before .before .before .before .before .before .before .before .before .before .feed in
     let at-read = c .before .before .before .before .before .before .before .before .before .before .before .before .before .before .before .before .before .before .before .before .before .before .before .before .before .read in
+    let f = c .before .before .before .before .before .before .before .before .before .before .before .before .before .before .before .feed in
     let at-fed = c .before .fed in
-    all-step (a .formula .now) (a .block .now) (memory (a .names .now) (a .path .now) (a .program .now) (a .values .now) (a .regs .now)) (a .start) (a .out .now) (c .before .before .before .before .before .before .before .before .before .before .before .before .before .before .before .before .before .before .before .before .before .before .before .before .before .before .before .before .before .before .before .before .before .before .before .before .before .before .before .before .before .pre)
-    (l .block) (memory (l .names) (l .path) (l .program) (l .values) (l .regs)) (l .stage) (l .out) (l .turns) (l .inv) (b .last .1 .0) (at-read .given .0 .0)
-    (let w = subst (λ (f : File). Within f (length (l .block))) (at-read .given .1) (c .before .before .before .before .before .before .before .before .before .before .before .before .before .before .before .before .before .before .before .before .before .before .before .before .before .before .before .before .before .read-once .ensures) in omega (arith, l .inv .same-block)) (c .before .before .before .before .before .before .before .before .before .before .before .before .before .before .before .before .before .before .before .before .before .before .before .before .before .before .before .before .before .before .before .loop-test .taken)
+    all-step (a .formula .now) (a .block .now) (memory (a .names .now) (a .path .now) (a .program .now) (a .values .now) (a .regs .now)) (a .start)
+    (a .out .now) pre (l .block) (memory (l .names) (l .path) (l .program) (l .values) (l .regs)) (l .stage) (l .out) (l .turns) (l .inv) (b .last .1 .0)
+    (at-read .given .0 .0)
+    (let w = subst (λ (f : File). Within f (length (l .block))) (at-read .given .1) (b .ensures) in omega (arith, l .inv .same-block)) (loop-test .taken)
     (memory (f .last .1 .1 .1 .0) (f .last .1 .1 .1 .1 .0) (f .last .1 .1 .1 .1 .1 .0) (f .last .1 .1 .1 .1 .1 .1 .0) (f .last .1 .1 .1 .1 .1 .1 .1 .0))
     (at-fed .given .0 .0) (f .last .1 .1 .1 .1 .1 .1 .1 .1 .0) (b .kept .1 .0)
-    (record { names = f .kept .1 .1 .1 .0; path = f .kept .1 .1 .1 .1 .0; program = f .kept .1 .1 .1 .1 .1 .0; values = f .kept .1 .1 .1 .1 .1 .1 .0; regs = f .kept .1 .1 .1 .1 .1 .1 .1 .0; output = f .kept .1 .1 .1 .1 .1 .1 .1 .1 .0 })
-    (subst (λ (x : Fed). Feeds (a .formula .now) (memory (l .names) (l .path) (l .program) (l .values) (l .regs)) (l .stage) (take (at-read .given .0 .0) (b .last .1 .0))
+    (record {
+      names = f .kept .1 .1 .1 .0;
+      path = f .kept .1 .1 .1 .1 .0;
+      program = f .kept .1 .1 .1 .1 .1 .0;
+      values = f .kept .1 .1 .1 .1 .1 .1 .0;
+      regs = f .kept .1 .1 .1 .1 .1 .1 .1 .0;
+      output = f .kept .1 .1 .1 .1 .1 .1 .1 .1 .0;
+    })
+    (subst
+    (λ (x : Fed).
+    Feeds (a .formula .now) (memory (l .names) (l .path) (l .program) (l .values) (l .regs)) (l .stage) (take (at-read .given .0 .0) (b .last .1 .0))
     (memory (f .last .1 .1 .1 .0) (f .last .1 .1 .1 .1 .0) (f .last .1 .1 .1 .1 .1 .0) (f .last .1 .1 .1 .1 .1 .1 .0) (f .last .1 .1 .1 .1 .1 .1 .1 .0)) x)
     (at-fed .given .1) (f .ensures))
 

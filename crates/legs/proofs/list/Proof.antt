@@ -103,7 +103,11 @@ same-length-14 : tie.Need-same-length-14
 same-length-14 c = search needs
 
 same-length-15 : tie.Need-same-length-15
-same-length-15 c = c .before .before .before .before .before .before .before .before .before .before .before .before .finish .kept .1 .1 .1 .1 .1 .1 .1 .0 ∙ (c .before .before .before .before .before .before .before .before .before .before .before .before .before .before .before .before .before .before .before .before .before .before .before .before .before .before .before .before .before .before .before .before .before .before .before .before .feed-all .kept .1 .1 .1 .1 .1 .1 .1 .1 .0 ∙ c .before .before .before .before .before .before .before .before .before .before .before .before .before .before .before .before .before .before .before .before .before .before .before .before .before .before .before .before .before .before .before .before .before .before .before .before .before .before .before .before .before .before .before .before .before .before .before .before .before .start .kept .1 .1 .0)
+same-length-15 c =
+    let start = c .before .before .before .before .before .before .before .before .before .before .before .before .before .before .before .before .before .before .before .before .before .before .before .before .before .before .before .before .before .before .before .before .before .before .before .before .before .before .before .before .before .before .before .before .before .before .before .before .before .start in
+    let feed-all = c .before .before .before .before .before .before .before .before .before .before .before .before .before .before .before .before .before .before .before .before .before .before .before .before .before .before .before .before .before .before .before .before .before .before .before .before .feed-all in
+    let finish = c .before .before .before .before .before .before .before .before .before .before .before .before .finish in
+    finish .kept .1 .1 .1 .1 .1 .1 .1 .0 ∙ (feed-all .kept .1 .1 .1 .1 .1 .1 .1 .1 .0 ∙ start .kept .1 .1 .0)
 
 returns-3 : tie.Need-returns-3
 returns-3 c = search needs

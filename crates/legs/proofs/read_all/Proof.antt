@@ -50,13 +50,52 @@ returns-2 : tie.Need-returns-2 Inv-loop μ-loop
 returns-2 c = omega (arith, c .before .before .before .before .before .before .before .before .before .loop .inv .0, c .before .before .before .before .before .before .before .before .before .loop .inv .1)
 
 add-at : tie.Need-add-at Inv-loop μ-loop
-add-at c = record { fits = omega (arith, (subst (λ (f : File). Within f (length (midOf (c .before .before .before .before .before .before .before .before .before .loop .at) (length (c .before .before .before .before .before .before .before .before .before .loop .buf) - c .before .before .before .before .before .before .before .before .before .loop .at) (c .before .before .before .before .before .before .before .before .before .loop .buf)))) (c .before .before .read .given .1) (c .before .before .before .before .before .before .read-once .ensures)), mid-long (c .before .before .before .before .before .before .before .before .before .loop .at) (c .before .before .before .before .before .before .before .before .before .loop .buf), c .before .before .before .before .before .before .before .before .before .loop .inv .0, c .before .before .before .before .before .before .before .before .before .loop .inv .1, c .before .before .before .before .before .before .before .before .before .before .before .good) }
+add-at c =
+    let good = c .before .before .before .before .before .before .before .before .before .before .before .good in
+    let loop = c .before .before .before .before .before .before .before .before .before .loop in
+    let read-once = c .before .before .before .before .before .before .read-once in
+    let read = c .before .before .read in
+    record {
+      fits =
+          omega (
+            arith,
+            (subst (λ (f : File). Within f (length (midOf (loop .at) (length (loop .buf) - loop .at) (loop .buf)))) (read .given .1) (read-once .ensures)),
+            mid-long (loop .at) (loop .buf),
+            loop .inv .0,
+            loop .inv .1,
+            good,
+          );
+    }
 
 loop-less : tie.Need-loop-less Inv-loop μ-loop
-loop-less c = omega (arith, c .if1 .left, (subst (λ (f : File). Within f (length (midOf (c .before .before .before .before .before .before .before .before .before .loop .at) (length (c .before .before .before .before .before .before .before .before .before .loop .buf) - c .before .before .before .before .before .before .before .before .before .loop .at) (c .before .before .before .before .before .before .before .before .before .loop .buf)))) (c .before .before .read .given .1) (c .before .before .before .before .before .before .read-once .ensures)), mid-long (c .before .before .before .before .before .before .before .before .before .loop .at) (c .before .before .before .before .before .before .before .before .before .loop .buf), c .before .before .before .before .before .before .before .before .before .loop .inv .0, c .before .before .before .before .before .before .before .before .before .loop .inv .1)
+loop-less c =
+    let loop = c .before .before .before .before .before .before .before .before .before .loop in
+    let read-once = c .before .before .before .before .before .before .read-once in
+    let read = c .before .before .read in
+    omega (
+      arith,
+      c .if1 .left,
+      (subst (λ (f : File). Within f (length (midOf (loop .at) (length (loop .buf) - loop .at) (loop .buf)))) (read .given .1) (read-once .ensures)),
+      mid-long (loop .at) (loop .buf),
+      loop .inv .0,
+      loop .inv .1,
+    )
 
 loop-again : tie.Need-loop-again Inv-loop μ-loop
-loop-again c = let e = same-len-mid (c .before .before .before .before .before .before .before .before .before .loop .at) (length (c .before .before .before .before .before .before .before .before .before .loop .buf) - c .before .before .before .before .before .before .before .before .before .loop .at) (c .before .before .before .before .before .before .before .before .before .loop .buf) (c .before .before .before .before .before .before .read-once .last .1 .0) (c .before .before .before .before .before .before .read-once .kept .1 .0) in (omega (arith, subst (λ (f : File). Within f (length (midOf (c .before .before .before .before .before .before .before .before .before .loop .at) (length (c .before .before .before .before .before .before .before .before .before .loop .buf) - c .before .before .before .before .before .before .before .before .before .loop .at) (c .before .before .before .before .before .before .before .before .before .loop .buf)))) (c .before .before .read .given .1) (c .before .before .before .before .before .before .read-once .ensures), mid-long (c .before .before .before .before .before .before .before .before .before .loop .at) (c .before .before .before .before .before .before .before .before .before .loop .buf), c .before .before .before .before .before .before .before .before .before .loop .inv .0, e), e ∙ c .before .before .before .before .before .before .before .before .before .loop .inv .1)
+loop-again c =
+    let loop = c .before .before .before .before .before .before .before .before .before .loop in
+    let read-once = c .before .before .before .before .before .before .read-once in
+    let read = c .before .before .read in
+    let e = same-len-mid (loop .at) (length (loop .buf) - loop .at) (loop .buf) (read-once .last .1 .0) (read-once .kept .1 .0) in (
+      omega (
+        arith,
+        subst (λ (f : File). Within f (length (midOf (loop .at) (length (loop .buf) - loop .at) (loop .buf)))) (read .given .1) (read-once .ensures),
+        mid-long (loop .at) (loop .buf),
+        loop .inv .0,
+        e,
+      ),
+      e ∙ loop .inv .1,
+    )
 
 same-length-3 : tie.Need-same-length-3 Inv-loop μ-loop
 same-length-3 c = c .before .loop .inv .1

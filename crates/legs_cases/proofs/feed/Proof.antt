@@ -48,22 +48,40 @@ enum-told : tie.Need-enum-told Inv-loop μ-loop
 enum-told c = search needs
 
 same-length : tie.Need-same-length Inv-loop μ-loop
-same-length c = c .before .before .before .before .before .before .before .before .before .before .before .before .before .before .before .before .before .before .before .advance .kept .1 .1 .1 .0 ∙ c .before .before .before .before .before .before .before .before .before .before .before .before .before .before .before .before .before .before .before .before .before .before .before .before .before .before .before .before .before .loop .inv .fed .same .names
+same-length c =
+    let loop = c .before .before .before .before .before .before .before .before .before .before .before .before .before .before .before .before .before .before .before .before .before .before .before .before .before .before .before .before .before .loop in
+    let advance = c .before .before .before .before .before .before .before .before .before .before .before .before .before .before .before .before .before .before .before .advance in
+    advance .kept .1 .1 .1 .0 ∙ loop .inv .fed .same .names
 
 same-length-2 : tie.Need-same-length-2 Inv-loop μ-loop
-same-length-2 c = c .before .before .before .before .before .before .before .before .before .before .before .before .before .before .before .before .before .before .before .advance .kept .1 .1 .1 .1 .0 ∙ c .before .before .before .before .before .before .before .before .before .before .before .before .before .before .before .before .before .before .before .before .before .before .before .before .before .before .before .before .before .loop .inv .fed .same .path
+same-length-2 c =
+    let loop = c .before .before .before .before .before .before .before .before .before .before .before .before .before .before .before .before .before .before .before .before .before .before .before .before .before .before .before .before .before .loop in
+    let advance = c .before .before .before .before .before .before .before .before .before .before .before .before .before .before .before .before .before .before .before .advance in
+    advance .kept .1 .1 .1 .1 .0 ∙ loop .inv .fed .same .path
 
 same-length-3 : tie.Need-same-length-3 Inv-loop μ-loop
-same-length-3 c = c .before .before .before .before .before .before .before .before .before .before .before .before .before .before .before .before .before .before .before .advance .kept .1 .1 .1 .1 .1 .0 ∙ c .before .before .before .before .before .before .before .before .before .before .before .before .before .before .before .before .before .before .before .before .before .before .before .before .before .before .before .before .before .loop .inv .fed .same .program
+same-length-3 c =
+    let loop = c .before .before .before .before .before .before .before .before .before .before .before .before .before .before .before .before .before .before .before .before .before .before .before .before .before .before .before .before .before .loop in
+    let advance = c .before .before .before .before .before .before .before .before .before .before .before .before .before .before .before .before .before .before .before .advance in
+    advance .kept .1 .1 .1 .1 .1 .0 ∙ loop .inv .fed .same .program
 
 same-length-4 : tie.Need-same-length-4 Inv-loop μ-loop
-same-length-4 c = c .before .before .before .before .before .before .before .before .before .before .before .before .before .before .before .before .before .before .before .advance .kept .1 .1 .1 .1 .1 .1 .0 ∙ c .before .before .before .before .before .before .before .before .before .before .before .before .before .before .before .before .before .before .before .before .before .before .before .before .before .before .before .before .before .loop .inv .fed .same .values
+same-length-4 c =
+    let loop = c .before .before .before .before .before .before .before .before .before .before .before .before .before .before .before .before .before .before .before .before .before .before .before .before .before .before .before .before .before .loop in
+    let advance = c .before .before .before .before .before .before .before .before .before .before .before .before .before .before .before .before .before .before .before .advance in
+    advance .kept .1 .1 .1 .1 .1 .1 .0 ∙ loop .inv .fed .same .values
 
 same-length-5 : tie.Need-same-length-5 Inv-loop μ-loop
-same-length-5 c = c .before .before .before .before .before .before .before .before .before .before .before .before .before .before .before .before .before .before .before .advance .kept .1 .1 .1 .1 .1 .1 .1 .0 ∙ c .before .before .before .before .before .before .before .before .before .before .before .before .before .before .before .before .before .before .before .before .before .before .before .before .before .before .before .before .before .loop .inv .fed .same .regs
+same-length-5 c =
+    let loop = c .before .before .before .before .before .before .before .before .before .before .before .before .before .before .before .before .before .before .before .before .before .before .before .before .before .before .before .before .before .loop in
+    let advance = c .before .before .before .before .before .before .before .before .before .before .before .before .before .before .before .before .before .before .before .advance in
+    advance .kept .1 .1 .1 .1 .1 .1 .1 .0 ∙ loop .inv .fed .same .regs
 
 same-length-6 : tie.Need-same-length-6 Inv-loop μ-loop
-same-length-6 c = c .before .before .before .before .before .before .before .before .before .before .before .before .before .before .before .before .before .before .before .advance .kept .1 .1 .1 .1 .1 .1 .1 .1 .0 ∙ c .before .before .before .before .before .before .before .before .before .before .before .before .before .before .before .before .before .before .before .before .before .before .before .before .before .before .before .before .before .loop .inv .fed .same .output
+same-length-6 c =
+    let loop = c .before .before .before .before .before .before .before .before .before .before .before .before .before .before .before .before .before .before .before .before .before .before .before .before .before .before .before .before .before .loop in
+    let advance = c .before .before .before .before .before .before .before .before .before .before .before .before .before .before .before .before .before .before .before .advance in
+    advance .kept .1 .1 .1 .1 .1 .1 .1 .1 .0 ∙ loop .inv .fed .same .output
 
 same-length-7 : tie.Need-same-length-7 Inv-loop μ-loop
 same-length-7 c = c .before .before .before .before .add .kept .0 ∙ c .before .before .before .before .before .before .before .before .before .before .before .before .before .before .before .before .before .before .before .before .before .before .before .before .before .before .before .before .before .loop .inv .whole
@@ -85,33 +103,39 @@ returns c =
 
 add-at : tie.Need-add-at Inv-loop μ-loop
 add-at c =
-    let r = c .before .before .before .before .before .before .before .before .before .before .before .before .before .before .before .before .before .before .before .before .before .advance in
+    let args = c .before .before .before .before .before .before .before .before .before .before .before .before .before .before .before .before .before .before .before .before .before .before .before .before .before .before .before .before .before .before .before .before .before .before .before .before .before .before .before .before .before .args in
+    let good = c .before .before .before .before .before .before .before .before .before .before .before .before .before .before .before .before .before .before .before .before .before .before .before .before .before .before .before .before .before .before .before .before .before .before .before .before .before .before .before .before .before .good in
+    let loop = c .before .before .before .before .before .before .before .before .before .before .before .before .before .before .before .before .before .before .before .before .before .before .before .before .before .before .before .before .before .before .before .loop in
     let at-block-end = c .before .before .before .before .before .before .before .before .before .before .before .before .before .before .before .before .before .before .before .before .before .before .before .before .before .before .before .before .before .block-end in
+    let r = c .before .before .before .before .before .before .before .before .before .before .before .before .before .before .before .before .before .before .before .before .before .advance in
     record {
-      fits = omega (
-        arith,
-        r .ensures .inside,
-        part-long (c .before .before .before .before .before .before .before .before .before .before .before .before .before .before .before .before .before .before .before .before .before .before .before .before .before .before .before .before .before .before .before .loop .at) (at-block-end .result) (c .before .before .before .before .before .before .before .before .before .before .before .before .before .before .before .before .before .before .before .before .before .before .before .before .before .before .before .before .before .before .before .before .before .before .before .before .before .before .before .before .before .args .input .now)
-            (at-block-end .ensures .1),
-        at-block-end .ensures .0,
-        at-block-end .ensures .1,
-        c .before .before .before .before .before .before .before .before .before .before .before .before .before .before .before .before .before .before .before .before .before .before .before .before .before .before .before .before .before .before .before .before .before .before .before .before .before .before .before .before .before .good .1 .0 .0,
-      );
+      fits =
+          omega (
+            arith,
+            r .ensures .inside,
+            part-long (loop .at) (at-block-end .result) (args .input .now) (at-block-end .ensures .1),
+            at-block-end .ensures .0,
+            at-block-end .ensures .1,
+            good .1 .0 .0,
+          );
     }
 
 loop-less : tie.Need-loop-less Inv-loop μ-loop
 loop-less c =
     let a = c .before .before .before .before .before .before .before .before .before .before .before .before .before .before .before .before .before .before .before .before .before .before .before .before .before .before .before .before .before .before .before .before .before .before .before .before .before .before .before .before .before .args in
+    let pre = c .before .before .before .before .before .before .before .before .before .before .before .before .before .before .before .before .before .before .before .before .before .before .before .before .before .before .before .before .before .before .before .before .before .before .before .before .before .before .before .before .before .pre in
     let l = c .before .before .before .before .before .before .before .before .before .before .before .before .before .before .before .before .before .before .before .before .before .before .before .before .before .before .before .before .before .before .before .loop in
-    let r = c .before .before .before .before .before .before .before .before .before .before .before .before .before .before .before .before .before .before .before .before .before .advance in
+    let loop-test = c .before .before .before .before .before .before .before .before .before .before .before .before .before .before .before .before .before .before .before .before .before .before .before .before .before .before .before .before .before .before .loop-test in
     let at-block-end = c .before .before .before .before .before .before .before .before .before .before .before .before .before .before .before .before .before .before .before .before .before .before .before .before .before .before .before .before .before .block-end in
+    let r = c .before .before .before .before .before .before .before .before .before .before .before .before .before .before .before .before .before .before .before .before .before .advance in
     omega (
       arith,
       feeding-used (a .formula .now) (a .input .now) (memory (a .names .now) (a .path .now) (a .program .now) (a .values .now) (a .regs .now)) (a .start)
-          (a .out .now) (l .at) (memory (l .names) (l .path) (l .program) (l .values) (l .regs)) (l .stage) (l .out) (l .inv .text) (l .inv .fed) (at-block-end .result)
-          (at-block-end .ensures .1) (r .result) (memory (r .last .1 .1 .1 .0) (r .last .1 .1 .1 .1 .0) (r .last .1 .1 .1 .1 .1 .0) (r .last .1 .1 .1 .1 .1 .1 .0)
-          (r .last .1 .1 .1 .1 .1 .1 .1 .0)) (r .last .1 .1 .1 .1 .1 .1 .1 .1 .0) (r .ensures) (c .before .before .before .before .before .before .before .before .before .before .before .before .before .before .before .before .before .before .before .before .before .before .before .before .before .before .before .before .before .before .before .before .before .before .before .before .before .before .before .before .before .pre .0) (at-block-end .ensures .0),
-      c .before .before .before .before .before .before .before .before .before .before .before .before .before .before .before .before .before .before .before .before .before .before .before .before .before .before .before .before .before .before .loop-test .taken,
+          (a .out .now) (l .at) (memory (l .names) (l .path) (l .program) (l .values) (l .regs)) (l .stage) (l .out) (l .inv .text) (l .inv .fed)
+          (at-block-end .result) (at-block-end .ensures .1) (r .result)
+          (memory (r .last .1 .1 .1 .0) (r .last .1 .1 .1 .1 .0) (r .last .1 .1 .1 .1 .1 .0) (r .last .1 .1 .1 .1 .1 .1 .0) (r .last .1 .1 .1 .1 .1 .1 .1 .0))
+          (r .last .1 .1 .1 .1 .1 .1 .1 .1 .0) (r .ensures) (pre .0) (at-block-end .ensures .0),
+      loop-test .taken,
     )
 
 loop-again : tie.Need-loop-again Inv-loop μ-loop

@@ -41,14 +41,25 @@ returns c =
     (c .enum-told .given .1) (at-add .ensures))
 
 feed-requires : tie.Need-feed-requires
-feed-requires c κs = let a = c .before .before .before .before .before .before .before .before .before .before .before .before .before .before .before .before .before .before .before .before .before .before .before .before .before .before .before .before .args in let b = c .before .before .before .before .before .before .before .before .before .before .before .before .before .before .before .before .before .start in let m = memory (a .names .now) (a .path .now) (a .program .now) (a .values .now) (a .regs .now) in (
-  record {
-    stands = stands-first (a .readable) (a .formula .now) m (b .result .stage) (take (b .result .length) (b .last .1 .1 .0)) (c .before .before .before .before .before .before .before .before .before .before .before .before .before .before .before .before .before .before .before .before .before .before .before .before .before .before .before .before .pre .0) (b .ensures .begins (c .before .before .before .before .before .before .before .before .before .before .before .before .before .before .before .before .before .before .before .before .before .before .before .before .before .before .before .before .pre .1));
-    room = omega (arith, b .kept .1 .1 .0, c .before .before .before .before .before .before .before .before .before .before .before .before .before .before .before .before .before .before .before .before .before .before .before .before .before .before .before .before .pre .1);
-    numbers = omega (arith, b .ensures .unnumbered, c .before .before .before .before .before .before .before .before .before .before .before .before .before .before .before .before .before .before .before .before .before .before .before .before .before .before .before .before .good .1 .1 .0 .0);
-  },
-  omega (arith, subst (λ (x : Listing). Copies (a .all .now) 0 (b .last .1 .1 .0) (b .result .length) x (c .before .before .before .before .before .before .before .before .before .before .before .before .add .last .0)) (c .before .before .before .before .before .before .before .before .first .given .1) (c .before .before .before .before .before .before .before .before .before .before .before .before .add .ensures) .room, c .before .before .before .before .before .before .before .before .before .before .before .before .add .kept .0),
-)
+feed-requires c κs =
+    let a = c .before .before .before .before .before .before .before .before .before .before .before .before .before .before .before .before .before .before .before .before .before .before .before .before .before .before .before .before .args in
+    let good = c .before .before .before .before .before .before .before .before .before .before .before .before .before .before .before .before .before .before .before .before .before .before .before .before .before .before .before .before .good in
+    let pre = c .before .before .before .before .before .before .before .before .before .before .before .before .before .before .before .before .before .before .before .before .before .before .before .before .before .before .before .before .pre in
+    let b = c .before .before .before .before .before .before .before .before .before .before .before .before .before .before .before .before .before .start in
+    let add = c .before .before .before .before .before .before .before .before .before .before .before .before .add in
+    let first = c .before .before .before .before .before .before .before .before .first in
+    let m = memory (a .names .now) (a .path .now) (a .program .now) (a .values .now) (a .regs .now) in (
+      record {
+        stands = stands-first (a .readable) (a .formula .now) m (b .result .stage) (take (b .result .length) (b .last .1 .1 .0)) (pre .0) (b .ensures .begins (pre .1));
+        room = omega (arith, b .kept .1 .1 .0, pre .1);
+        numbers = omega (arith, b .ensures .unnumbered, good .1 .1 .0 .0);
+      },
+      omega (
+        arith,
+        subst (λ (x : Listing). Copies (a .all .now) 0 (b .last .1 .1 .0) (b .result .length) x (add .last .0)) (first .given .1) (add .ensures) .room,
+        add .kept .0,
+      ),
+    )
 
 enum-known-fed : tie.Need-enum-known-fed
 enum-known-fed c = search needs
@@ -101,15 +112,15 @@ add-requires-2 : tie.Need-add-requires-2
 add-requires-2 c κs =
     let a = c .before .before .before .before .before .before .before .before .before .before .before .before .before .before .before .before .before .before .before .before .before .before .before .before .before .before .before .before .before .before .before .before .before .before .before .before .before .before .before .before .before .before .before .before .before .before .before .before .before .before .before .before .before .before .before .before .before .before .before .before .before .before .before .before .before .args in
     let b = c .before .before .before .before .before .before .before .before .before .before .before .before .before .before .before .before .before .before .before .before .before .before .before .before .before .before .before .before .before .before .before .before .before .before .before .before .before .before .before .before .before .before .before .before .before .before .before .before .before .before .before .before .before .before .start in
+    let add = c .before .before .before .before .before .before .before .before .before .before .before .before .before .before .before .before .before .before .before .before .before .before .before .before .before .before .before .before .before .before .before .before .before .before .before .before .before .before .before .before .before .before .before .before .before .before .before .before .before .add in
+    let first = c .before .before .before .before .before .before .before .before .before .before .before .before .before .before .before .before .before .before .before .before .before .before .before .before .before .before .before .before .before .before .before .before .before .before .before .before .before .before .before .before .before .before .before .before .before .first in
     let f = c .before .before .before .before .before .before .before .before .before .before .before .before .before .before .before .before .before .before .before .before .before .before .before .before .before .before .before .before .before .before .before .before .before .before .before .before .feed in
+    let fed = c .before .before .before .before .before .before .before .before .before .before .before .before .before .before .before .before .before .before .before .before .fed in
     let at-finish = c .before .before .before .before .before .before .before .before .before .before .before .before .finish in (
       omega (arith, at-finish .ensures .room, at-finish .kept .1 .1 .1 .1 .1 .1 .1 .0),
       omega (
         arith,
-        (subst (λ (x : Fed). Feeds-all (a .formula .now) (memory (a .names .now)
-            (a .path .now) (a .program .now) (a .values .now) (a .regs .now)) (b .result .stage) (a .input .now) (memory (f .last .1 .1 .1 .1 .0) (f .last .1 .1 .1 .1 .1 .0)
-            (f .last .1 .1 .1 .1 .1 .1 .0) (f .last .1 .1 .1 .1 .1 .1 .1 .0) (f .last .1 .1 .1 .1 .1 .1 .1 .1 .0)) (c .before .before .before .before .before .before .before .before .before .before .before .before .before .before .before .before .before .before .before .before .before .before .before .before .before .before .before .before .before .before .before .before .before .before .before .before .before .before .before .before .before .before .before .before .before .before .before .before .before .add .last .0) (c .before .before .before .before .before .before .before .before .before .before .before .before .before .before .before .before .before .before .before .before .before .before .before .before .before .before .before .before .before .before .before .before .before .before .before .before .before .before .before .before .before .before .before .before .before .first .given .0 .0) x
-            (f .last .1 .1 .1 .1 .1 .1 .1 .1 .1 .1 .0)) (c .before .before .before .before .before .before .before .before .before .before .before .before .before .before .before .before .before .before .before .before .fed .given .1) (f .ensures)) .2 .room,
+        (subst (λ (x : Fed). Feeds-all (a .formula .now) (memory (a .names .now) (a .path .now) (a .program .now) (a .values .now) (a .regs .now)) (b .result .stage) (a .input .now) (memory (f .last .1 .1 .1 .1 .0) (f .last .1 .1 .1 .1 .1 .0) (f .last .1 .1 .1 .1 .1 .1 .0) (f .last .1 .1 .1 .1 .1 .1 .1 .0) (f .last .1 .1 .1 .1 .1 .1 .1 .1 .0)) (add .last .0) (first .given .0 .0) x (f .last .1 .1 .1 .1 .1 .1 .1 .1 .1 .1 .0)) (fed .given .1) (f .ensures)) .2 .room,
         f .kept .1 .1 .1 .1 .1 .1 .1 .1 .1 .1 .0,
       ),
     )
@@ -130,33 +141,49 @@ same-length-14 : tie.Need-same-length-14
 same-length-14 c = search needs
 
 same-length-15 : tie.Need-same-length-15
-same-length-15 c = c .before .before .before .before .before .before .before .before .before .before .before .before .before .before .before .finish .kept .1 .1 .1 .1 .1 .1 .1 .0 ∙ (c .before .before .before .before .before .before .before .before .before .before .before .before .before .before .before .before .before .before .before .before .before .before .before .before .before .before .before .before .before .before .before .before .before .before .before .before .before .before .before .feed .kept .1 .1 .1 .1 .1 .1 .1 .1 .1 .0 ∙ c .before .before .before .before .before .before .before .before .before .before .before .before .before .before .before .before .before .before .before .before .before .before .before .before .before .before .before .before .before .before .before .before .before .before .before .before .before .before .before .before .before .before .before .before .before .before .before .before .before .before .before .before .before .before .before .before .before .start .kept .1 .1 .0)
+same-length-15 c =
+    let start = c .before .before .before .before .before .before .before .before .before .before .before .before .before .before .before .before .before .before .before .before .before .before .before .before .before .before .before .before .before .before .before .before .before .before .before .before .before .before .before .before .before .before .before .before .before .before .before .before .before .before .before .before .before .before .before .before .before .start in
+    let feed = c .before .before .before .before .before .before .before .before .before .before .before .before .before .before .before .before .before .before .before .before .before .before .before .before .before .before .before .before .before .before .before .before .before .before .before .before .before .before .before .feed in
+    let finish = c .before .before .before .before .before .before .before .before .before .before .before .before .before .before .before .finish in
+    finish .kept .1 .1 .1 .1 .1 .1 .1 .0 ∙ (feed .kept .1 .1 .1 .1 .1 .1 .1 .1 .1 .0 ∙ start .kept .1 .1 .0)
 
 same-length-16 : tie.Need-same-length-16
-same-length-16 c = c .before .before .add2 .kept .0 ∙ (c .before .before .before .before .before .before .before .before .before .before .before .before .before .before .before .before .before .before .before .before .before .before .before .before .before .before .before .before .before .before .before .before .before .before .before .before .before .before .before .feed .kept .1 .1 .1 .1 .1 .1 .1 .1 .1 .1 .0 ∙ c .before .before .before .before .before .before .before .before .before .before .before .before .before .before .before .before .before .before .before .before .before .before .before .before .before .before .before .before .before .before .before .before .before .before .before .before .before .before .before .before .before .before .before .before .before .before .before .before .before .before .before .before .add .kept .0)
+same-length-16 c =
+    let add = c .before .before .before .before .before .before .before .before .before .before .before .before .before .before .before .before .before .before .before .before .before .before .before .before .before .before .before .before .before .before .before .before .before .before .before .before .before .before .before .before .before .before .before .before .before .before .before .before .before .before .before .before .add in
+    let feed = c .before .before .before .before .before .before .before .before .before .before .before .before .before .before .before .before .before .before .before .before .before .before .before .before .before .before .before .before .before .before .before .before .before .before .before .before .before .before .before .feed in
+    let add2 = c .before .before .add2 in
+    add2 .kept .0 ∙ (feed .kept .1 .1 .1 .1 .1 .1 .1 .1 .1 .1 .0 ∙ add .kept .0)
 
 returns-3 : tie.Need-returns-3
 returns-3 c =
     let a = c .before .before .before .before .before .before .before .before .before .before .before .before .before .before .before .before .before .before .before .before .before .before .before .before .before .before .before .before .before .before .before .before .before .before .before .before .before .before .before .before .before .before .before .before .before .before .before .before .before .before .before .before .before .before .before .before .before .before .before .before .before .before .before .before .before .before .before .before .args in
-    let b = c .before .before .before .before .before .before .before .before .before .before .before .before .before .before .before .before .before .before .before .before .before .before .before .before .before .before .before .before .before .before .before .before .before .before .before .before .before .before .before .before .before .before .before .before .before .before .before .before .before .before .before .before .before .before .before .before .before .start in
-    let f = c .before .before .before .before .before .before .before .before .before .before .before .before .before .before .before .before .before .before .before .before .before .before .before .before .before .before .before .before .before .before .before .before .before .before .before .before .before .before .before .feed in
-    let e = c .before .before .before .before .before .before .before .before .before .before .before .before .before .before .before .finish in
-    let at-add = c .before .before .before .before .before .before .before .before .before .before .before .before .before .before .before .before .before .before .before .before .before .before .before .before .before .before .before .before .before .before .before .before .before .before .before .before .before .before .before .before .before .before .before .before .before .before .before .before .before .before .before .before .add in
     let at-pre = c .before .before .before .before .before .before .before .before .before .before .before .before .before .before .before .before .before .before .before .before .before .before .before .before .before .before .before .before .before .before .before .before .before .before .before .before .before .before .before .before .before .before .before .before .before .before .before .before .before .before .before .before .before .before .before .before .before .before .before .before .before .before .before .before .before .before .before .before .pre in
+    let b = c .before .before .before .before .before .before .before .before .before .before .before .before .before .before .before .before .before .before .before .before .before .before .before .before .before .before .before .before .before .before .before .before .before .before .before .before .before .before .before .before .before .before .before .before .before .before .before .before .before .before .before .before .before .before .before .before .before .start in
+    let at-add = c .before .before .before .before .before .before .before .before .before .before .before .before .before .before .before .before .before .before .before .before .before .before .before .before .before .before .before .before .before .before .before .before .before .before .before .before .before .before .before .before .before .before .before .before .before .before .before .before .before .before .before .before .add in
     let at-first = c .before .before .before .before .before .before .before .before .before .before .before .before .before .before .before .before .before .before .before .before .before .before .before .before .before .before .before .before .before .before .before .before .before .before .before .before .before .before .before .before .before .before .before .before .before .before .before .before .first in
+    let f = c .before .before .before .before .before .before .before .before .before .before .before .before .before .before .before .before .before .before .before .before .before .before .before .before .before .before .before .before .before .before .before .before .before .before .before .before .before .before .before .feed in
     let at-fed = c .before .before .before .before .before .before .before .before .before .before .before .before .before .before .before .before .before .before .before .before .before .before .before .fed in
+    let e = c .before .before .before .before .before .before .before .before .before .before .before .before .before .before .before .finish in
     let at-add2 = c .before .before .add2 in
-    listed-by (a .readable) (a .formula .now) (a .input .now) (memory (a .names .now) (a .path .now) (a .program .now) (a .values .now) (a .regs .now)) (b .result .stage)
-    (a .all .now) (b .last .1 .1 .0) (b .result .length) (at-add .last .0) (at-pre .0) (b .ensures .begins (at-pre .1)) (omega
-    (arith, b .ensures .room, b .kept .1 .1 .0)) (at-first .given .0 .0) (subst (λ (x : Listing). Copies (a .all .now) 0 (b .last .1 .1 .0) (b .result .length) x
-    (at-add .last .0)) (at-first .given .1) (at-add .ensures)) (at-add .kept .0) (memory (f .last .1 .1 .1 .1 .0) (f .last .1 .1 .1 .1 .1 .0)
-    (f .last .1 .1 .1 .1 .1 .1 .0) (f .last .1 .1 .1 .1 .1 .1 .1 .0) (f .last .1 .1 .1 .1 .1 .1 .1 .1 .0)) (at-fed .given .0 .0)
-    (f .last .1 .1 .1 .1 .1 .1 .1 .1 .1 .1 .0) (at-fed .given .0 .1 .0) (subst (λ (x : Fed). Feeds-all (a .formula .now) (memory (a .names .now) (a .path .now)
-    (a .program .now) (a .values .now) (a .regs .now)) (b .result .stage) (a .input .now) (memory (f .last .1 .1 .1 .1 .0) (f .last .1 .1 .1 .1 .1 .0)
-    (f .last .1 .1 .1 .1 .1 .1 .0) (f .last .1 .1 .1 .1 .1 .1 .1 .0) (f .last .1 .1 .1 .1 .1 .1 .1 .1 .0)) (at-add .last .0) (at-first .given .0 .0) x
-    (f .last .1 .1 .1 .1 .1 .1 .1 .1 .1 .1 .0)) (at-fed .given .1) (f .ensures)) (f .kept .1 .1 .1 .1 .1 .1 .1 .1 .1 .1 .0) (e .last .1 .1 .1 .1 .1 .1 .1 .0) (e .result)
-    (omega (arith, e .ensures .room, e .kept .1 .1 .1 .1 .1 .1 .1 .0)) (e .ensures .ends (omega
-    (arith, f .kept .1 .1 .1 .1 .1 .1 .1 .1 .1 .0, b .kept .1 .1 .0, at-pre .1))) (at-add2 .result) (at-add2 .last .0) (at-add2 .ensures)
+    let the-f = f .last .1 .1 .1 .1 .1 .1 .1 .1 .1 .1 .0 in
+    let the-f2 = f .last .1 .1 .1 .1 .1 .1 .1 .1 .0 in
+    let the-f3 = f .last .1 .1 .1 .1 .1 .1 .1 .0 in
+    let the-f4 = f .last .1 .1 .1 .1 .1 .1 .0 in
+    listed-by (a .readable) (a .formula .now) (a .input .now) (memory (a .names .now) (a .path .now) (a .program .now) (a .values .now) (a .regs .now))
+    (b .result .stage) (a .all .now) (b .last .1 .1 .0) (b .result .length) (at-add .last .0) (at-pre .0) (b .ensures .begins (at-pre .1))
+    (omega (arith, b .ensures .room, b .kept .1 .1 .0)) (at-first .given .0 .0)
+    (subst (λ (x : Listing). Copies (a .all .now) 0 (b .last .1 .1 .0) (b .result .length) x (at-add .last .0)) (at-first .given .1) (at-add .ensures))
+    (at-add .kept .0) (memory (f .last .1 .1 .1 .1 .0) (f .last .1 .1 .1 .1 .1 .0) the-f4 the-f3 the-f2) (at-fed .given .0 .0) the-f
+    (at-fed .given .0 .1 .0)
+    (subst
+    (λ (x : Fed).
+    Feeds-all (a .formula .now) (memory (a .names .now) (a .path .now) (a .program .now) (a .values .now) (a .regs .now)) (b .result .stage)
+    (a .input .now) (memory (f .last .1 .1 .1 .1 .0) (f .last .1 .1 .1 .1 .1 .0) the-f4 the-f3 the-f2) (at-add .last .0) (at-first .given .0 .0) x the-f)
+    (at-fed .given .1) (f .ensures))
+    (f .kept .1 .1 .1 .1 .1 .1 .1 .1 .1 .1 .0) (e .last .1 .1 .1 .1 .1 .1 .1 .0) (e .result)
+    (omega (arith, e .ensures .room, e .kept .1 .1 .1 .1 .1 .1 .1 .0))
+    (e .ensures .ends (omega (arith, f .kept .1 .1 .1 .1 .1 .1 .1 .1 .1 .0, b .kept .1 .1 .0, at-pre .1))) (at-add2 .result) (at-add2 .last .0)
+    (at-add2 .ensures)
 
 pub list-in-spec : {M : Type 1} → statement M
 list-in-spec =

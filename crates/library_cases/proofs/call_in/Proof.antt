@@ -132,7 +132,10 @@ slice-relend-prefix-replayed c = search needs
 
 -- src/main.rt:274:9
 slice-aggregate-replayed : tie.Need-slice-aggregate-replayed
-slice-aggregate-replayed c = sym (length-take-le (c .before .before .before .before .before .before .before .size2 .result) (c .before .before .before .before .before .before .before .before .before .before .before .before .before .before .before .before .before .before .before .before .before .before .before .before .before .before .before .before .before .before .before .before .before .before .before .before .before .before .before .before .args .path .now) (omega arith))
+slice-aggregate-replayed c =
+    let args = c .before .before .before .before .before .before .before .before .before .before .before .before .before .before .before .before .before .before .before .before .before .before .before .before .before .before .before .before .before .before .before .before .before .before .before .before .before .before .before .before .args in
+    let size2 = c .before .before .before .before .before .before .before .size2 in
+    sym (length-take-le (size2 .result) (args .path .now) (omega arith))
 
 -- src/main.rt:275:9
 slice-aggregate-replayed-2 : tie.Need-slice-aggregate-replayed-2

@@ -45,7 +45,11 @@ loop-less c = omega (arith, c .before .before .before .before .before .before .b
 
 -- src/main.rt:305:5
 loop-again : tie.Need-loop-again Inv-loop μ-loop
-loop-again c = (omega (arith, c .before .before .before .before .before .before .before .before .loop-test .taken), c .before .before .before .before .before .call .kept .1 .1 .0 ∙ c .before .before .before .before .before .before .before .before .before .loop .inv .1, c .before .before .before .before .before .call .kept .1 .1 .1 .0 ∙ c .before .before .before .before .before .before .before .before .before .loop .inv .2)
+loop-again c =
+    let loop = c .before .before .before .before .before .before .before .before .before .loop in
+    let loop-test = c .before .before .before .before .before .before .before .before .loop-test in
+    let call = c .before .before .before .before .before .call in
+    (omega (arith, loop-test .taken), call .kept .1 .1 .0 ∙ loop .inv .1, call .kept .1 .1 .1 .0 ∙ loop .inv .2)
 
 -- src/main.rt:297:1
 same-length-3 : tie.Need-same-length-3 Inv-loop μ-loop

@@ -60,7 +60,11 @@ slice-reshare-prefix-both c = search needs
 
 -- src/main.rt:447:9
 slice-aggregate-both : tie.Need-slice-aggregate-both
-slice-aggregate-both c = let e : length (c .before .before .before .before .before .before .before .before .before .take .last .0) ≡ length (c .before .before .before .before .before .before .before .before .before .before .before .before .before .before .before .before .before .before .before .before .before .before .before .before .before .args .formula .now) = c .before .before .before .before .before .before .before .before .before .take .kept .0 in sym (length-take-le (c .before .before .before .before .before .before .before .before .before .before .before .before .before .before .before .before .before .before .before .before .before .before .before .before .before .args .h .formula) (c .before .before .before .before .before .before .before .before .before .take .last .0) (omega (arith, e)))
+slice-aggregate-both c =
+    let args = c .before .before .before .before .before .before .before .before .before .before .before .before .before .before .before .before .before .before .before .before .before .before .before .before .before .args in
+    let take = c .before .before .before .before .before .before .before .before .before .take in
+    let e : length (take .last .0) ≡ length (args .formula .now) = take .kept .0 in
+    sym (length-take-le (args .h .formula) (take .last .0) (omega (arith, e)))
 
 -- src/main.rt:448:9
 slice-reshare-prefix-both-2 : tie.Need-slice-reshare-prefix-both-2
@@ -68,7 +72,11 @@ slice-reshare-prefix-both-2 c = search needs
 
 -- src/main.rt:448:9
 slice-aggregate-both-2 : tie.Need-slice-aggregate-both-2
-slice-aggregate-both-2 c = let e : length (c .before .before .before .before .before .take2 .last .0) ≡ length (c .before .before .before .before .before .before .before .before .before .before .before .before .before .before .before .before .before .before .before .before .before .before .before .before .before .before .args .names .now) = c .before .before .before .before .before .take2 .kept .0 in sym (length-take-le (c .before .before .before .before .before .before .before .before .before .before .before .before .before .before .before .before .before .before .before .before .before .before .before .before .before .before .args .h .names) (c .before .before .before .before .before .take2 .last .0) (omega (arith, e)))
+slice-aggregate-both-2 c =
+    let args = c .before .before .before .before .before .before .before .before .before .before .before .before .before .before .before .before .before .before .before .before .before .before .before .before .before .before .args in
+    let take2 = c .before .before .before .before .before .take2 in
+    let e : length (take2 .last .0) ≡ length (args .names .now) = take2 .kept .0 in
+    sym (length-take-le (args .h .names) (take2 .last .0) (omega (arith, e)))
 
 -- src/main.rt:450:9
 slice-relend-prefix-both : tie.Need-slice-relend-prefix-both
@@ -76,7 +84,9 @@ slice-relend-prefix-both c = search needs
 
 -- src/main.rt:450:9
 slice-aggregate-both-3 : tie.Need-slice-aggregate-both-3
-slice-aggregate-both-3 c = sym (length-take-le (c .before .before .before .before .before .before .before .before .before .before .before .before .before .before .before .before .before .before .before .before .before .before .before .before .before .before .before .before .args .h .tree) (c .before .before .before .before .before .before .before .before .before .before .before .before .before .before .before .before .before .before .before .before .before .before .before .before .before .before .before .before .args .tree .now) (omega arith))
+slice-aggregate-both-3 c =
+    let args = c .before .before .before .before .before .before .before .before .before .before .before .before .before .before .before .before .before .before .before .before .before .before .before .before .before .before .before .before .args in
+    sym (length-take-le (args .h .tree) (args .tree .now) (omega arith))
 
 -- src/main.rt:451:9
 slice-relend-prefix-both-2 : tie.Need-slice-relend-prefix-both-2
@@ -84,7 +94,9 @@ slice-relend-prefix-both-2 c = search needs
 
 -- src/main.rt:451:9
 slice-aggregate-both-4 : tie.Need-slice-aggregate-both-4
-slice-aggregate-both-4 c = sym (length-take-le (c .before .before .before .before .before .before .before .before .before .before .before .before .before .before .before .before .before .before .before .before .before .before .before .before .before .before .before .before .before .args .h .program) (c .before .before .before .before .before .before .before .before .before .before .before .before .before .before .before .before .before .before .before .before .before .before .before .before .before .before .before .before .before .args .program .now) (omega arith))
+slice-aggregate-both-4 c =
+    let args = c .before .before .before .before .before .before .before .before .before .before .before .before .before .before .before .before .before .before .before .before .before .before .before .before .before .before .before .before .before .args in
+    sym (length-take-le (args .h .program) (args .program .now) (omega arith))
 
 -- src/main.rt:445:5
 both-requires : tie.Need-both-requires

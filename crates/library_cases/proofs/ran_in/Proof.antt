@@ -43,7 +43,9 @@ slice-relend-prefix-with-inputs c = search needs
 
 -- src/main.rt:382:9
 slice-aggregate-with-inputs : tie.Need-slice-aggregate-with-inputs
-slice-aggregate-with-inputs c = sym (length-take-le (c .before .before .before .before .before .before .before .before .before .before .before .before .before .before .before .before .before .before .before .args .h .inputs) (c .before .before .before .before .before .before .before .before .before .before .before .before .before .before .before .before .before .before .before .args .inputs .now) (omega arith))
+slice-aggregate-with-inputs c =
+    let args = c .before .before .before .before .before .before .before .before .before .before .before .before .before .before .before .before .before .before .before .args in
+    sym (length-take-le (args .h .inputs) (args .inputs .now) (omega arith))
 
 -- src/main.rt:383:9
 slice-relend-prefix-with-inputs-2 : tie.Need-slice-relend-prefix-with-inputs-2
@@ -51,7 +53,9 @@ slice-relend-prefix-with-inputs-2 c = search needs
 
 -- src/main.rt:383:9
 slice-aggregate-with-inputs-2 : tie.Need-slice-aggregate-with-inputs-2
-slice-aggregate-with-inputs-2 c = sym (length-take-le (c .before .before .before .before .before .before .before .before .before .before .before .before .before .before .before .before .before .before .before .before .args .h .registers) (c .before .before .before .before .before .before .before .before .before .before .before .before .before .before .before .before .before .before .before .before .args .registers .now) (omega arith))
+slice-aggregate-with-inputs-2 c =
+    let args = c .before .before .before .before .before .before .before .before .before .before .before .before .before .before .before .before .before .before .before .before .args in
+    sym (length-take-le (args .h .registers) (args .registers .now) (omega arith))
 
 -- src/main.rt:379:5
 with-inputs-requires : tie.Need-with-inputs-requires

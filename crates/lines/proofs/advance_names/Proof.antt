@@ -66,12 +66,16 @@ same-length-5 c = search needs
 returns-3 : tie.Need-returns-3
 returns-3 c =
     let a = c .before .before .before .before .before .before .before .before .before .before .before .before .before .before .before .before .before .before .before .before .before .before .before .args in
+    let pre = c .before .before .before .before .before .before .before .before .before .before .before .before .before .before .before .before .before .before .before .before .before .before .before .pre in
+    let if1 = c .before .before .before .before .before .before .before .before .before .before .before .before .before .before .before .before .if1 in
     let n = c .before .before .before .before .before .before .before .before .before .before .before .before .before .before .keep-names in
+    let if2 = c .before .before .before .before .before .before .before .before .before .before .before .if2 in
     let b = c .before .before .before .before .before .before .begin in
-    let h = lt-of (n .result .end) (length (a .input .now)) (n .ensures .0 .0) (c .before .before .before .before .before .before .before .before .before .before .before .if2 .left) in
-    λ values regs. names-ended (a .formula .now) (a .input .now) (a .k) (a .names .now) (a .path .now) (a .program .now) (a .out .now) (c .before .before .before .before .before .before .before .before .before .before .before .before .before .before .before .before .before .before .before .before .before .before .before .pre) values regs (c .before .before .before .before .before .before .before .before .before .before .before .before .before .before .before .before .if1 .left)
-    (n .last .1 .0) (n .result .end) (n .result .count) (n .ensures .0) (n .kept .1 .0) (n .ensures .1 .0) (n .ensures .1 .1) h (b .last .1 .1 .0) (b .last .1 .1 .1 .0)
-    (b .last .1 .1 .1 .1 .0) (b .result) (b .ensures)
+    let h = lt-of (n .result .end) (length (a .input .now)) (n .ensures .0 .0) (if2 .left) in
+    λ values regs.
+    names-ended (a .formula .now) (a .input .now) (a .k) (a .names .now) (a .path .now) (a .program .now) (a .out .now) pre values regs (if1 .left)
+    (n .last .1 .0) (n .result .end) (n .result .count) (n .ensures .0) (n .kept .1 .0) (n .ensures .1 .0) (n .ensures .1 .1) h (b .last .1 .1 .0)
+    (b .last .1 .1 .1 .0) (b .last .1 .1 .1 .1 .0) (b .result) (b .ensures)
 
 pub advance-names-spec : {M : Type 1} → statement M
 advance-names-spec =

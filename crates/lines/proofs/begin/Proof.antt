@@ -42,14 +42,21 @@ same-length-2 : tie.Need-same-length-2
 same-length-2 c = search needs
 
 returns : tie.Need-returns
-returns c = let a = c .before .before .before .before .before .before .before .before .before .before .before .before .before .before .before .args in let k = c .before .before .before .before .before .before .before .compile in record {
-  built = begins-accepted (a .formula .now) (a .names .now) (a .path .now) (a .program .now) (k .last .1 .1 .0) (k .last .1 .1 .1 .0) (a .out .now) (a .out .now) _ (k .result) (k .ensures .0) (c .before .enum-told .given .1) (λ i. omega (arith, c .before .before .before .before .before .before .before .before .before .before .before .before .before .before .shared-slice-known .given i)) (k .ensures .2) (c .fresh .result) (c .fresh .ensures) refl;
-  numbered = omega arith;
-  room = omega arith;
-  beyond = refl;
-  path-is = k .ensures .1;
-  program-is = k .ensures .2;
-}
+returns c =
+    let a = c .before .before .before .before .before .before .before .before .before .before .before .before .before .before .before .args in
+    let shared-slice-known = c .before .before .before .before .before .before .before .before .before .before .before .before .before .before .shared-slice-known in
+    let k = c .before .before .before .before .before .before .before .compile in
+    record {
+      built =
+          begins-accepted (a .formula .now) (a .names .now) (a .path .now) (a .program .now) (k .last .1 .1 .0) (k .last .1 .1 .1 .0) (a .out .now)
+          (a .out .now) _ (k .result) (k .ensures .0) (c .before .enum-told .given .1) (λ i. omega (arith, shared-slice-known .given i)) (k .ensures .2)
+          (c .fresh .result) (c .fresh .ensures) refl;
+      numbered = omega arith;
+      room = omega arith;
+      beyond = refl;
+      path-is = k .ensures .1;
+      program-is = k .ensures .2;
+    }
 
 same-length-3 : tie.Need-same-length-3
 same-length-3 c = search needs
@@ -63,10 +70,17 @@ same-length-5 c = search needs
 returns-2 : tie.Need-returns-2
 returns-2 c =
     let a = c .before .before .before .before .before .before .before .before .before .before .before .before .before .before .before .before .before .before .before .before .before .before .args in
+    let pre = c .before .before .before .before .before .before .before .before .before .before .before .before .before .before .before .before .before .before .before .before .before .before .pre in
     let k = c .before .before .before .before .before .before .before .before .before .before .before .before .before .before .compile in
+    let a′ = c .before .before .before .before .before .before .before .before .a in
+    let text-length = c .before .before .before .before .before .text-length in
     let w = c .before .before .put-refusal in
-    let h : w .result ≤ length (a .out .now) = omega (arith, w .ensures .1, c .before .before .before .before .before .before .before .before .before .before .before .before .before .before .before .before .before .before .before .before .before .before .pre) in record {
-      built = begins-refused (a .formula .now) (a .names .now) (a .path .now) (a .program .now) (k .last .1 .1 .0) (k .last .1 .1 .1 .0) (a .out .now) (w .last .0) _ (k .result) (k .ensures .0) (c .before .before .before .before .before .before .before .before .a .given .0 .0) (c .before .before .before .before .before .text-length .result) (w .result) (c .before .before .before .before .before .before .before .before .a .given .1) (k .ensures .1) (k .kept .1 .1 .0) (c .before .before .before .before .before .text-length .ensures) (w .ensures .0) refl;
+    let h : w .result ≤ length (a .out .now) = omega (arith, w .ensures .1, pre) in
+    record {
+      built =
+          begins-refused (a .formula .now) (a .names .now) (a .path .now) (a .program .now) (k .last .1 .1 .0) (k .last .1 .1 .1 .0) (a .out .now) (w .last .0)
+          _ (k .result) (k .ensures .0) (a′ .given .0 .0) (text-length .result) (w .result) (a′ .given .1) (k .ensures .1) (k .kept .1 .1 .0)
+          (text-length .ensures) (w .ensures .0) refl;
       numbered = omega arith;
       room = h;
       beyond = drop-wrote (a .out .now) 0 _ (w .last .0) (w .result) (w .ensures .0) h;

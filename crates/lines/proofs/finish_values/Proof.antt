@@ -31,11 +31,16 @@ same-length-3 c = search needs
 returns-2 : tie.Need-returns-2
 returns-2 c =
     let a = c .before .before .before .before .before .before .before .before .before .before .before .before .before .before .before .before .before .before .args in
-    let w = c .before .before .before .before .before .before .put-record in
+    let pre = c .before .before .before .before .before .before .before .before .before .before .before .before .before .before .before .before .before .before .pre in
     let at-is-empty = c .before .before .before .before .before .before .before .before .before .before .before .before .before .is-empty in
-    λ formula names path. values-last-line (a .number) (a .s) (a .program .now) (a .values .now) (a .regs .now) (a .out .now) (c .before .before .before .before .before .before .before .before .before .before .before .before .before .before .before .before .before .before .pre) formula names path (at-is-empty .result)
-    (at-is-empty .ensures) (c .before .before .before .before .before .before .before .before .before .before .before .before .if1 .left) (c .before .before .before .before .before .before .before .before .before .before .before .is-ready .ensures .0 (c .before .before .before .before .before .before .before .before .before .before .if2 .taken)) (w .last .1 .1 .0) (w .last .1 .1 .1 .0) (w .last .1 .1 .1 .1 .1 .0) (w .result)
-    (w .ensures .1 .1) (w .ensures .0) (w .ensures .1 .0)
+    let if1 = c .before .before .before .before .before .before .before .before .before .before .before .before .if1 in
+    let is-ready = c .before .before .before .before .before .before .before .before .before .before .before .is-ready in
+    let if2 = c .before .before .before .before .before .before .before .before .before .before .if2 in
+    let w = c .before .before .before .before .before .before .put-record in
+    λ formula names path.
+    values-last-line (a .number) (a .s) (a .program .now) (a .values .now) (a .regs .now) (a .out .now) pre formula names path (at-is-empty .result)
+    (at-is-empty .ensures) (if1 .left) (is-ready .ensures .0 (if2 .taken)) (w .last .1 .1 .0) (w .last .1 .1 .1 .0) (w .last .1 .1 .1 .1 .1 .0)
+    (w .result) (w .ensures .1 .1) (w .ensures .0) (w .ensures .1 .0)
 
 returns-3 : tie.Need-returns-3
 returns-3 c =

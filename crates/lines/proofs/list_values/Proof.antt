@@ -107,7 +107,11 @@ add-n c =
     record { fits = lt-max (at-loop .n) (at-loop .n + 1) (at-loop .inv .fits) (c .before .before .before .before .before .before .before .before .before .before .before .if3 .left) refl }
 
 add-at : tie.Need-add-at Inv-loop μ-loop
-add-at c = record { fits = omega (arith, c .before .before .before .before .before .before .before .before .before .before .before .before .before .before .before .before .before .read-part .ensures .0 .1, c .before .before .before .before .before .before .before .before .before .before .before .before .before .if1 .left, c .before .before .before .before .before .before .before .before .before .before .before .before .before .before .before .before .before .before .before .before .before .before .before .before .before .before .good .1 .0 .0) }
+add-at c =
+    let good = c .before .before .before .before .before .before .before .before .before .before .before .before .before .before .before .before .before .before .before .before .before .before .before .before .before .before .good in
+    let read-part = c .before .before .before .before .before .before .before .before .before .before .before .before .before .before .before .before .before .read-part in
+    let if1 = c .before .before .before .before .before .before .before .before .before .before .before .before .before .if1 in
+    record { fits = omega (arith, read-part .ensures .0 .1, if1 .left, good .1 .0 .0) }
 
 loop-less : tie.Need-loop-less Inv-loop μ-loop
 loop-less c = omega (arith, c .before .before .before .before .before .before .before .before .before .before .before .before .before .before .before .before .before .read-part .ensures .0 .0, c .before .before .before .before .before .before .before .before .before .before .before .before .before .before .before .before .before .before .before .loop-test .taken)

@@ -33,7 +33,11 @@ run-requires : tie.Need-run-requires Inv-loop μ-loop
 run-requires c κs = search needs
 
 loop-holds : tie.Need-loop-holds Inv-loop μ-loop
-loop-holds c = (refl, again-long (c .before .before .before .before .before .before .before .before .before .before .before .before .before .before .before .before .before .args .path .now) (c .before .before .before .before .run .last .1 .1 .1 .0) (c .before .before .before .before .before .before .before .before .room-at .result) (c .before .before .before .before .before .before .before .before .room-at .ensures .1) (c .before .before .before .before .run .kept .1 .1 .1 .0), refl)
+loop-holds c =
+    let args = c .before .before .before .before .before .before .before .before .before .before .before .before .before .before .before .before .before .args in
+    let room-at = c .before .before .before .before .before .before .before .before .room-at in
+    let run = c .before .before .before .before .run in
+    (refl, again-long (args .path .now) (run .last .1 .1 .1 .0) (room-at .result) (room-at .ensures .1) (run .kept .1 .1 .1 .0), refl)
 
 room-at-requires-2 : tie.Need-room-at-requires-2 Inv-loop μ-loop
 room-at-requires-2 c κs = search needs
@@ -54,13 +58,32 @@ resume-requires : tie.Need-resume-requires Inv-loop μ-loop
 resume-requires c κs = search needs
 
 add-i : tie.Need-add-i Inv-loop μ-loop
-add-i c = omega (arith, c .before .before .before .before .before .before .before .before .before .before .before .loop-test .taken, c .before .before .before .before .before .before .before .before .before .before .before .before .before .before .before .before .before .before .before .before .before .before .before .before .before .before .before .before .before .before .good .1 .1 .1 .1 .1 .0 .0)
+add-i c =
+    let good = c .before .before .before .before .before .before .before .before .before .before .before .before .before .before .before .before .before .before .before .before .before .before .before .before .before .before .before .before .before .before .good in
+    let loop-test = c .before .before .before .before .before .before .before .before .before .before .before .loop-test in
+    omega (arith, loop-test .taken, good .1 .1 .1 .1 .1 .0 .0)
 
 loop-less : tie.Need-loop-less Inv-loop μ-loop
 loop-less c = omega arith
 
 loop-again : tie.Need-loop-again Inv-loop μ-loop
-loop-again c = (c .before .before .before .before .resume .kept .1 .1 .0 ∙ c .before .before .before .before .before .before .before .before .before .before .before .before .loop .inv .0, again-long (c .before .before .before .before .before .before .before .before .before .before .before .before .loop .path) (c .before .before .before .before .resume .last .1 .1 .1 .0) (c .before .before .before .before .before .before .before .before .before .before .room-at2 .result) (omega (arith, c .before .before .before .before .before .before .before .before .before .before .room-at2 .ensures .1, c .before .before .before .before .before .before .before .before .before .before .before .before .loop .inv .1)) (c .before .before .before .before .resume .kept .1 .1 .1 .0) ∙ c .before .before .before .before .before .before .before .before .before .before .before .before .loop .inv .1, sym (left-step (c .before .before .before .before .before .before .before .before .before .before .before .before .before .before .before .before .before .before .before .before .before .before .before .before .before .before .before .before .before .before .args .inputs .now) (c .before .before .before .before .before .before .before .before .before .before .before .before .before .before .before .before .before .before .before .before .before .before .before .before .before .before .before .before .before .before .args .p .now) (length (c .before .before .before .before .before .before .before .before .before .before .before .before .before .before .before .before .before .before .before .before .before .before .before .before .before .before .before .before .before .before .args .path .now)) (c .before .before .before .before .before .before .before .before .before .before .before .before .before .before .before .before .before .before .before .before .before .before .before .before .before .before .before .before .before .before .args .rooms .now) (c .before .before .before .before .before .before .before .before .before .before .before .before .before .before .before .before .before .before .before .before .before .before .before .before .before .before .before .before .before .before .args .budgets .now) (c .before .before .before .before .before .before .before .before .before .before .before .before .before .before .before .before .before .before .before .before .before .before .before .before .before .before .before .before .before .before .args .flags .now) (c .before .before .before .before .before .before .before .before .before .before .before .before .before .before .before .before .before .before .before .before .before .before .before .before .before .before .before .before .before .before .args .values .now) (c .before .before .before .before .before .before .before .before .before .before .before .before .loop .r) (c .before .before .before .before .resume .result) (c .before .before .before .before .before .before .before .before .before .before .before .before .loop .regs) _ (c .before .before .before .before .before .before .before .before .before .before .before .before .loop .path) _ (c .before .before .before .before .before .before .before .before .before .before .before .before .loop .i) (c .before .before .before .before .before .before .before .before .before .before .room-at2 .result) (c .before .before .before .before .before .budget-at2 .result) (supplied-of (c .before .before .before .before .before .before .before .before .before .supplied-at .result)) (c .before .before .before .before .before .before .before .before .before .before .room-at2 .ensures .0) (omega (arith, c .before .before .before .before .before .before .before .before .before .before .room-at2 .ensures .1, c .before .before .before .before .before .before .before .before .before .before .before .before .loop .inv .1)) (c .before .before .before .before .before .before .before .before .before .before .before .loop-test .taken) (c .before .before .before .before .before .budget-at2 .ensures) (c .before .before .before .before .before .before .before .before .before .supplied-at .ensures) (c .before .before .before .before .resume .ensures .0) (c .before .before .before .before .resume .ensures .1 .0)) ∙ c .before .before .before .before .before .before .before .before .before .before .before .before .loop .inv .2)
+loop-again c =
+    let args = c .before .before .before .before .before .before .before .before .before .before .before .before .before .before .before .before .before .before .before .before .before .before .before .before .before .before .before .before .before .before .args in
+    let loop = c .before .before .before .before .before .before .before .before .before .before .before .before .loop in
+    let loop-test = c .before .before .before .before .before .before .before .before .before .before .before .loop-test in
+    let room-at2 = c .before .before .before .before .before .before .before .before .before .before .room-at2 in
+    let supplied-at = c .before .before .before .before .before .before .before .before .before .supplied-at in
+    let budget-at2 = c .before .before .before .before .before .budget-at2 in
+    let resume = c .before .before .before .before .resume in (
+      resume .kept .1 .1 .0 ∙ loop .inv .0,
+      again-long (loop .path) (resume .last .1 .1 .1 .0) (room-at2 .result) (omega (arith, room-at2 .ensures .1, loop .inv .1)) (resume .kept .1 .1 .1 .0)
+          ∙ loop .inv .1,
+      sym (left-step (args .inputs .now) (args .p .now) (length (args .path .now)) (args .rooms .now) (args .budgets .now) (args .flags .now) (args .values .now)
+          (loop .r) (resume .result) (loop .regs) _ (loop .path) _ (loop .i) (room-at2 .result) (budget-at2 .result) (supplied-of (supplied-at .result))
+          (room-at2 .ensures .0) (omega (arith, room-at2 .ensures .1, loop .inv .1)) (loop-test .taken) (budget-at2 .ensures) (supplied-at .ensures)
+          (resume .ensures .0) (resume .ensures .1 .0))
+          ∙ loop .inv .2,
+    )
 
 same-length : tie.Need-same-length Inv-loop μ-loop
 same-length c = c .before .loop .inv .0 ∙ c .before .before .before .before .before .before .run .kept .1 .1 .0
@@ -69,8 +92,26 @@ same-length-2 : tie.Need-same-length-2 Inv-loop μ-loop
 same-length-2 c = c .before .loop .inv .1
 
 returns : tie.Need-returns Inv-loop μ-loop
-returns c = let e = sym (left-end (c .before .before .before .before .before .before .before .before .before .before .before .before .before .before .before .before .before .before .before .args .inputs .now) (c .before .before .before .before .before .before .before .before .before .before .before .before .before .before .before .before .before .before .before .args .p .now) (length (c .before .before .before .before .before .before .before .before .before .before .before .before .before .before .before .before .before .before .before .args .path .now)) (c .before .before .before .before .before .before .before .before .before .before .before .before .before .before .before .before .before .before .before .args .rooms .now) (c .before .before .before .before .before .before .before .before .before .before .before .before .before .before .before .before .before .before .before .args .budgets .now) (c .before .before .before .before .before .before .before .before .before .before .before .before .before .before .before .before .before .before .before .args .flags .now) (c .before .before .before .before .before .before .before .before .before .before .before .before .before .before .before .before .before .before .before .args .values .now) (seen (c .before .before .before .before .before .before .before .before .before .before .before .before .before .before .before .before .before .before .before .args .p .now) (c .before .loop .r) (c .before .loop .regs) (c .before .loop .path)) (c .before .loop .i) (c .loop-test .left)) ∙ c .before .loop .inv .2 ∙ left-start (c .before .before .before .before .before .before .before .before .before .before .before .before .before .before .before .before .before .before .before .args .inputs .now) (c .before .before .before .before .before .before .before .before .before .before .before .before .before .before .before .before .before .before .before .args .p .now) (length (c .before .before .before .before .before .before .before .before .before .before .before .before .before .before .before .before .before .before .before .args .path .now)) (c .before .before .before .before .before .before .before .before .before .before .before .before .before .before .before .before .before .before .before .args .rooms .now) (c .before .before .before .before .before .before .before .before .before .before .before .before .before .before .before .before .before .before .before .args .budgets .now) (c .before .before .before .before .before .before .before .before .before .before .before .before .before .before .before .before .before .before .before .args .flags .now) (c .before .before .before .before .before .before .before .before .before .before .before .before .before .before .before .before .before .before .before .args .values .now) (c .before .before .before .before .before .before .before .before .before .before .before .before .before .before .before .before .before .before .before .args .regs .now) _ (c .before .before .before .before .before .before .before .before .before .before .before .before .before .before .before .before .before .before .before .args .path .now) _ (c .before .before .before .before .before .before .run .result) (c .before .before .before .before .before .before .before .before .before .before .room-at .result) (c .before .before .before .before .before .before .before .budget-at .result) refl (c .before .before .before .before .before .before .before .before .before .before .room-at .ensures .0) (c .before .before .before .before .before .before .before .before .before .before .room-at .ensures .1) (c .before .before .before .before .before .before .before .budget-at .ensures) (c .before .before .before .before .before .before .run .ensures .0) (c .before .before .before .before .before .before .run .ensures .1 .0) in
-    (ap (λ (x : Played). x .reply) e, (ap (λ (x : Played). x .path) e, demand (c .before .before .before .before .before .before .before .before .before .before .before .before .before .before .before .before .before .before .before .args .inputs .now) (c .before .before .before .before .before .before .before .before .before .before .before .before .before .before .before .before .before .before .before .args .p .now) (c .before .before .before .before .before .before .before .before .before .before .before .before .before .before .before .before .before .before .before .args .path .now) (c .before .before .before .before .before .before .before .before .before .before .before .before .before .before .before .before .before .before .before .args .rooms .now) (c .before .before .before .before .before .before .before .before .before .before .before .before .before .before .before .before .before .before .before .args .budgets .now) (c .before .before .before .before .before .before .before .before .before .before .before .before .before .before .before .before .before .before .before .args .flags .now) (c .before .before .before .before .before .before .before .before .before .before .before .before .before .before .before .before .before .before .before .args .values .now) (c .before .before .before .before .before .before .before .before .before .before .before .before .before .before .before .before .before .before .before .args .regs .now) _ (ap (λ (x : Played). x .reply) e)))
+returns c =
+    let args = c .before .before .before .before .before .before .before .before .before .before .before .before .before .before .before .before .before .before .before .args in
+    let room-at = c .before .before .before .before .before .before .before .before .before .before .room-at in
+    let budget-at = c .before .before .before .before .before .before .before .budget-at in
+    let run = c .before .before .before .before .before .before .run in
+    let loop = c .before .loop in
+    let e =
+    sym (left-end (args .inputs .now) (args .p .now) (length (args .path .now)) (args .rooms .now) (args .budgets .now) (args .flags .now) (args .values .now)
+    (seen (args .p .now) (loop .r) (loop .regs) (loop .path)) (loop .i) (c .loop-test .left))
+    ∙ loop .inv .2
+    ∙ left-start (args .inputs .now) (args .p .now) (length (args .path .now)) (args .rooms .now) (args .budgets .now) (args .flags .now)
+    (args .values .now) (args .regs .now) _ (args .path .now) _ (run .result) (room-at .result) (budget-at .result) refl (room-at .ensures .0)
+    (room-at .ensures .1) (budget-at .ensures) (run .ensures .0) (run .ensures .1 .0) in (
+      ap (λ (x : Played). x .reply) e,
+      (
+        ap (λ (x : Played). x .path) e,
+        demand (args .inputs .now) (args .p .now) (args .path .now) (args .rooms .now) (args .budgets .now) (args .flags .now) (args .values .now)
+            (args .regs .now) _ (ap (λ (x : Played). x .reply) e),
+      ),
+    )
 
 pub play-spec : {M : Type 1} → statement M
 play-spec =

@@ -19,7 +19,14 @@ replied-requires c κs = search needs
 
 returns : tie.Need-returns
 unfolding result-at
-returns c = finished-is [] (c .before .before .before .before .before .before .args .p .now) (c .before .before .before .before .before .before .args .done) (c .before .before .before .before .before .before .args .code) (c .before .before .word .result) (c .before .value-at .result) (c .before .before .before .fresh .result) (c .before .before .before .before .before .before .args .regs .now) (c .replied .ensures) (c .before .value-at .ensures) (c .before .before .word .ensures .0) (c .before .before .before .before .before .before .pre) (c .before .before .before .fresh .ensures)
+returns c =
+    let args = c .before .before .before .before .before .before .args in
+    let pre = c .before .before .before .before .before .before .pre in
+    let fresh = c .before .before .before .fresh in
+    let word = c .before .before .word in
+    let value-at = c .before .value-at in
+    finished-is [] (args .p .now) (args .done) (args .code) (word .result) (value-at .result) (fresh .result) (args .regs .now) (c .replied .ensures)
+    (value-at .ensures) (word .ensures .0) pre (fresh .ensures)
 
 pub finished-spec : {M : Type 1} → statement M
 finished-spec =

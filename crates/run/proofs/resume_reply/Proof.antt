@@ -11,7 +11,16 @@ refusal-requires : tie.Need-refusal-requires
 refusal-requires c κs = search needs
 
 returns : tie.Need-returns
-returns c = (refused-is (c .before .before .before .before .before .args .p .now) 1 (c .before .before .before .before .before .args .state) (state-of (c .before .before .before .before .before .args .state)) (c .before .before .before .before .before .args .regs .now) (c .refusal .ensures) refl ∙ resume-1 (c .before .before .before .before .before .args .inputs .now) (c .before .before .before .before .before .args .p .now) (c .before .before .before .before .before .args .room) (c .before .before .before .before .before .args .budget) (c .before .before .before .before .before .args .regs .now) (supplied-of (c .before .before .before .before .before .args .supplied)) (state-of (c .before .before .before .before .before .args .state)) (c .before .if1 .taken), (refused-plain (c .before .before .before .before .before .args .p .now) (c .before .before .before .before .before .args .room) 1 (c .before .before .before .before .before .args .state) (c .refusal .ensures) (λ z. omega arith), refused-back 1 (c .before .before .before .before .before .args .state) (c .refusal .ensures)))
+returns c =
+    let args = c .before .before .before .before .before .args in (
+      refused-is (args .p .now) 1 (args .state) (state-of (args .state)) (args .regs .now) (c .refusal .ensures) refl
+          ∙ resume-1 (args .inputs .now) (args .p .now) (args .room) (args .budget) (args .regs .now) (supplied-of (args .supplied)) (state-of (args .state))
+          (c .before .if1 .taken),
+      (
+        refused-plain (args .p .now) (args .room) 1 (args .state) (c .refusal .ensures) (λ z. omega arith),
+        refused-back 1 (args .state) (c .refusal .ensures),
+      ),
+    )
 
 unfit-requires : tie.Need-unfit-requires
 unfit-requires c κs = search needs
@@ -23,7 +32,19 @@ same-length : tie.Need-same-length
 same-length c = search needs
 
 returns-2 : tie.Need-returns-2
-returns-2 c = (refused-is (c .before .before .before .before .before .before .before .before .args .p .now) 5 (c .before .before .before .before .before .before .before .before .args .state) (state-of (c .before .before .before .before .before .before .before .before .args .state)) (c .before .before .before .before .before .before .before .before .args .regs .now) (c .refusal2 .ensures) refl ∙ resume-5 (c .before .before .before .before .before .before .before .before .args .inputs .now) (c .before .before .before .before .before .before .before .before .args .p .now) (c .before .before .before .before .before .before .before .before .args .room) (c .before .before .before .before .before .before .before .before .args .budget) (c .before .before .before .before .before .before .before .before .args .regs .now) (supplied-of (c .before .before .before .before .before .before .before .before .args .supplied)) (state-of (c .before .before .before .before .before .before .before .before .args .state)) (c .before .before .before .before .if1 .left) (c .before .before .before .before .before .before .before .before .pre) (sym (c .before .before .unfit .ensures) ∙ c .before .if2 .taken), (refused-plain (c .before .before .before .before .before .before .before .before .args .p .now) (c .before .before .before .before .before .before .before .before .args .room) 5 (c .before .before .before .before .before .before .before .before .args .state) (c .refusal2 .ensures) (λ z. omega arith), refused-back 5 (c .before .before .before .before .before .before .before .before .args .state) (c .refusal2 .ensures)))
+returns-2 c =
+    let args = c .before .before .before .before .before .before .before .before .args in
+    let pre = c .before .before .before .before .before .before .before .before .pre in
+    let if1 = c .before .before .before .before .if1 in
+    let unfit = c .before .before .unfit in (
+      refused-is (args .p .now) 5 (args .state) (state-of (args .state)) (args .regs .now) (c .refusal2 .ensures) refl
+          ∙ resume-5 (args .inputs .now) (args .p .now) (args .room) (args .budget) (args .regs .now) (supplied-of (args .supplied)) (state-of (args .state))
+          (if1 .left) pre (sym (unfit .ensures) ∙ c .before .if2 .taken),
+      (
+        refused-plain (args .p .now) (args .room) 5 (args .state) (c .refusal2 .ensures) (λ z. omega arith),
+        refused-back 5 (args .state) (c .refusal2 .ensures),
+      ),
+    )
 
 stale-requires : tie.Need-stale-requires
 stale-requires c κs = search needs
@@ -35,7 +56,21 @@ same-length-2 : tie.Need-same-length-2
 same-length-2 c = search needs
 
 returns-3 : tie.Need-returns-3
-returns-3 c = (refused-is (c .before .before .before .before .before .before .before .before .before .before .before .args .p .now) 11 (c .before .before .before .before .before .before .before .before .before .before .before .args .state) (state-of (c .before .before .before .before .before .before .before .before .before .before .before .args .state)) (c .before .before .before .before .before .before .before .before .before .before .before .args .regs .now) (c .refusal3 .ensures) refl ∙ resume-11 (c .before .before .before .before .before .before .before .before .before .before .before .args .inputs .now) (c .before .before .before .before .before .before .before .before .before .before .before .args .p .now) (c .before .before .before .before .before .before .before .before .before .before .before .args .room) (c .before .before .before .before .before .before .before .before .before .before .before .args .budget) (c .before .before .before .before .before .before .before .before .before .before .before .args .regs .now) (supplied-of (c .before .before .before .before .before .before .before .before .before .before .before .args .supplied)) (state-of (c .before .before .before .before .before .before .before .before .before .before .before .args .state)) (c .before .before .before .before .before .before .before .if1 .left) (c .before .before .before .before .before .before .before .before .before .before .before .pre) (sym (c .before .before .before .before .before .unfit .ensures) ∙ c .before .before .before .before .if2 .left) (sym (c .before .before .stale .ensures) ∙ c .before .if3 .taken), (refused-plain (c .before .before .before .before .before .before .before .before .before .before .before .args .p .now) (c .before .before .before .before .before .before .before .before .before .before .before .args .room) 11 (c .before .before .before .before .before .before .before .before .before .before .before .args .state) (c .refusal3 .ensures) (λ z. omega arith), refused-back 11 (c .before .before .before .before .before .before .before .before .before .before .before .args .state) (c .refusal3 .ensures)))
+returns-3 c =
+    let args = c .before .before .before .before .before .before .before .before .before .before .before .args in
+    let pre = c .before .before .before .before .before .before .before .before .before .before .before .pre in
+    let if1 = c .before .before .before .before .before .before .before .if1 in
+    let unfit = c .before .before .before .before .before .unfit in
+    let if2 = c .before .before .before .before .if2 in
+    let stale = c .before .before .stale in (
+      refused-is (args .p .now) 11 (args .state) (state-of (args .state)) (args .regs .now) (c .refusal3 .ensures) refl
+          ∙ resume-11 (args .inputs .now) (args .p .now) (args .room) (args .budget) (args .regs .now) (supplied-of (args .supplied)) (state-of (args .state))
+          (if1 .left) pre (sym (unfit .ensures) ∙ if2 .left) (sym (stale .ensures) ∙ c .before .if3 .taken),
+      (
+        refused-plain (args .p .now) (args .room) 11 (args .state) (c .refusal3 .ensures) (λ z. omega arith),
+        refused-back 11 (args .state) (c .refusal3 .ensures),
+      ),
+    )
 
 supply-requires : tie.Need-supply-requires
 supply-requires c κs = search needs
@@ -47,7 +82,27 @@ same-length-3 : tie.Need-same-length-3
 same-length-3 c = search needs
 
 returns-4 : tie.Need-returns-4
-returns-4 c = (c .before .before .steps .ensures .0 ∙ resume-goes (c .before .before .before .before .before .before .before .before .before .before .before .before .before .before .before .before .args .inputs .now) (c .before .before .before .before .before .before .before .before .before .before .before .before .before .before .before .before .args .p .now) (c .before .before .before .before .before .before .before .before .before .before .before .before .before .before .before .before .args .room) (c .before .before .before .before .before .before .before .before .before .before .before .before .before .before .before .before .args .budget) (c .before .before .before .before .before .before .before .before .before .before .before .before .before .before .before .before .args .regs .now) (supplied-of (c .before .before .before .before .before .before .before .before .before .before .before .before .before .before .before .before .args .supplied)) (state-of (c .before .before .before .before .before .before .before .before .before .before .before .before .before .before .before .before .args .state)) (kept-values (c .before .before .before .before .supply .result)) (c .before .before .before .before .supply .ensures) (c .before .before .before .before .before .before .before .before .before .before .before .before .if1 .left) (c .before .before .before .before .before .before .before .before .before .before .before .before .before .before .before .before .pre) (sym (c .before .before .before .before .before .before .before .before .before .before .unfit .ensures) ∙ c .before .before .before .before .before .before .before .before .before .if2 .left) (sym (c .before .before .before .before .before .before .before .stale .ensures) ∙ c .before .before .before .before .before .before .if3 .left), (steps-writable (c .before .before .before .before .before .before .before .before .before .before .before .before .before .before .before .before .args .inputs .now) (c .before .before .before .before .before .before .before .before .before .before .before .before .before .before .before .before .args .p .now) (c .before .before .before .before .before .before .before .before .before .before .before .before .before .before .before .before .args .room) (c .before .before .before .before .before .before .before .before .before .before .before .before .before .before .before .before .args .budget) (c .before .before .before .before .before .before .before .before .before .before .before .before .before .before .before .before .args .state .position) (kept-values (c .before .before .before .before .supply .result)) (c .before .before .before .before .before .before .before .before .before .before .before .before .before .before .before .before .args .regs .now) _ (c .before .before .steps .result) (c .before .before .before .before .before .before .before .before .before .before .before .before .before .before .before .before .pre) (c .before .before .before .before .before .before .before .before .before .before .before .before .if1 .left) (c .before .before .steps .ensures .0) (c .before .before .steps .ensures .1), steps-back (c .before .before .before .before .before .before .before .before .before .before .before .before .before .before .before .before .args .inputs .now) (c .before .before .before .before .before .before .before .before .before .before .before .before .before .before .before .before .args .p .now) (c .before .before .before .before .before .before .before .before .before .before .before .before .before .before .before .before .args .budget) (c .before .before .before .before .before .before .before .before .before .before .before .before .before .before .before .before .args .state .position) (kept-values (c .before .before .before .before .supply .result)) (c .before .before .before .before .before .before .before .before .before .before .before .before .before .before .before .before .args .regs .now) _ (c .before .before .steps .result) (c .before .before .before .before .before .before .before .before .before .before .before .before .before .before .before .before .args .state) (c .before .before .steps .ensures .0)))
+returns-4 c =
+    let args = c .before .before .before .before .before .before .before .before .before .before .before .before .before .before .before .before .args in
+    let pre = c .before .before .before .before .before .before .before .before .before .before .before .before .before .before .before .before .pre in
+    let if1 = c .before .before .before .before .before .before .before .before .before .before .before .before .if1 in
+    let unfit = c .before .before .before .before .before .before .before .before .before .before .unfit in
+    let if2 = c .before .before .before .before .before .before .before .before .before .if2 in
+    let stale = c .before .before .before .before .before .before .before .stale in
+    let if3 = c .before .before .before .before .before .before .if3 in
+    let supply = c .before .before .before .before .supply in
+    let steps = c .before .before .steps in
+    let the-kept-values = kept-values (supply .result) in (
+      steps .ensures .0
+          ∙ resume-goes (args .inputs .now) (args .p .now) (args .room) (args .budget) (args .regs .now) (supplied-of (args .supplied)) (state-of (args .state))
+          the-kept-values (supply .ensures) (if1 .left) pre (sym (unfit .ensures) ∙ if2 .left) (sym (stale .ensures) ∙ if3 .left),
+      (
+        steps-writable (args .inputs .now) (args .p .now) (args .room) (args .budget) (args .state .position) the-kept-values (args .regs .now) _
+            (steps .result) pre (if1 .left) (steps .ensures .0) (steps .ensures .1),
+        steps-back (args .inputs .now) (args .p .now) (args .budget) (args .state .position) the-kept-values (args .regs .now) _ (steps .result) (args .state)
+            (steps .ensures .0),
+      ),
+    )
 
 pub resume-reply-spec : {M : Type 1} → statement M
 resume-reply-spec =

@@ -12,7 +12,16 @@ refusal-requires : tie.Need-refusal-requires
 refusal-requires c κs = search needs
 
 returns : tie.Need-returns
-returns c = (refused-is (c .before .before .before .before .before .args .p .now) 1 (c .before .before .before .before .before .args .state) fresh (c .before .before .before .before .before .args .regs .now) (c .refusal .ensures) (c .before .before .before .before .before .pre .1) ∙ run-1 (c .before .before .before .before .before .args .inputs .now) (c .before .before .before .before .before .args .p .now) (c .before .before .before .before .before .args .room) (c .before .before .before .before .before .args .budget) (c .before .before .before .before .before .args .regs .now) (c .before .if1 .taken), (refused-plain (c .before .before .before .before .before .args .p .now) (c .before .before .before .before .before .args .room) 1 (c .before .before .before .before .before .args .state) (c .refusal .ensures) (λ z. omega arith), refused-back 1 (c .before .before .before .before .before .args .state) (c .refusal .ensures)))
+returns c =
+    let args = c .before .before .before .before .before .args in
+    let pre = c .before .before .before .before .before .pre in (
+      refused-is (args .p .now) 1 (args .state) fresh (args .regs .now) (c .refusal .ensures) (pre .1)
+          ∙ run-1 (args .inputs .now) (args .p .now) (args .room) (args .budget) (args .regs .now) (c .before .if1 .taken),
+      (
+        refused-plain (args .p .now) (args .room) 1 (args .state) (c .refusal .ensures) (λ z. omega arith),
+        refused-back 1 (args .state) (c .refusal .ensures),
+      ),
+    )
 
 unfit-requires : tie.Need-unfit-requires
 unfit-requires c κs = search needs
@@ -24,7 +33,19 @@ same-length : tie.Need-same-length
 same-length c = search needs
 
 returns-2 : tie.Need-returns-2
-returns-2 c = (refused-is (c .before .before .before .before .before .before .before .before .args .p .now) 5 (c .before .before .before .before .before .before .before .before .args .state) fresh (c .before .before .before .before .before .before .before .before .args .regs .now) (c .refusal2 .ensures) (c .before .before .before .before .before .before .before .before .pre .1) ∙ run-5 (c .before .before .before .before .before .before .before .before .args .inputs .now) (c .before .before .before .before .before .before .before .before .args .p .now) (c .before .before .before .before .before .before .before .before .args .room) (c .before .before .before .before .before .before .before .before .args .budget) (c .before .before .before .before .before .before .before .before .args .regs .now) (c .before .before .before .before .if1 .left) (c .before .before .before .before .before .before .before .before .pre .0) (sym (c .before .before .unfit .ensures) ∙ c .before .if2 .taken), (refused-plain (c .before .before .before .before .before .before .before .before .args .p .now) (c .before .before .before .before .before .before .before .before .args .room) 5 (c .before .before .before .before .before .before .before .before .args .state) (c .refusal2 .ensures) (λ z. omega arith), refused-back 5 (c .before .before .before .before .before .before .before .before .args .state) (c .refusal2 .ensures)))
+returns-2 c =
+    let args = c .before .before .before .before .before .before .before .before .args in
+    let pre = c .before .before .before .before .before .before .before .before .pre in
+    let if1 = c .before .before .before .before .if1 in
+    let unfit = c .before .before .unfit in (
+      refused-is (args .p .now) 5 (args .state) fresh (args .regs .now) (c .refusal2 .ensures) (pre .1)
+          ∙ run-5 (args .inputs .now) (args .p .now) (args .room) (args .budget) (args .regs .now) (if1 .left) (pre .0)
+          (sym (unfit .ensures) ∙ c .before .if2 .taken),
+      (
+        refused-plain (args .p .now) (args .room) 5 (args .state) (c .refusal2 .ensures) (λ z. omega arith),
+        refused-back 5 (args .state) (c .refusal2 .ensures),
+      ),
+    )
 
 steps-requires : tie.Need-steps-requires
 steps-requires c κs = search needs
@@ -33,7 +54,23 @@ same-length-2 : tie.Need-same-length-2
 same-length-2 c = search needs
 
 returns-3 : tie.Need-returns-3
-returns-3 c = (c .before .before .steps .ensures .0 ∙ run-goes (c .before .before .before .before .before .before .before .before .before .before .before .before .args .inputs .now) (c .before .before .before .before .before .before .before .before .before .before .before .before .args .p .now) (c .before .before .before .before .before .before .before .before .before .before .before .before .args .room) (c .before .before .before .before .before .before .before .before .before .before .before .before .args .budget) (c .before .before .before .before .before .before .before .before .before .before .before .before .args .regs .now) (kept-values (c .before .before .before .before .before .before .before .before .before .before .before .before .args .state .kept)) (ap (λ (x : Machine.State). x .kept) (c .before .before .before .before .before .before .before .before .before .before .before .before .pre .1)) (c .before .before .before .before .before .before .before .before .if1 .left) (c .before .before .before .before .before .before .before .before .before .before .before .before .pre .0) (sym (c .before .before .before .before .before .before .unfit .ensures) ∙ c .before .before .before .before .before .if2 .left), (steps-writable (c .before .before .before .before .before .before .before .before .before .before .before .before .args .inputs .now) (c .before .before .before .before .before .before .before .before .before .before .before .before .args .p .now) (c .before .before .before .before .before .before .before .before .before .before .before .before .args .room) (c .before .before .before .before .before .before .before .before .before .before .before .before .args .budget) 0 (kept-values (c .before .before .before .before .before .before .before .before .before .before .before .before .args .state .kept)) (c .before .before .before .before .before .before .before .before .before .before .before .before .args .regs .now) _ (c .before .before .steps .result) (c .before .before .before .before .before .before .before .before .before .before .before .before .pre .0) (c .before .before .before .before .before .before .before .before .if1 .left) (c .before .before .steps .ensures .0) (c .before .before .steps .ensures .1), steps-back (c .before .before .before .before .before .before .before .before .before .before .before .before .args .inputs .now) (c .before .before .before .before .before .before .before .before .before .before .before .before .args .p .now) (c .before .before .before .before .before .before .before .before .before .before .before .before .args .budget) 0 (kept-values (c .before .before .before .before .before .before .before .before .before .before .before .before .args .state .kept)) (c .before .before .before .before .before .before .before .before .before .before .before .before .args .regs .now) _ (c .before .before .steps .result) (c .before .before .before .before .before .before .before .before .before .before .before .before .args .state) (c .before .before .steps .ensures .0)))
+returns-3 c =
+    let args = c .before .before .before .before .before .before .before .before .before .before .before .before .args in
+    let pre = c .before .before .before .before .before .before .before .before .before .before .before .before .pre in
+    let if1 = c .before .before .before .before .before .before .before .before .if1 in
+    let unfit = c .before .before .before .before .before .before .unfit in
+    let if2 = c .before .before .before .before .before .if2 in
+    let steps = c .before .before .steps in (
+      steps .ensures .0
+          ∙ run-goes (args .inputs .now) (args .p .now) (args .room) (args .budget) (args .regs .now) (kept-values (args .state .kept))
+          (ap (λ (x : Machine.State). x .kept) (pre .1)) (if1 .left) (pre .0) (sym (unfit .ensures) ∙ if2 .left),
+      (
+        steps-writable (args .inputs .now) (args .p .now) (args .room) (args .budget) 0 (kept-values (args .state .kept)) (args .regs .now) _ (steps .result)
+            (pre .0) (if1 .left) (steps .ensures .0) (steps .ensures .1),
+        steps-back (args .inputs .now) (args .p .now) (args .budget) 0 (kept-values (args .state .kept)) (args .regs .now) _ (steps .result) (args .state)
+            (steps .ensures .0),
+      ),
+    )
 
 pub run-reply-spec : {M : Type 1} → statement M
 run-reply-spec =

@@ -13,7 +13,10 @@ word-requires c κs = search needs
 
 returns : tie.Need-returns
 unfolding code-count
-returns c = stale-past (c .before .before .before .before .before .args .inputs .now) (c .before .before .before .before .before .args .p .now) (c .before .before .before .before .before .args .regs .now) (c .before .before .before .before .before .args .state .position) (kept-values (c .before .before .before .before .before .args .state .kept)) (pending-of (c .before .before .before .before .before .args .state .pending)) (supplied-of (c .before .before .before .before .before .args .supplied)) (omega (arith, c .before .word .ensures .0))
+returns c =
+    let args = c .before .before .before .before .before .args in
+    stale-past (args .inputs .now) (args .p .now) (args .regs .now) (args .state .position) (kept-values (args .state .kept))
+    (pending-of (args .state .pending)) (supplied-of (args .supplied)) (omega (arith, c .before .word .ensures .0))
 
 effect-at-requires : tie.Need-effect-at-requires
 effect-at-requires c κs = search needs
@@ -23,7 +26,13 @@ other-question-requires c κs = search needs
 
 returns-2 : tie.Need-returns-2
 unfolding code-count
-returns-2 c = c .other-question .ensures ∙ stale-is (c .before .before .before .before .before .before .before .before .args .inputs .now) (c .before .before .before .before .before .before .before .before .args .p .now) (c .before .before .before .before .before .before .before .before .args .regs .now) (c .before .before .before .before .before .before .before .before .args .state .position) (kept-values (c .before .before .before .before .before .before .before .before .args .state .kept)) (pending-of (c .before .before .before .before .before .before .before .before .args .state .pending)) (supplied-of (c .before .before .before .before .before .before .before .before .args .supplied)) (c .before .effect-at .result) (omega (arith, c .before .before .before .before .word .ensures .0)) (c .before .effect-at .ensures)
+returns-2 c =
+    let args = c .before .before .before .before .before .before .before .before .args in
+    let word = c .before .before .before .before .word in
+    let effect-at = c .before .effect-at in
+    c .other-question .ensures
+    ∙ stale-is (args .inputs .now) (args .p .now) (args .regs .now) (args .state .position) (kept-values (args .state .kept))
+    (pending-of (args .state .pending)) (supplied-of (args .supplied)) (effect-at .result) (omega (arith, word .ensures .0)) (effect-at .ensures)
 
 pub stale-spec : {M : Type 1} → statement M
 stale-spec =

@@ -35,7 +35,16 @@ same-length c = c .before .before .before .before .loop .inv .1
 
 returns : tie.Need-returns Inv-loop μ-loop
 unfolding code-count
-returns c = (end-reply (c .before .before .before .before .before .before .before .before .before .before .args .inputs .now) (c .before .before .before .before .before .before .before .before .before .before .args .p .now) (c .before .before .before .before .loop .left) (c .before .before .before .before .loop .done) (c .before .before .before .before .loop .at) (c .before .before .before .before .before .before .word .result) (kept-values (c .before .before .before .before .loop .k)) (c .before .before .before .before .loop .regs) (c .finished .ensures) (c .before .before .before .before .before .before .word .ensures .0) (c .before .before .if1 .taken) ∙ c .before .before .before .before .loop .inv .2, finished-place (c .before .before .before .before .before .before .before .before .before .before .args .inputs .now) (c .before .before .before .before .before .before .before .before .before .before .args .p .now) (c .before .before .before .before .loop .done) (c .before .before .before .before .loop .regs) (c .finished .ensures))
+returns c =
+    let args = c .before .before .before .before .before .before .before .before .before .before .args in
+    let word = c .before .before .before .before .before .before .word in
+    let loop = c .before .before .before .before .loop in
+    let if1 = c .before .before .if1 in (
+      end-reply (args .inputs .now) (args .p .now) (loop .left) (loop .done) (loop .at) (word .result) (kept-values (loop .k)) (loop .regs)
+          (c .finished .ensures) (word .ensures .0) (if1 .taken)
+          ∙ loop .inv .2,
+      finished-place (args .inputs .now) (args .p .now) (loop .done) (loop .regs) (c .finished .ensures),
+    )
 
 step-requires : tie.Need-step-requires Inv-loop μ-loop
 step-requires c κs = omega (arith, c .before .before .before .before .before .word .ensures .1)
@@ -51,7 +60,19 @@ same-length-2 c = c .before .before .before .before .step .kept .1 .1 .1 .0 ∙ 
 
 returns-2 : tie.Need-returns-2 Inv-loop μ-loop
 unfolding code-count
-returns-2 c = (stop-reply (c .before .before .before .before .before .before .before .before .before .before .before .before .before .before .args .inputs .now) (c .before .before .before .before .before .before .before .before .before .before .before .before .before .before .args .p .now) (c .before .before .before .before .before .before .before .before .loop .left) (c .before .before .before .before .before .before .before .before .loop .done) (c .before .before .before .before .before .before .before .before .loop .at) (c .before .before .before .before .before .before .before .before .before .before .word .result) (c .before .before .before .before .before .before .before .before .loop .k) (c .before .before .before .before .before .before .before .before .loop .regs) (c .before .before .before .before .before .before .before .before .before .fresh .result) (c .stopped .ensures) (c .before .before .before .before .before .before .before .before .before .before .word .ensures .0) (c .before .before .before .before .before .before .before .loop-test .taken) (omega arith) (c .before .before .before .before .before .before .before .before .before .fresh .ensures) (c .before .before .before .before .step .ensures) (not-next _ (c .before .match .keys2)) ∙ c .before .before .before .before .before .before .before .before .loop .inv .2, stop-place (c .before .before .before .before .before .before .before .before .before .before .before .before .before .before .args .inputs .now) (c .before .before .before .before .before .before .before .before .before .before .before .before .before .before .args .p .now) (c .before .before .before .before .before .before .before .before .loop .done) (c .before .before .before .before .before .before .before .before .loop .at) (c .before .before .before .before .before .before .before .before .before .before .word .result) (c .before .before .before .before .before .before .before .before .loop .k) (c .before .before .before .before .before .before .before .before .before .fresh .result) (c .stopped .ensures) (c .before .before .before .before .before .before .before .before .before .before .word .ensures .0) (omega arith) (c .before .before .before .before .step .ensures))
+returns-2 c =
+    let args = c .before .before .before .before .before .before .before .before .before .before .before .before .before .before .args in
+    let word = c .before .before .before .before .before .before .before .before .before .before .word in
+    let fresh = c .before .before .before .before .before .before .before .before .before .fresh in
+    let loop = c .before .before .before .before .before .before .before .before .loop in
+    let loop-test = c .before .before .before .before .before .before .before .loop-test in
+    let step = c .before .before .before .before .step in (
+      stop-reply (args .inputs .now) (args .p .now) (loop .left) (loop .done) (loop .at) (word .result) (loop .k) (loop .regs) (fresh .result)
+          (c .stopped .ensures) (word .ensures .0) (loop-test .taken) (omega arith) (fresh .ensures) (step .ensures) (not-next _ (c .before .match .keys2))
+          ∙ loop .inv .2,
+      stop-place (args .inputs .now) (args .p .now) (loop .done) (loop .at) (word .result) (loop .k) (fresh .result) (c .stopped .ensures)
+          (word .ensures .0) (omega arith) (step .ensures),
+    )
 
 sub-left : tie.Need-sub-left Inv-loop μ-loop
 sub-left c = omega arith
@@ -64,7 +85,20 @@ loop-less c = omega arith
 
 loop-again : tie.Need-loop-again Inv-loop μ-loop
 unfolding code-count
-loop-again c = (omega arith, c .before .before .before .before .before .step .kept .1 .1 .1 .0 ∙ c .before .before .before .before .before .before .before .before .before .loop .inv .1, next-reply (c .before .before .before .before .before .before .before .before .before .before .before .before .before .before .before .args .inputs .now) (c .before .before .before .before .before .before .before .before .before .before .before .before .before .before .before .args .p .now) (c .before .before .before .before .before .before .before .before .before .loop .left) (c .before .before .before .before .before .before .before .before .before .loop .done) (c .before .before .before .before .before .before .before .before .before .loop .at) (c .before .t .given .0 .0) (c .before .before .before .before .before .before .before .before .before .before .before .word .result) (kept-values (c .before .before .before .before .before .before .before .before .before .loop .k)) (c .before .before .before .before .before .before .before .before .before .loop .regs) (c .before .before .before .before .before .before .before .before .before .before .fresh .result) _ (c .before .before .before .before .before .before .before .before .loop-test .taken) (omega arith) (c .before .before .before .before .before .before .before .before .before .before .before .word .ensures .0) (c .before .before .before .before .before .before .before .before .before .before .fresh .ensures) (c .before .t .given .1) (c .before .before .before .before .before .step .ensures) ∙ c .before .before .before .before .before .before .before .before .before .loop .inv .2)
+loop-again c =
+    let args = c .before .before .before .before .before .before .before .before .before .before .before .before .before .before .before .args in
+    let word = c .before .before .before .before .before .before .before .before .before .before .before .word in
+    let fresh = c .before .before .before .before .before .before .before .before .before .before .fresh in
+    let loop = c .before .before .before .before .before .before .before .before .before .loop in
+    let loop-test = c .before .before .before .before .before .before .before .before .loop-test in
+    let step = c .before .before .before .before .before .step in
+    let t = c .before .t in (
+      omega arith,
+      step .kept .1 .1 .1 .0 ∙ loop .inv .1,
+      next-reply (args .inputs .now) (args .p .now) (loop .left) (loop .done) (loop .at) (t .given .0 .0) (word .result) (kept-values (loop .k))
+          (loop .regs) (fresh .result) _ (loop-test .taken) (omega arith) (word .ensures .0) (fresh .ensures) (t .given .1) (step .ensures)
+          ∙ loop .inv .2,
+    )
 
 finished-requires-2 : tie.Need-finished-requires-2 Inv-loop μ-loop
 unfolding code-count
@@ -75,7 +109,16 @@ same-length-3 c = c .before .before .before .before .loop .inv .1
 
 returns-3 : tie.Need-returns-3 Inv-loop μ-loop
 unfolding code-count
-returns-3 c = (end-reply (c .before .before .before .before .before .before .before .before .before .before .args .inputs .now) (c .before .before .before .before .before .before .before .before .before .before .args .p .now) (c .before .before .before .before .loop .left) (c .before .before .before .before .loop .done) (c .before .before .before .before .loop .at) (c .before .before .before .before .before .before .word .result) (kept-values (c .before .before .before .before .loop .k)) (c .before .before .before .before .loop .regs) (c .finished2 .ensures) (c .before .before .before .before .before .before .word .ensures .0) (c .before .before .if2 .taken) ∙ c .before .before .before .before .loop .inv .2, finished-place (c .before .before .before .before .before .before .before .before .before .before .args .inputs .now) (c .before .before .before .before .before .before .before .before .before .before .args .p .now) (c .before .before .before .before .loop .done) (c .before .before .before .before .loop .regs) (c .finished2 .ensures))
+returns-3 c =
+    let args = c .before .before .before .before .before .before .before .before .before .before .args in
+    let word = c .before .before .before .before .before .before .word in
+    let loop = c .before .before .before .before .loop in
+    let if2 = c .before .before .if2 in (
+      end-reply (args .inputs .now) (args .p .now) (loop .left) (loop .done) (loop .at) (word .result) (kept-values (loop .k)) (loop .regs)
+          (c .finished2 .ensures) (word .ensures .0) (if2 .taken)
+          ∙ loop .inv .2,
+      finished-place (args .inputs .now) (args .p .now) (loop .done) (loop .regs) (c .finished2 .ensures),
+    )
 
 replied-requires : tie.Need-replied-requires Inv-loop μ-loop
 replied-requires c κs = search needs
@@ -85,7 +128,15 @@ same-length-4 c = c .before .before .before .loop .inv .1
 
 returns-4 : tie.Need-returns-4 Inv-loop μ-loop
 unfolding code-count
-returns-4 c = (spent-reply (c .before .before .before .before .before .before .before .before .before .args .inputs .now) (c .before .before .before .before .before .before .before .before .before .args .p .now) (c .before .before .before .loop .left) (c .before .before .before .loop .done) (c .before .before .before .loop .at) (c .before .before .before .before .before .word .result) (c .before .before .before .loop .k) (c .before .before .before .loop .regs) (c .replied .ensures) (c .before .before .before .before .before .word .ensures .0) (omega arith) (omega arith) ∙ c .before .before .before .loop .inv .2, spent-place (c .before .before .before .before .before .before .before .before .before .args .inputs .now) (c .before .before .before .before .before .before .before .before .before .args .p .now) (c .before .before .before .loop .done) (c .before .before .before .loop .at) (c .before .before .before .loop .k) (c .replied .ensures))
+returns-4 c =
+    let args = c .before .before .before .before .before .before .before .before .before .args in
+    let word = c .before .before .before .before .before .word in
+    let loop = c .before .before .before .loop in (
+      spent-reply (args .inputs .now) (args .p .now) (loop .left) (loop .done) (loop .at) (word .result) (loop .k) (loop .regs) (c .replied .ensures)
+          (word .ensures .0) (omega arith) (omega arith)
+          ∙ loop .inv .2,
+      spent-place (args .inputs .now) (args .p .now) (loop .done) (loop .at) (loop .k) (c .replied .ensures),
+    )
 
 pub steps-spec : {M : Type 1} → statement M
 steps-spec =

@@ -63,19 +63,31 @@ slice-reshare-prefix-replay : tie.Need-slice-reshare-prefix-replay
 slice-reshare-prefix-replay c = search needs
 
 slice-aggregate-replay : tie.Need-slice-aggregate-replay
-slice-aggregate-replay c = sym (length-take-le (c .before .before .before .before .before .before .before .before .before .before .before .before .before .before .before .before .before .before .before .before .before .before .before .before .before .before .number .result) (c .before .before .before .before .before .before .before .before .before .before .before .before .read-bytes .last .1 .1 .0) (omega (arith, c .before .before .before .before .before .before .before .before .before .before .before .before .read-bytes .kept .1 .1 .0, c .before .before .before .before .before .before .before .before .before .before .before .before .before .before .before .before .before .before .before .if1 .left)))
+slice-aggregate-replay c =
+    let number = c .before .before .before .before .before .before .before .before .before .before .before .before .before .before .before .before .before .before .before .before .before .before .before .before .before .before .number in
+    let if1 = c .before .before .before .before .before .before .before .before .before .before .before .before .before .before .before .before .before .before .before .if1 in
+    let read-bytes = c .before .before .before .before .before .before .before .before .before .before .before .before .read-bytes in
+    sym (length-take-le (number .result) (read-bytes .last .1 .1 .0) (omega (arith, read-bytes .kept .1 .1 .0, if1 .left)))
 
 slice-reshare-prefix-replay-2 : tie.Need-slice-reshare-prefix-replay-2
 slice-reshare-prefix-replay-2 c = search needs
 
 slice-aggregate-replay-2 : tie.Need-slice-aggregate-replay-2
-slice-aggregate-replay-2 c = sym (length-take-le (c .before .before .before .before .before .before .before .before .before .before .before .before .before .before .before .before .before .before .before .before .before .before .before .before .before .number2 .result) (c .before .before .before .before .before .before .before .before .before .read-values .last .1 .1 .0) (omega (arith, c .before .before .before .before .before .before .before .before .before .read-values .kept .1 .1 .0, c .before .before .before .before .before .before .before .before .before .before .before .before .before .before .before .before .before .before .before .if2 .left)))
+slice-aggregate-replay-2 c =
+    let number2 = c .before .before .before .before .before .before .before .before .before .before .before .before .before .before .before .before .before .before .before .before .before .before .before .before .before .number2 in
+    let if2 = c .before .before .before .before .before .before .before .before .before .before .before .before .before .before .before .before .before .before .before .if2 in
+    let read-values = c .before .before .before .before .before .before .before .before .before .read-values in
+    sym (length-take-le (number2 .result) (read-values .last .1 .1 .0) (omega (arith, read-values .kept .1 .1 .0, if2 .left)))
 
 slice-relend-prefix-replay : tie.Need-slice-relend-prefix-replay
 slice-relend-prefix-replay c = search needs
 
 slice-aggregate-replay-3 : tie.Need-slice-aggregate-replay-3
-slice-aggregate-replay-3 c = sym (length-take-le (c .before .before .before .before .before .before .before .before .before .before .before .before .before .before .before .before .before .before .before .before .before .before .before .before .number3 .result) (c .before .before .before .before .before .before .read-values2 .last .1 .1 .0) (omega (arith, c .before .before .before .before .before .before .read-values2 .kept .1 .1 .0, c .before .before .before .before .before .before .before .before .before .before .before .before .before .before .before .before .before .before .before .if3 .left)))
+slice-aggregate-replay-3 c =
+    let number3 = c .before .before .before .before .before .before .before .before .before .before .before .before .before .before .before .before .before .before .before .before .before .before .before .before .number3 in
+    let if3 = c .before .before .before .before .before .before .before .before .before .before .before .before .before .before .before .before .before .before .before .if3 in
+    let read-values2 = c .before .before .before .before .before .before .read-values2 in
+    sym (length-take-le (number3 .result) (read-values2 .last .1 .1 .0) (omega (arith, read-values2 .kept .1 .1 .0, if3 .left)))
 
 replay-requires : tie.Need-replay-requires
 replay-requires c κs = search needs

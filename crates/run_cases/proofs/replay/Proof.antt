@@ -47,7 +47,16 @@ loop-less : tie.Need-loop-less Inv-loop μ-loop
 loop-less c = omega (arith, c .before .before .before .before .before .before .before .before .before .before .before .before .before .before .loop-test .taken)
 
 loop-again : tie.Need-loop-again Inv-loop μ-loop
-loop-again c = (omega (arith, c .before .before .before .before .before .before .before .before .before .before .before .before .before .before .loop-test .taken), ⊎-elim (λ w. omega arith) (λ w. omega arith) (c .before .before .before .before .before .if1 .came), c .before .before .before .before .before .before .before .before .before .before .before .one-call .kept .1 .1 .1 .1 .0 ∙ c .before .before .before .before .before .before .before .before .before .before .before .before .before .before .before .loop .inv .2, c .before .before .before .before .before .before .before .before .before .before .before .one-call .kept .1 .1 .1 .1 .1 .0 ∙ c .before .before .before .before .before .before .before .before .before .before .before .before .before .before .before .loop .inv .3)
+loop-again c =
+    let loop = c .before .before .before .before .before .before .before .before .before .before .before .before .before .before .before .loop in
+    let loop-test = c .before .before .before .before .before .before .before .before .before .before .before .before .before .before .loop-test in
+    let one-call = c .before .before .before .before .before .before .before .before .before .before .before .one-call in
+    let if1 = c .before .before .before .before .before .if1 in (
+      omega (arith, loop-test .taken),
+      ⊎-elim (λ w. omega arith) (λ w. omega arith) (if1 .came),
+      one-call .kept .1 .1 .1 .1 .0 ∙ loop .inv .2,
+      one-call .kept .1 .1 .1 .1 .1 .0 ∙ loop .inv .3,
+    )
 
 sub-t26 : tie.Need-sub-t26 Inv-loop μ-loop
 sub-t26 c = omega arith

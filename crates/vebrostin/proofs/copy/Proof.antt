@@ -37,7 +37,15 @@ loop-less : tie.Need-loop-less Inv-loop μ-loop
 loop-less c = omega arith
 
 loop-again : tie.Need-loop-again Inv-loop μ-loop
-loop-again c = (omega arith, length-set (c .before .before .loop .cells) (c .before .before .loop .i) _ ∙ c .before .before .loop .inv .1, ap (λ (x : List ℕ). set x (c .before .before .loop .i) (getD (c .before .before .before .args .b .now) (c .before .before .loop .i) 0)) (c .before .before .loop .inv .2) ∙ copied (c .before .before .before .args .b .now) (c .before .before .before .args .cells .now) (c .before .before .loop .i) (c .before .loop-test .taken) (c .before .before .before .pre))
+loop-again c =
+    let args = c .before .before .before .args in
+    let pre = c .before .before .before .pre in
+    let loop = c .before .before .loop in (
+      omega arith,
+      length-set (loop .cells) (loop .i) _ ∙ loop .inv .1,
+      ap (λ (x : List ℕ). set x (loop .i) (getD (args .b .now) (loop .i) 0)) (loop .inv .2)
+          ∙ copied (args .b .now) (args .cells .now) (loop .i) (c .before .loop-test .taken) pre,
+    )
 
 same-length : tie.Need-same-length Inv-loop μ-loop
 same-length c = c .before .loop .inv .1

@@ -48,7 +48,27 @@ value-in-requires-9 c κs = search needs
 
 -- src/lib.rt:141:1
 returns : tie.Need-returns
-returns c = rw (c .before .before .before .before .before .before .before .before .before .cell .ensures, c .before .before .before .before .before .before .before .before .value-in .ensures, c .before .before .before .before .before .before .before .value-in2 .ensures, c .before .before .before .before .before .before .value-in3 .ensures, c .before .before .before .before .before .value-in4 .ensures, c .before .before .before .before .value-in5 .ensures, c .before .before .before .value-in6 .ensures, c .before .before .value-in7 .ensures, c .before .value-in8 .ensures, c .value-in9 .ensures)
+returns c =
+    let cell = c .before .before .before .before .before .before .before .before .before .cell in
+    let value-in = c .before .before .before .before .before .before .before .before .value-in in
+    let value-in2 = c .before .before .before .before .before .before .before .value-in2 in
+    let value-in3 = c .before .before .before .before .before .before .value-in3 in
+    let value-in4 = c .before .before .before .before .before .value-in4 in
+    let value-in5 = c .before .before .before .before .value-in5 in
+    let value-in6 = c .before .before .before .value-in6 in
+    let value-in7 = c .before .before .value-in7 in
+    rw (
+      cell .ensures,
+      value-in .ensures,
+      value-in2 .ensures,
+      value-in3 .ensures,
+      value-in4 .ensures,
+      value-in5 .ensures,
+      value-in6 .ensures,
+      value-in7 .ensures,
+      c .before .value-in8 .ensures,
+      c .value-in9 .ensures,
+    )
 
 pub kept-in-spec : {M : Type 1} → statement M
 kept-in-spec =

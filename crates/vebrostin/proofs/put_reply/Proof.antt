@@ -81,15 +81,44 @@ same-length c = search needs
 -- src/lib.rt:231:1
 returns : tie.Need-returns
 returns c =
-    let s = c .before .before .before .before .before .before .before .before .before .before .before .before .before .before .before .before .before .before .before .args .state in
+    let args = c .before .before .before .before .before .before .before .before .before .before .before .before .before .before .before .before .before .before .before .args in
+    let question-cells = c .before .before .before .before .before .before .before .before .before .before .before .before .before .before .before .before .question-cells in
+    let kept-count = c .before .before .before .before .before .before .before .before .before .before .before .before .before .before .before .kept-count in
+    let kept-cell = c .before .before .before .before .before .before .before .before .before .before .before .before .before .before .kept-cell in
+    let kept-cell2 = c .before .before .before .before .before .before .before .before .before .before .before .before .before .kept-cell2 in
+    let kept-cell3 = c .before .before .before .before .before .before .before .before .before .before .before .before .kept-cell3 in
+    let kept-cell4 = c .before .before .before .before .before .before .before .before .before .before .before .kept-cell4 in
+    let kept-cell5 = c .before .before .before .before .before .before .before .before .before .before .kept-cell5 in
+    let kept-cell6 = c .before .before .before .before .before .before .before .before .before .kept-cell6 in
+    let kept-cell7 = c .before .before .before .before .before .before .before .before .kept-cell7 in
+    let kept-cell8 = c .before .before .before .before .before .before .before .kept-cell8 in
+    let kept-cell9 = c .before .before .before .before .before .before .kept-cell9 in
+    let value-of = c .before .before .before .before .before .value-of in
+    let copy = c .before .before .copy in
+    let s = args .state in
     let k = s .kept in
     let q = pending-of (s .pending) in
-    let shown = c .before .before .copy .ensures
-    ∙ ap (λ (x : List ℕ). x ++ drop 16 (c .before .before .before .before .before .before .before .before .before .before .before .before .before .before .before .before .before .before .before .args .cells .now))
-    (reply-cells k q (s .position) (c .before .before .before .before .before .before .before .before .before .before .before .before .before .before .before .before .before .before .before .args .count) _ _ _ _ _ _ _ _ _ _ _ _ _ _ (c .before .before .before .before .before .before .before .before .before .before .before .before .before .before .before .kept-count .ensures) (c .before .before .before .before .before .before .before .before .before .before .before .before .before .before .kept-cell .ensures .0) (c .before .before .before .before .before .before .before .before .before .before .before .before .before .kept-cell2 .ensures .0) (c .before .before .before .before .before .before .before .before .before .before .before .before .kept-cell3 .ensures .0) (c .before .before .before .before .before .before .before .before .before .before .before .kept-cell4 .ensures .0) (c .before .before .before .before .before .before .before .before .before .before .kept-cell5 .ensures .0) (c .before .before .before .before .before .before .before .before .before .kept-cell6 .ensures .0) (c .before .before .before .before .before .before .before .before .kept-cell7 .ensures .0) (c .before .before .before .before .before .before .before .kept-cell8 .ensures .0) (c .before .before .before .before .before .before .kept-cell9 .ensures .0) (c .before .before .before .before .before .before .before .before .before .before .before .before .before .before .before .before .question-cells .ensures .0)
-    ∙ ap (λ (v : ℕ). state-cells (state-of s) ++ (c .before .before .before .before .before .before .before .before .before .before .before .before .before .before .before .before .before .before .before .args .count ∷ v ∷ [])) (c .before .before .before .before .before .value-of .ensures)) in
-    let held : Held (places k) = (c .before .before .before .before .before .before .before .before .before .before .before .before .before .before .kept-cell .ensures .1, (c .before .before .before .before .before .before .before .before .before .before .before .before .before .kept-cell2 .ensures .1, (c .before .before .before .before .before .before .before .before .before .before .before .before .kept-cell3 .ensures .1, (c .before .before .before .before .before .before .before .before .before .before .before .kept-cell4 .ensures .1, (c .before .before .before .before .before .before .before .before .before .before .kept-cell5 .ensures .1, (c .before .before .before .before .before .before .before .before .before .kept-cell6 .ensures .1, (c .before .before .before .before .before .before .before .before .kept-cell7 .ensures .1, (c .before .before .before .before .before .before .before .kept-cell8 .ensures .1, (c .before .before .before .before .before .before .kept-cell9 .ensures .1, tt))))))))) in
-    (shown, λ a. ap state-in shown ∙ written-back s (c .before .before .before .before .before .before .before .before .before .before .before .before .before .before .before .before .before .before .before .args .count) _ (drop 16 (c .before .before .before .before .before .before .before .before .before .before .before .before .before .before .before .before .before .before .before .args .cells .now)) held a (c .before .before .before .before .before .before .before .before .before .before .before .before .before .before .before .before .question-cells .ensures .1))
+    let shown =
+    copy .ensures
+    ∙ ap (λ (x : List ℕ). x ++ drop 16 (args .cells .now))
+    (reply-cells k q (s .position) (args .count) _ _ _ _ _ _ _ _ _ _ _ _ _ _ (kept-count .ensures) (kept-cell .ensures .0) (kept-cell2 .ensures .0)
+    (kept-cell3 .ensures .0) (kept-cell4 .ensures .0) (kept-cell5 .ensures .0) (kept-cell6 .ensures .0) (kept-cell7 .ensures .0) (kept-cell8 .ensures .0)
+    (kept-cell9 .ensures .0) (question-cells .ensures .0)
+    ∙ ap (λ (v : ℕ). state-cells (state-of s) ++ (args .count ∷ v ∷ [])) (value-of .ensures)) in
+    let held : Held (places k) = (
+      kept-cell .ensures .1,
+      (
+        kept-cell2 .ensures .1,
+        (
+          kept-cell3 .ensures .1,
+          (
+            kept-cell4 .ensures .1,
+            (kept-cell5 .ensures .1, (kept-cell6 .ensures .1, (kept-cell7 .ensures .1, (kept-cell8 .ensures .1, (kept-cell9 .ensures .1, tt))))),
+          ),
+        ),
+      ),
+    ) in
+    (shown, λ a. ap state-in shown ∙ written-back s (args .count) _ (drop 16 (args .cells .now)) held a (question-cells .ensures .1))
 
 pub put-reply-spec : {M : Type 1} → statement M
 put-reply-spec =

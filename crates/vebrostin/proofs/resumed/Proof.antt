@@ -37,10 +37,13 @@ same-length-3 c = search needs
 returns-2 : tie.Need-returns-2
 returns-2 c =
     let a = c .before .before .before .before .before .before .before .before .before .before .before .before .before .before .before .before .before .before .before .args in
+    let if1 = c .before .before .before .before .before .before .before .before .before .before .before .before .before .if1 in
+    let state-in = c .before .before .before .before .before .before .before .before .before .before .before .state-in in
     let r = c .before .before .before .before .before .before .before .before .resume in
+    let is-refused = c .before .before .is-refused in
     resume-refused (a .inputs .now) (a .program .now) (a .budget) (supplied-of (a .supplied)) (a .registers .now) (a .cells .now) (a .path .now)
-    (r .result) _ _ _ _ (c .before .before .before .before .before .before .before .before .before .before .before .before .before .if1 .left) (c .before .before .before .before .before .before .before .before .before .before .before .state-in .result) (c .before .before .before .before .before .before .before .before .before .before .before .state-in .ensures) (r .ensures .0) (r .ensures .1 .0) (c .number-of .ensures)
-    (sym (c .before .before .is-refused .ensures) ∙ c .before .if2 .taken) (r .ensures .1 .1) refl
+    (r .result) _ _ _ _ (if1 .left) (state-in .result) (state-in .ensures) (r .ensures .0) (r .ensures .1 .0) (c .number-of .ensures)
+    (sym (is-refused .ensures) ∙ c .before .if2 .taken) (r .ensures .1 .1) refl
 
 put-reply-requires : tie.Need-put-reply-requires
 put-reply-requires c κs = search needs
@@ -60,10 +63,15 @@ same-length-6 c = search needs
 returns-3 : tie.Need-returns-3
 returns-3 c =
     let a = c .before .before .before .before .before .before .before .before .before .before .before .before .before .before .before .before .before .before .before .before .before .before .before .args in
+    let if1 = c .before .before .before .before .before .before .before .before .before .before .before .before .before .before .before .before .before .if1 in
+    let state-in = c .before .before .before .before .before .before .before .before .before .before .before .before .before .before .before .state-in in
     let r = c .before .before .before .before .before .before .before .before .before .before .before .before .resume in
+    let is-refused = c .before .before .before .before .before .before .is-refused in
+    let if2 = c .before .before .before .before .before .if2 in
+    let put-reply = c .before .before .before .put-reply in
     resume-goes-on (a .inputs .now) (a .program .now) (a .budget) (supplied-of (a .supplied)) (a .registers .now) (a .cells .now) (a .path .now)
-    (r .result) _ _ _ _ (c .before .before .before .before .before .before .before .before .before .before .before .before .before .before .before .before .before .if1 .left) (c .before .before .before .before .before .before .before .before .before .before .before .before .before .before .before .state-in .result) (c .before .before .before .before .before .before .before .before .before .before .before .before .before .before .before .state-in .ensures) (r .ensures .0) (r .ensures .1 .0) (c .number-of2 .ensures)
-    (sym (c .before .before .before .before .before .before .is-refused .ensures) ∙ c .before .before .before .before .before .if2 .left) (c .before .before .before .put-reply .ensures .0) (c .before .before .before .put-reply .ensures .1)
+    (r .result) _ _ _ _ (if1 .left) (state-in .result) (state-in .ensures) (r .ensures .0) (r .ensures .1 .0) (c .number-of2 .ensures)
+    (sym (is-refused .ensures) ∙ if2 .left) (put-reply .ensures .0) (put-reply .ensures .1)
 
 pub resumed-spec : {M : Type 1} → statement M
 resumed-spec =

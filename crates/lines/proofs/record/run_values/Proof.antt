@@ -29,7 +29,11 @@ slice-relend-prefix-run-reply c = omega (arith, c .before .before .before .befor
 
 slice-aggregate-run-reply : tie.Need-slice-aggregate-run-reply
 unfolding register-total
-slice-aggregate-run-reply c = sym (length-take-le (c .before .before .before .before .before .before .word2 .result) (c .before .before .before .before .zero-registers .last .0) (omega (arith, c .before .before .before .before .before .before .word2 .ensures .0, c .before .before .before .before .zero-registers .kept .0, c .before .before .before .before .before .before .before .before .before .before .before .pre .1)))
+slice-aggregate-run-reply c =
+    let pre = c .before .before .before .before .before .before .before .before .before .before .before .pre in
+    let word2 = c .before .before .before .before .before .before .word2 in
+    let zero-registers = c .before .before .before .before .zero-registers in
+    sym (length-take-le (word2 .result) (zero-registers .last .0) (omega (arith, word2 .ensures .0, zero-registers .kept .0, pre .1)))
 
 run-reply-requires : tie.Need-run-reply-requires
 run-reply-requires c κs = (c .before .before .before .before .before .before .before .before .before .before .before .pre .0, c .before .fresh-state .ensures)
@@ -39,7 +43,17 @@ same-length c = search needs
 
 returns : tie.Need-returns
 unfolding register-total code-count
-returns c = (ran (c .before .before .before .before .before .before .before .before .before .before .before .before .before .before .args .p .now) (c .before .before .before .before .before .before .before .before .before .before .before .before .before .before .pre .0) (c .before .before .before .before .before .before .before .before .before .before .before .before .before .before .args .inputs .now) (take (c .before .before .before .before .before .before .before .before .before .word2 .result) (c .before .before .before .before .before .before .before .zero-registers .last .0)) (c .before .before .run-reply .last .1 .1 .0) (c .before .before .before .before .before .before .before .before .before .before .word .result) (c .before .before .run-reply .result) _ (c .before .before .before .before .before .before .before .zero-registers .ensures ∙ ap (λ (n : ℕ). replicate n 0f) (c .before .before .before .before .before .before .before .before .before .word2 .ensures .0)) (c .before .before .before .before .before .before .before .before .before .before .word .ensures .0) (c .before .before .run-reply .ensures .0) refl, c .before .before .run-reply .ensures .1 .0)
+returns c =
+    let args = c .before .before .before .before .before .before .before .before .before .before .before .before .before .before .args in
+    let pre = c .before .before .before .before .before .before .before .before .before .before .before .before .before .before .pre in
+    let word = c .before .before .before .before .before .before .before .before .before .before .word in
+    let word2 = c .before .before .before .before .before .before .before .before .before .word2 in
+    let zero-registers = c .before .before .before .before .before .before .before .zero-registers in
+    let run-reply = c .before .before .run-reply in (
+      ran (args .p .now) (pre .0) (args .inputs .now) (take (word2 .result) (zero-registers .last .0)) (run-reply .last .1 .1 .0) (word .result)
+          (run-reply .result) _ (zero-registers .ensures ∙ ap (λ (n : ℕ). replicate n 0f) (word2 .ensures .0)) (word .ensures .0) (run-reply .ensures .0) refl,
+      run-reply .ensures .1 .0,
+    )
 
 pub run-values-spec : {M : Type 1} → statement M
 run-values-spec =

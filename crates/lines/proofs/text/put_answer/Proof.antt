@@ -53,37 +53,81 @@ same-length : tie.Need-same-length
 same-length c = search needs
 
 returns : tie.Need-returns
-returns c = (subst (λ (a : Answer). Wrote (c .before .before .before .before .before .before .before .before .before .args .out .now) (c .before .before .before .before .before .before .before .before .before .args .at) (shown (line-of (answer-of (c .before .before .before .before .before .before .before .before .before .args .p .now) a) 0)) (c .before .before .put-value .last .0) (c .before .before .put-value .result)) (sym (c .before .before .before .before .before .answer .given .1)) (c .before .before .put-value .ensures), omega (arith, c .before .before .put-value .ensures .ends))
+returns c =
+    let args = c .before .before .before .before .before .before .before .before .before .args in
+    let answer = c .before .before .before .before .before .answer in
+    let put-value = c .before .before .put-value in (
+      subst (λ (a : Answer). Wrote (args .out .now) (args .at) (shown (line-of (answer-of (args .p .now) a) 0)) (put-value .last .0) (put-value .result))
+          (sym (answer .given .1)) (put-value .ensures),
+      omega (arith, put-value .ensures .ends),
+    )
 
 same-length-2 : tie.Need-same-length-2
 same-length-2 c = search needs
 
 returns-2 : tie.Need-returns-2
-returns-2 c = (subst (λ (a : Answer). Wrote (c .before .before .before .before .before .before .before .before .before .args .out .now) (c .before .before .before .before .before .before .before .before .before .args .at) (shown (line-of (answer-of (c .before .before .before .before .before .before .before .before .before .args .p .now) a) 0)) (c .before .before .put-elementary .last .0) (c .before .before .put-elementary .result)) (sym (c .before .before .before .before .before .answer2 .given .1)) (c .before .before .put-elementary .ensures .0), omega (arith, c .before .before .put-elementary .ensures .1))
+returns-2 c =
+    let args = c .before .before .before .before .before .before .before .before .before .args in
+    let answer2 = c .before .before .before .before .before .answer2 in
+    let put-elementary = c .before .before .put-elementary in (
+      subst
+          (λ (a : Answer). Wrote (args .out .now) (args .at) (shown (line-of (answer-of (args .p .now) a) 0)) (put-elementary .last .0) (put-elementary .result))
+          (sym (answer2 .given .1)) (put-elementary .ensures .0),
+      omega (arith, put-elementary .ensures .1),
+    )
 
 same-length-3 : tie.Need-same-length-3
 same-length-3 c = search needs
 
 returns-3 : tie.Need-returns-3
-returns-3 c = (subst (λ (a : Answer). Wrote (c .before .before .before .before .before .before .before .before .before .args .out .now) (c .before .before .before .before .before .before .before .before .before .args .at) (shown (line-of (answer-of (c .before .before .before .before .before .before .before .before .before .args .p .now) a) 0)) (c .before .before .put-power .last .0) (c .before .before .put-power .result)) (sym (c .before .before .before .before .before .answer3 .given .1)) (c .before .before .put-power .ensures), omega (arith, c .before .before .put-power .ensures .ends))
+returns-3 c =
+    let args = c .before .before .before .before .before .before .before .before .before .args in
+    let answer3 = c .before .before .before .before .before .answer3 in
+    let put-power = c .before .before .put-power in (
+      subst (λ (a : Answer). Wrote (args .out .now) (args .at) (shown (line-of (answer-of (args .p .now) a) 0)) (put-power .last .0) (put-power .result))
+          (sym (answer3 .given .1)) (put-power .ensures),
+      omega (arith, put-power .ensures .ends),
+    )
 
 same-length-4 : tie.Need-same-length-4
 same-length-4 c = search needs
 
 returns-4 : tie.Need-returns-4
-returns-4 c = (subst (λ (a : Answer). Wrote (c .before .before .before .before .before .before .before .before .before .args .out .now) (c .before .before .before .before .before .before .before .before .before .args .at) (shown (line-of (answer-of (c .before .before .before .before .before .before .before .before .before .args .p .now) a) 0)) (c .before .before .put-bytes .last .0) (c .before .before .put-bytes .result)) (sym (c .before .before .before .before .before .enum-told .given .1)) (wrote (c .before .before .before .before .before .before .before .before .before .args .out .now) (c .before .before .before .before .before .before .before .before .before .args .at) (ascii "spent,") (c .before .before .put-bytes .last .0) (c .before .before .put-bytes .result) (c .before .before .put-bytes .ensures)), omega (arith, c .before .before .put-bytes .ensures .0))
+returns-4 c =
+    let args = c .before .before .before .before .before .before .before .before .before .args in
+    let enum-told = c .before .before .before .before .before .enum-told in
+    let put-bytes = c .before .before .put-bytes in (
+      subst (λ (a : Answer). Wrote (args .out .now) (args .at) (shown (line-of (answer-of (args .p .now) a) 0)) (put-bytes .last .0) (put-bytes .result))
+          (sym (enum-told .given .1)) (wrote (args .out .now) (args .at) (ascii "spent,") (put-bytes .last .0) (put-bytes .result) (put-bytes .ensures)),
+      omega (arith, put-bytes .ensures .0),
+    )
 
 same-length-5 : tie.Need-same-length-5
 same-length-5 c = search needs
 
 returns-5 : tie.Need-returns-5
-returns-5 c = (subst (λ (a : Answer). Wrote (c .before .before .before .before .before .before .before .before .before .args .out .now) (c .before .before .before .before .before .before .before .before .before .args .at) (shown (line-of (answer-of (c .before .before .before .before .before .before .before .before .before .args .p .now) a) 0)) (c .before .before .put-domain .last .1 .0) (c .before .before .put-domain .result)) (sym (c .before .before .before .before .before .answer4 .given .1)) (c .before .before .put-domain .ensures .0), c .before .before .put-domain .ensures .1)
+returns-5 c =
+    let args = c .before .before .before .before .before .before .before .before .before .args in
+    let answer4 = c .before .before .before .before .before .answer4 in
+    let put-domain = c .before .before .put-domain in (
+      subst
+          (λ (a : Answer). Wrote (args .out .now) (args .at) (shown (line-of (answer-of (args .p .now) a) 0)) (put-domain .last .1 .0) (put-domain .result))
+          (sym (answer4 .given .1)) (put-domain .ensures .0),
+      put-domain .ensures .1,
+    )
 
 same-length-6 : tie.Need-same-length-6
 same-length-6 c = search needs
 
 returns-6 : tie.Need-returns-6
-returns-6 c = (subst (λ (a : Answer). Wrote (c .before .before .before .before .before .before .before .before .before .args .out .now) (c .before .before .before .before .before .before .before .before .before .args .at) (shown (line-of (answer-of (c .before .before .before .before .before .before .before .before .before .args .p .now) a) 0)) (c .before .before .put-bad .last .0) (c .before .before .put-bad .result)) (sym (c .before .before .before .before .before .answer5 .given .1)) (c .before .before .put-bad .ensures .0), omega (arith, c .before .before .put-bad .ensures .1))
+returns-6 c =
+    let args = c .before .before .before .before .before .before .before .before .before .args in
+    let answer5 = c .before .before .before .before .before .answer5 in
+    let put-bad = c .before .before .put-bad in (
+      subst (λ (a : Answer). Wrote (args .out .now) (args .at) (shown (line-of (answer-of (args .p .now) a) 0)) (put-bad .last .0) (put-bad .result))
+          (sym (answer5 .given .1)) (put-bad .ensures .0),
+      omega (arith, put-bad .ensures .1),
+    )
 
 pub put-answer-spec : {M : Type 1} → statement M
 put-answer-spec =

@@ -19,7 +19,18 @@ same-length : tie.Need-same-length
 same-length c = search needs
 
 returns : tie.Need-returns
-returns c = (wrote-then (c .before .before .before .before .before .before .before .before .before .before .args .out .now) (c .before .before .before .before .before .before .before .before .before .before .args .at) (ascii "bad,") (c .before .before .before .before .before .before .put-bytes .last .0) (c .before .before .before .before .before .before .put-bytes .result) (decimal (c .before .before .before .before .before .before .before .before .before .before .args .n)) (c .before .before .put-decimal .last .0) (c .before .before .put-decimal .result) (omega (arith, c .before .before .before .before .before .before .put-bytes .ensures .0, c .before .before .before .before .before .before .before .before .before .before .pre)) (wrote (c .before .before .before .before .before .before .before .before .before .before .args .out .now) (c .before .before .before .before .before .before .before .before .before .before .args .at) (ascii "bad,") (c .before .before .before .before .before .before .put-bytes .last .0) (c .before .before .before .before .before .before .put-bytes .result) (c .before .before .before .before .before .before .put-bytes .ensures)) (wrote (c .before .before .before .before .before .before .put-bytes .last .0) (c .before .before .before .before .before .before .put-bytes .result) (decimal (c .before .before .before .before .before .before .before .before .before .before .args .n)) (c .before .before .put-decimal .last .0) (c .before .before .put-decimal .result) (c .before .before .put-decimal .ensures)), omega (arith, decimal-byte (c .before .before .before .before .before .before .before .before .before .before .args .n) (c .before .before .before .before .before .before .before .before .before .before .fits .n .fits), c .before .before .before .before .before .before .put-bytes .ensures .0, c .before .before .put-decimal .ensures .0))
+returns c =
+    let args = c .before .before .before .before .before .before .before .before .before .before .args in
+    let fits = c .before .before .before .before .before .before .before .before .before .before .fits in
+    let pre = c .before .before .before .before .before .before .before .before .before .before .pre in
+    let put-bytes = c .before .before .before .before .before .before .put-bytes in
+    let put-decimal = c .before .before .put-decimal in (
+      wrote-then (args .out .now) (args .at) (ascii "bad,") (put-bytes .last .0) (put-bytes .result) (decimal (args .n)) (put-decimal .last .0)
+          (put-decimal .result) (omega (arith, put-bytes .ensures .0, pre))
+          (wrote (args .out .now) (args .at) (ascii "bad,") (put-bytes .last .0) (put-bytes .result) (put-bytes .ensures))
+          (wrote (put-bytes .last .0) (put-bytes .result) (decimal (args .n)) (put-decimal .last .0) (put-decimal .result) (put-decimal .ensures)),
+      omega (arith, decimal-byte (args .n) (fits .n .fits), put-bytes .ensures .0, put-decimal .ensures .0),
+    )
 
 pub put-bad-spec : {M : Type 1} → statement M
 put-bad-spec =

@@ -19,7 +19,13 @@ same-length : tie.Need-same-length
 same-length c = search needs
 
 returns : tie.Need-returns
-returns c = bits-wrote (c .before .before .before .before .before .before .before .before .args .out .now) (c .before .before .before .before .before .before .before .before .args .at) (c .before .before .before .before .before .before .bits-of .result) (c .before .before .before .before .before .before .before .before .args .x) (c .before .before .before .before .before .hex .result) (c .before .before .put-bytes .last .0) (c .before .before .put-bytes .result) (c .before .before .before .before .before .hex .ensures) (c .before .before .before .before .before .before .bits-of .ensures) (c .before .before .put-bytes .ensures)
+returns c =
+    let args = c .before .before .before .before .before .before .before .before .args in
+    let bits-of = c .before .before .before .before .before .before .bits-of in
+    let hex = c .before .before .before .before .before .hex in
+    let put-bytes = c .before .before .put-bytes in
+    bits-wrote (args .out .now) (args .at) (bits-of .result) (args .x) (hex .result) (put-bytes .last .0) (put-bytes .result) (hex .ensures)
+    (bits-of .ensures) (put-bytes .ensures)
 
 pub put-bits-spec : {M : Type 1} → statement M
 put-bits-spec =

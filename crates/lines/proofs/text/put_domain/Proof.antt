@@ -34,15 +34,39 @@ part-write-place-end : tie.Need-part-write-place-end
 part-write-place-end c = search needs
 
 write-place-requires : tie.Need-write-place-requires
-write-place-requires c κs = (c .before .before .before .before .before .before .before .before .before .pre .0, c .before .before .before .before .before .before .before .before .before .pre .1, omega (arith, mid-length (c .before .before .before .before .put-bytes .result) (c .before .path-length .result) (c .before .before .before .before .put-bytes .last .0) (omega (arith, c .before .path-length .ensures, c .before .before .before .before .put-bytes .ensures .0, c .before .before .before .before .put-bytes .kept .0, c .before .before .before .before .before .before .before .before .before .pre .2, c .before .before .before .before .before .before .before .before .before .pre .3)), c .before .path-length .ensures))
+write-place-requires c κs =
+    let pre = c .before .before .before .before .before .before .before .before .before .pre in
+    let put-bytes = c .before .before .before .before .put-bytes in
+    let path-length = c .before .path-length in (
+      pre .0,
+      pre .1,
+      omega (
+        arith,
+        mid-length (put-bytes .result) (path-length .result) (put-bytes .last .0)
+            (omega (arith, path-length .ensures, put-bytes .ensures .0, put-bytes .kept .0, pre .2, pre .3)),
+        path-length .ensures,
+      ),
+    )
 
 same-length : tie.Need-same-length
 same-length c = search needs
 
 returns : tie.Need-returns
-returns c = let l = text-length (c .before .before .before .before .before .before .before .before .before .before .before .before .args .p .now) (valid-records (c .before .before .before .before .before .before .before .before .before .before .before .before .args .p .now) (c .before .before .before .before .before .before .before .before .before .before .before .before .pre .0)) (c .before .before .before .before .before .before .before .before .before .before .before .before .args .k) (c .before .before .before .before .before .before .before .before .before .before .before .before .pre .1) ∙ sym (c .before .before .before .before .path-length .ensures) in
-    let h : c .before .before .before .before .before .before .before .put-bytes .result + c .before .before .before .before .path-length .result ≤ length (c .before .before .before .before .before .before .before .put-bytes .last .0) = omega (arith, c .before .before .before .before .path-length .ensures, c .before .before .before .before .before .before .before .put-bytes .ensures .0, c .before .before .before .before .before .before .before .put-bytes .kept .0, c .before .before .before .before .before .before .before .before .before .before .before .before .pre .2, c .before .before .before .before .before .before .before .before .before .before .before .before .pre .3) in
-    (wrote-then (c .before .before .before .before .before .before .before .before .before .before .before .before .args .out .now) (c .before .before .before .before .before .before .before .before .before .before .before .before .args .at) (ascii "domain,") (c .before .before .before .before .before .before .before .put-bytes .last .0) (c .before .before .before .before .before .before .before .put-bytes .result) (text (path-of (c .before .before .before .before .before .before .before .before .before .before .before .before .args .p .now) (c .before .before .before .before .before .before .before .before .before .before .before .before .args .k))) _ (c .before .before .before .before .before .before .before .put-bytes .result + c .before .before .before .before .path-length .result) (omega (arith, c .before .before .before .before .before .before .before .put-bytes .ensures .0, c .before .before .before .before .before .before .before .before .before .before .before .before .pre .3)) (wrote (c .before .before .before .before .before .before .before .before .before .before .before .before .args .out .now) (c .before .before .before .before .before .before .before .before .before .before .before .before .args .at) (ascii "domain,") (c .before .before .before .before .before .before .before .put-bytes .last .0) (c .before .before .before .before .before .before .before .put-bytes .result) (c .before .before .before .before .before .before .before .put-bytes .ensures)) (path-wrote (c .before .before .before .before .before .before .before .put-bytes .last .0) (c .before .before .before .before .before .before .before .put-bytes .result) (c .before .before .before .before .path-length .result) (path-of (c .before .before .before .before .before .before .before .before .before .before .before .before .args .p .now) (c .before .before .before .before .before .before .before .before .before .before .before .before .args .k)) (c .before .before .write-place .last .1 .1 .0) h l (c .before .before .write-place .ensures)), omega (arith, c .before .before .before .before .path-length .ensures, c .before .before .before .before .before .before .before .put-bytes .ensures .0, c .before .before .before .before .before .before .before .before .before .before .before .before .pre .2))
+returns c =
+    let args = c .before .before .before .before .before .before .before .before .before .before .before .before .args in
+    let pre = c .before .before .before .before .before .before .before .before .before .before .before .before .pre in
+    let put-bytes = c .before .before .before .before .before .before .before .put-bytes in
+    let path-length = c .before .before .before .before .path-length in
+    let write-place = c .before .before .write-place in
+    let the-path-of = path-of (args .p .now) (args .k) in
+    let l = text-length (args .p .now) (valid-records (args .p .now) (pre .0)) (args .k) (pre .1) ∙ sym (path-length .ensures) in
+    let h : put-bytes .result + path-length .result ≤ length (put-bytes .last .0) = omega (arith, path-length .ensures, put-bytes .ensures .0, put-bytes .kept .0, pre .2, pre .3) in (
+      wrote-then (args .out .now) (args .at) (ascii "domain,") (put-bytes .last .0) (put-bytes .result) (text the-path-of) _
+          (put-bytes .result + path-length .result) (omega (arith, put-bytes .ensures .0, pre .3))
+          (wrote (args .out .now) (args .at) (ascii "domain,") (put-bytes .last .0) (put-bytes .result) (put-bytes .ensures))
+          (path-wrote (put-bytes .last .0) (put-bytes .result) (path-length .result) the-path-of (write-place .last .1 .1 .0) h l (write-place .ensures)),
+      omega (arith, path-length .ensures, put-bytes .ensures .0, pre .2),
+    )
 
 pub put-domain-spec : {M : Type 1} → statement M
 put-domain-spec =

@@ -19,21 +19,57 @@ slice-aggregate-put-bytes-2 : tie.Need-slice-aggregate-put-bytes-2
 slice-aggregate-put-bytes-2 c = search needs
 
 put-bytes-requires-2 : tie.Need-put-bytes-requires-2
-put-bytes-requires-2 c κs = omega (arith, decimal-byte (c .before .before .before .before .before .before .before .before .before .before .before .before .args .f) (c .before .before .before .before .before .before .before .before .before .before .before .before .fits .f .fits), c .before .before .before .before .before .before .before .before .put-bytes .ensures .0, c .before .before .before .before .before .before .before .before .put-bytes .kept .0, c .before .before .before .before .put-decimal .ensures .0, c .before .before .before .before .put-decimal .kept .0, c .before .before .before .before .before .before .before .before .before .before .before .before .pre)
+put-bytes-requires-2 c κs =
+    let args = c .before .before .before .before .before .before .before .before .before .before .before .before .args in
+    let fits = c .before .before .before .before .before .before .before .before .before .before .before .before .fits in
+    let pre = c .before .before .before .before .before .before .before .before .before .before .before .before .pre in
+    let put-bytes = c .before .before .before .before .before .before .before .before .put-bytes in
+    let put-decimal = c .before .before .before .before .put-decimal in
+    omega (arith, decimal-byte (args .f) (fits .f .fits), put-bytes .ensures .0, put-bytes .kept .0, put-decimal .ensures .0, put-decimal .kept .0, pre)
 
 put-bits-requires : tie.Need-put-bits-requires
-put-bits-requires c κs = omega (arith, decimal-byte (c .before .before .before .before .before .before .before .before .before .before .before .before .before .before .before .before .args .f) (c .before .before .before .before .before .before .before .before .before .before .before .before .before .before .before .before .fits .f .fits), c .before .before .before .before .before .before .before .before .before .before .before .before .put-bytes .ensures .0, c .before .before .before .before .before .before .before .before .before .before .before .before .put-bytes .kept .0, c .before .before .before .before .before .before .before .before .put-decimal .ensures .0, c .before .before .before .before .before .before .before .before .put-decimal .kept .0, c .before .before .before .put-bytes2 .ensures .0, c .before .before .before .put-bytes2 .kept .0, c .before .before .before .before .before .before .before .before .before .before .before .before .before .before .before .before .pre)
+put-bits-requires c κs =
+    let args = c .before .before .before .before .before .before .before .before .before .before .before .before .before .before .before .before .args in
+    let fits = c .before .before .before .before .before .before .before .before .before .before .before .before .before .before .before .before .fits in
+    let pre = c .before .before .before .before .before .before .before .before .before .before .before .before .before .before .before .before .pre in
+    let put-bytes = c .before .before .before .before .before .before .before .before .before .before .before .before .put-bytes in
+    let put-decimal = c .before .before .before .before .before .before .before .before .put-decimal in
+    let put-bytes2 = c .before .before .before .put-bytes2 in
+    omega (
+      arith,
+      decimal-byte (args .f) (fits .f .fits),
+      put-bytes .ensures .0,
+      put-bytes .kept .0,
+      put-decimal .ensures .0,
+      put-decimal .kept .0,
+      put-bytes2 .ensures .0,
+      put-bytes2 .kept .0,
+      pre,
+    )
 
 same-length : tie.Need-same-length
 same-length c = search needs
 
 returns : tie.Need-returns
-returns c = let d = decimal-byte (c .before .before .before .before .before .before .before .before .before .before .before .before .before .before .before .before .before .before .before .args .f) (c .before .before .before .before .before .before .before .before .before .before .before .before .before .before .before .before .before .before .before .fits .f .fits) in
-    let e1 = c .before .before .before .before .before .before .before .before .before .before .before .before .before .before .before .put-bytes .ensures .0 in
-    let e2 = c .before .before .before .before .before .before .before .before .before .before .before .put-decimal .ensures .0 in
-    let e3 = c .before .before .before .before .before .before .put-bytes2 .ensures .0 in
-    let w = elementary-wrote (c .before .before .before .before .before .before .before .before .before .before .before .before .before .before .before .before .before .before .before .args .out .now) (c .before .before .before .before .before .before .before .before .before .before .before .before .before .before .before .before .before .before .before .args .at) (c .before .before .before .before .before .before .before .before .before .before .before .before .before .before .before .before .before .before .before .args .f) (c .before .before .before .before .before .before .before .before .before .before .before .before .before .before .before .before .before .before .before .args .x) (c .before .before .before .before .before .before .before .before .before .before .before .before .before .before .before .put-bytes .last .0) (c .before .before .before .before .before .before .before .before .before .before .before .put-decimal .last .0) (c .before .before .before .before .before .before .put-bytes2 .last .0) (c .before .before .put-bits .last .0) (c .before .before .before .before .before .before .before .before .before .before .before .before .before .before .before .put-bytes .result) (c .before .before .before .before .before .before .before .before .before .before .before .put-decimal .result) (c .before .before .before .before .before .before .put-bytes2 .result) (c .before .before .put-bits .result) (omega (arith, c .before .before .before .before .before .before .before .before .before .before .before .before .before .before .before .before .before .before .before .pre)) (omega (arith, c .before .before .before .before .before .before .before .before .before .before .before .before .before .before .before .before .before .before .before .pre)) (omega (arith, c .before .before .before .before .before .before .before .before .before .before .before .before .before .before .before .before .before .before .before .pre)) (wrote (c .before .before .before .before .before .before .before .before .before .before .before .before .before .before .before .before .before .before .before .args .out .now) (c .before .before .before .before .before .before .before .before .before .before .before .before .before .before .before .before .before .before .before .args .at) (ascii "ask,") (c .before .before .before .before .before .before .before .before .before .before .before .before .before .before .before .put-bytes .last .0) (c .before .before .before .before .before .before .before .before .before .before .before .before .before .before .before .put-bytes .result) (c .before .before .before .before .before .before .before .before .before .before .before .before .before .before .before .put-bytes .ensures)) (wrote (c .before .before .before .before .before .before .before .before .before .before .before .before .before .before .before .put-bytes .last .0) (c .before .before .before .before .before .before .before .before .before .before .before .before .before .before .before .put-bytes .result) (decimal (c .before .before .before .before .before .before .before .before .before .before .before .before .before .before .before .before .before .before .before .args .f)) (c .before .before .before .before .before .before .before .before .before .before .before .put-decimal .last .0) (c .before .before .before .before .before .before .before .before .before .before .before .put-decimal .result) (c .before .before .before .before .before .before .before .before .before .before .before .put-decimal .ensures)) (wrote (c .before .before .before .before .before .before .before .before .before .before .before .put-decimal .last .0) (c .before .before .before .before .before .before .before .before .before .before .before .put-decimal .result) colon (c .before .before .before .before .before .before .put-bytes2 .last .0) (c .before .before .before .before .before .before .put-bytes2 .result) (c .before .before .before .before .before .before .put-bytes2 .ensures)) (c .before .before .put-bits .ensures) in
-    (w, let e4 = c .before .before .put-bits .ensures .ends in omega arith)
+returns c =
+    let args = c .before .before .before .before .before .before .before .before .before .before .before .before .before .before .before .before .before .before .before .args in
+    let fits = c .before .before .before .before .before .before .before .before .before .before .before .before .before .before .before .before .before .before .before .fits in
+    let pre = c .before .before .before .before .before .before .before .before .before .before .before .before .before .before .before .before .before .before .before .pre in
+    let put-bytes = c .before .before .before .before .before .before .before .before .before .before .before .before .before .before .before .put-bytes in
+    let put-decimal = c .before .before .before .before .before .before .before .before .before .before .before .put-decimal in
+    let put-bytes2 = c .before .before .before .before .before .before .put-bytes2 in
+    let put-bits = c .before .before .put-bits in
+    let d = decimal-byte (args .f) (fits .f .fits) in
+    let e1 = put-bytes .ensures .0 in
+    let e2 = put-decimal .ensures .0 in
+    let e3 = put-bytes2 .ensures .0 in
+    let w =
+    elementary-wrote (args .out .now) (args .at) (args .f) (args .x) (put-bytes .last .0) (put-decimal .last .0) (put-bytes2 .last .0) (put-bits .last .0)
+    (put-bytes .result) (put-decimal .result) (put-bytes2 .result) (put-bits .result) (omega (arith, pre)) (omega (arith, pre)) (omega (arith, pre))
+    (wrote (args .out .now) (args .at) (ascii "ask,") (put-bytes .last .0) (put-bytes .result) (put-bytes .ensures))
+    (wrote (put-bytes .last .0) (put-bytes .result) (decimal (args .f)) (put-decimal .last .0) (put-decimal .result) (put-decimal .ensures))
+    (wrote (put-decimal .last .0) (put-decimal .result) colon (put-bytes2 .last .0) (put-bytes2 .result) (put-bytes2 .ensures)) (put-bits .ensures) in
+    (w, let e4 = put-bits .ensures .ends in omega arith)
 
 pub put-elementary-spec : {M : Type 1} → statement M
 put-elementary-spec =

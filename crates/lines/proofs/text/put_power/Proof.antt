@@ -19,16 +19,37 @@ slice-aggregate-put-bytes-2 : tie.Need-slice-aggregate-put-bytes-2
 slice-aggregate-put-bytes-2 c = search needs
 
 put-bytes-requires-2 : tie.Need-put-bytes-requires-2
-put-bytes-requires-2 c κs = omega (arith, c .before .before .before .before .before .before .before .before .put-bytes .ensures .0, c .before .before .before .before .before .before .before .before .put-bytes .kept .0, c .before .before .before .before .put-bits .ensures .ends, c .before .before .before .before .put-bits .kept .0, c .before .before .before .before .before .before .before .before .before .before .before .before .pre)
+put-bytes-requires-2 c κs =
+    let pre = c .before .before .before .before .before .before .before .before .before .before .before .before .pre in
+    let put-bytes = c .before .before .before .before .before .before .before .before .put-bytes in
+    let put-bits = c .before .before .before .before .put-bits in
+    omega (arith, put-bytes .ensures .0, put-bytes .kept .0, put-bits .ensures .ends, put-bits .kept .0, pre)
 
 put-bits-requires-2 : tie.Need-put-bits-requires-2
-put-bits-requires-2 c κs = omega (arith, c .before .before .before .before .before .before .before .before .before .before .before .before .put-bytes .ensures .0, c .before .before .before .before .before .before .before .before .before .before .before .before .put-bytes .kept .0, c .before .before .before .before .before .before .before .before .put-bits .ensures .ends, c .before .before .before .before .before .before .before .before .put-bits .kept .0, c .before .before .before .put-bytes2 .ensures .0, c .before .before .before .put-bytes2 .kept .0, c .before .before .before .before .before .before .before .before .before .before .before .before .before .before .before .before .pre)
+put-bits-requires-2 c κs =
+    let pre = c .before .before .before .before .before .before .before .before .before .before .before .before .before .before .before .before .pre in
+    let put-bytes = c .before .before .before .before .before .before .before .before .before .before .before .before .put-bytes in
+    let put-bits = c .before .before .before .before .before .before .before .before .put-bits in
+    let put-bytes2 = c .before .before .before .put-bytes2 in
+    omega (arith, put-bytes .ensures .0, put-bytes .kept .0, put-bits .ensures .ends, put-bits .kept .0, put-bytes2 .ensures .0, put-bytes2 .kept .0, pre)
 
 same-length : tie.Need-same-length
 same-length c = search needs
 
 returns : tie.Need-returns
-returns c = power-wrote (c .before .before .before .before .before .before .before .before .before .before .before .before .before .before .before .before .before .before .before .args .out .now) (c .before .before .before .before .before .before .before .before .before .before .before .before .before .before .before .before .before .before .before .args .at) (c .before .before .before .before .before .before .before .before .before .before .before .before .before .before .before .before .before .before .before .args .x) (c .before .before .before .before .before .before .before .before .before .before .before .before .before .before .before .before .before .before .before .args .y) (c .before .before .before .before .before .before .before .before .before .before .before .before .before .before .before .put-bytes .last .0) (c .before .before .before .before .before .before .before .before .before .before .before .put-bits .last .0) (c .before .before .before .before .before .before .put-bytes2 .last .0) (c .before .before .put-bits2 .last .0) (c .before .before .before .before .before .before .before .before .before .before .before .before .before .before .before .put-bytes .result) (c .before .before .before .before .before .before .before .before .before .before .before .put-bits .result) (c .before .before .before .before .before .before .put-bytes2 .result) (c .before .before .put-bits2 .result) (omega (arith, c .before .before .before .before .before .before .before .before .before .before .before .before .before .before .before .put-bytes .ensures .0, c .before .before .before .before .before .before .before .before .before .before .before .before .before .before .before .before .before .before .before .pre)) (omega (arith, c .before .before .before .before .before .before .before .before .before .before .before .before .before .before .before .put-bytes .ensures .0, c .before .before .before .before .before .before .before .before .before .before .before .put-bits .ensures .ends, c .before .before .before .before .before .before .before .before .before .before .before .before .before .before .before .before .before .before .before .pre)) (omega (arith, c .before .before .before .before .before .before .before .before .before .before .before .before .before .before .before .put-bytes .ensures .0, c .before .before .before .before .before .before .before .before .before .before .before .put-bits .ensures .ends, c .before .before .before .before .before .before .put-bytes2 .ensures .0, c .before .before .before .before .before .before .before .before .before .before .before .before .before .before .before .before .before .before .before .pre)) (wrote (c .before .before .before .before .before .before .before .before .before .before .before .before .before .before .before .before .before .before .before .args .out .now) (c .before .before .before .before .before .before .before .before .before .before .before .before .before .before .before .before .before .before .before .args .at) (ascii "ask,16:") (c .before .before .before .before .before .before .before .before .before .before .before .before .before .before .before .put-bytes .last .0) (c .before .before .before .before .before .before .before .before .before .before .before .before .before .before .before .put-bytes .result) (c .before .before .before .before .before .before .before .before .before .before .before .before .before .before .before .put-bytes .ensures)) (c .before .before .before .before .before .before .before .before .before .before .before .put-bits .ensures) (wrote (c .before .before .before .before .before .before .before .before .before .before .before .put-bits .last .0) (c .before .before .before .before .before .before .before .before .before .before .before .put-bits .result) colon (c .before .before .before .before .before .before .put-bytes2 .last .0) (c .before .before .before .before .before .before .put-bytes2 .result) (c .before .before .before .before .before .before .put-bytes2 .ensures)) (c .before .before .put-bits2 .ensures)
+returns c =
+    let args = c .before .before .before .before .before .before .before .before .before .before .before .before .before .before .before .before .before .before .before .args in
+    let pre = c .before .before .before .before .before .before .before .before .before .before .before .before .before .before .before .before .before .before .before .pre in
+    let put-bytes = c .before .before .before .before .before .before .before .before .before .before .before .before .before .before .before .put-bytes in
+    let put-bits = c .before .before .before .before .before .before .before .before .before .before .before .put-bits in
+    let put-bytes2 = c .before .before .before .before .before .before .put-bytes2 in
+    let put-bits2 = c .before .before .put-bits2 in
+    power-wrote (args .out .now) (args .at) (args .x) (args .y) (put-bytes .last .0) (put-bits .last .0) (put-bytes2 .last .0) (put-bits2 .last .0)
+    (put-bytes .result) (put-bits .result) (put-bytes2 .result) (put-bits2 .result) (omega (arith, put-bytes .ensures .0, pre))
+    (omega (arith, put-bytes .ensures .0, put-bits .ensures .ends, pre))
+    (omega (arith, put-bytes .ensures .0, put-bits .ensures .ends, put-bytes2 .ensures .0, pre))
+    (wrote (args .out .now) (args .at) (ascii "ask,16:") (put-bytes .last .0) (put-bytes .result) (put-bytes .ensures)) (put-bits .ensures)
+    (wrote (put-bits .last .0) (put-bits .result) colon (put-bytes2 .last .0) (put-bytes2 .result) (put-bytes2 .ensures)) (put-bits2 .ensures)
 
 pub put-power-spec : {M : Type 1} → statement M
 put-power-spec =

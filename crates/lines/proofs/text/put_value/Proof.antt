@@ -19,7 +19,14 @@ same-length : tie.Need-same-length
 same-length c = search needs
 
 returns : tie.Need-returns
-returns c = wrote-then (c .before .before .before .before .before .before .before .before .before .before .args .out .now) (c .before .before .before .before .before .before .before .before .before .before .args .at) (ascii "value,") (c .before .before .before .before .before .before .put-bytes .last .0) (c .before .before .before .before .before .before .put-bytes .result) (bits-text (c .before .before .before .before .before .before .before .before .before .before .args .x)) (c .before .before .put-bits .last .0) (c .before .before .put-bits .result) (omega (arith, c .before .before .before .before .before .before .put-bytes .ensures .0, c .before .before .before .before .before .before .before .before .before .before .pre)) (wrote (c .before .before .before .before .before .before .before .before .before .before .args .out .now) (c .before .before .before .before .before .before .before .before .before .before .args .at) (ascii "value,") (c .before .before .before .before .before .before .put-bytes .last .0) (c .before .before .before .before .before .before .put-bytes .result) (c .before .before .before .before .before .before .put-bytes .ensures)) (c .before .before .put-bits .ensures)
+returns c =
+    let args = c .before .before .before .before .before .before .before .before .before .before .args in
+    let pre = c .before .before .before .before .before .before .before .before .before .before .pre in
+    let put-bytes = c .before .before .before .before .before .before .put-bytes in
+    let put-bits = c .before .before .put-bits in
+    wrote-then (args .out .now) (args .at) (ascii "value,") (put-bytes .last .0) (put-bytes .result) (bits-text (args .x)) (put-bits .last .0)
+    (put-bits .result) (omega (arith, put-bytes .ensures .0, pre))
+    (wrote (args .out .now) (args .at) (ascii "value,") (put-bytes .last .0) (put-bytes .result) (put-bytes .ensures)) (put-bits .ensures)
 
 pub put-value-spec : {M : Type 1} → statement M
 put-value-spec =

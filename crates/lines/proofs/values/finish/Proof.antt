@@ -10,7 +10,13 @@ same-length : tie.Need-same-length
 same-length c = search needs
 
 returns : tie.Need-returns
-returns c = λ seen r. ends-value seen (c .before .before .before .before .before .before .before .args .s) (c .before .before .before .before .before .before .before .args .values .now) (c .before .before .before .before .before .if1 .taken) r (c .before .before .before .before .if2 .taken) (c .before .before .keep .result) (c .before .before .keep .ensures .0) (c .before .before .keep .last .0) (c .before .before .keep .ensures .1)
+returns c =
+    let args = c .before .before .before .before .before .before .before .args in
+    let if1 = c .before .before .before .before .before .if1 in
+    let if2 = c .before .before .before .before .if2 in
+    let keep = c .before .before .keep in
+    λ seen r.
+    ends-value seen (args .s) (args .values .now) (if1 .taken) r (if2 .taken) (keep .result) (keep .ensures .0) (keep .last .0) (keep .ensures .1)
 
 returns-2 : tie.Need-returns-2
 returns-2 c = λ seen r. ends-empty seen (c .before .before .before .before .before .args .s) (c .before .before .before .before .before .args .values .now) (c .before .before .before .if1 .taken) r (c .before .if3 .taken) (c .if4 .taken)

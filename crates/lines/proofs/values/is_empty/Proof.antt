@@ -6,7 +6,13 @@ use Rattle.lines.proofs.values.is_empty.Statement.{statement}
 use Rattle.lines.proofs.values.is_empty.Tie as tie
 
 returns : tie.Need-returns
-returns c = λ seen values r. (λ e. is-empty seen (c .before .before .before .before .args .s) values (c .before .before .before .if1 .taken) r (c .before .if2 .taken) (eqb-true (c .before .before .before .before .args .s .count) 0 e), λ e. has-values seen (c .before .before .before .before .args .s) values (c .before .before .before .if1 .taken) r (eqb-false (c .before .before .before .before .args .s .count) 0 e))
+returns c =
+    let args = c .before .before .before .before .args in
+    let if1 = c .before .before .before .if1 in
+    λ seen values r. (
+      λ e. is-empty seen (args .s) values (if1 .taken) r (c .before .if2 .taken) (eqb-true (args .s .count) 0 e),
+      λ e. has-values seen (args .s) values (if1 .taken) r (eqb-false (args .s .count) 0 e),
+    )
 
 returns-2 : tie.Need-returns-2
 returns-2 c = λ seen values r. (λ e. absurd (c .if2 .left (eqb-true (c .before .before .before .args .s .digits) 0 e)), λ e. has-digits seen (c .before .before .before .args .s) values (c .before .before .if1 .taken) r (c .if2 .left))

@@ -26,13 +26,23 @@ part-to-requires : tie.Need-part-to-requires Inv-loop μ-loop
 part-to-requires c κs = tt
 
 returns : tie.Need-returns Inv-loop μ-loop
-returns c = digits-end (c .before .before .before .before .before .before .before .args .input .now) (c .before .before .before .before .before .before .before .args .from) (c .before .before .before .before .before .before .before .args .s) (c .before .before .before .before .before .loop .end) (record { good = c .before .before .before .before .before .before .before .args .s .good; count = c .before .before .before .before .before .before .before .args .s .count; digits = c .before .before .before .before .before .loop .digits; bits = c .before .before .before .before .before .loop .bits }) (c .part-to .result) (c .part-to .ensures) (c .before .before .before .before .before .loop .inv)
+returns c =
+    let args = c .before .before .before .before .before .before .before .args in
+    let loop = c .before .before .before .before .before .loop in
+    digits-end (args .input .now) (args .from) (args .s) (loop .end)
+    (record { good = args .s .good; count = args .s .count; digits = loop .digits; bits = loop .bits }) (c .part-to .result) (c .part-to .ensures)
+    (loop .inv)
 
 part-to-requires-2 : tie.Need-part-to-requires-2 Inv-loop μ-loop
 part-to-requires-2 c κs = tt
 
 returns-2 : tie.Need-returns-2 Inv-loop μ-loop
-returns-2 c = digits-end (c .before .before .before .before .before .before .before .before .args .input .now) (c .before .before .before .before .before .before .before .before .args .from) (c .before .before .before .before .before .before .before .before .args .s) (c .before .before .before .before .before .before .loop .end) (record { good = c .before .before .before .before .before .before .before .before .args .s .good; count = c .before .before .before .before .before .before .before .before .args .s .count; digits = c .before .before .before .before .before .before .loop .digits; bits = c .before .before .before .before .before .before .loop .bits }) (c .part-to2 .result) (c .part-to2 .ensures) (c .before .before .before .before .before .before .loop .inv)
+returns-2 c =
+    let args = c .before .before .before .before .before .before .before .before .args in
+    let loop = c .before .before .before .before .before .before .loop in
+    digits-end (args .input .now) (args .from) (args .s) (loop .end)
+    (record { good = args .s .good; count = args .s .count; digits = loop .digits; bits = loop .bits }) (c .part-to2 .result) (c .part-to2 .ensures)
+    (loop .inv)
 
 mul-bits : tie.Need-mul-bits Inv-loop μ-loop
 mul-bits c = search needs
@@ -50,13 +60,26 @@ loop-less : tie.Need-loop-less Inv-loop μ-loop
 loop-less c = omega arith
 
 loop-again : tie.Need-loop-again Inv-loop μ-loop
-loop-again c = let d = digit-is (getD (c .before .before .before .before .before .before .before .args .input .now) (c .before .before .before .before .before .loop .end) 0) (c .before .before .digit .result) (c .before .before .digit .ensures .0) (c .before .if1 .left) in digits-step (c .before .before .before .before .before .before .before .args .input .now) (c .before .before .before .before .before .before .before .args .from) (c .before .before .before .before .before .before .before .args .s) (c .before .before .before .before .before .loop .end) (record { good = c .before .before .before .before .before .before .before .args .s .good; count = c .before .before .before .before .before .before .before .args .s .count; digits = c .before .before .before .before .before .loop .digits; bits = c .before .before .before .before .before .loop .bits }) (c .before .before .digit .result) (c .before .before .before .before .before .loop .inv) (c .before .before .before .before .loop-test .taken) (d .0) (d .1) (omega (arith, c .if2 .left))
+loop-again c =
+    let args = c .before .before .before .before .before .before .before .args in
+    let loop = c .before .before .before .before .before .loop in
+    let loop-test = c .before .before .before .before .loop-test in
+    let digit = c .before .before .digit in
+    let d = digit-is (getD (args .input .now) (loop .end) 0) (digit .result) (digit .ensures .0) (c .before .if1 .left) in
+    digits-step (args .input .now) (args .from) (args .s) (loop .end)
+    (record { good = args .s .good; count = args .s .count; digits = loop .digits; bits = loop .bits }) (digit .result) (loop .inv) (loop-test .taken)
+    (d .0) (d .1) (omega (arith, c .if2 .left))
 
 part-to-requires-3 : tie.Need-part-to-requires-3 Inv-loop μ-loop
 part-to-requires-3 c κs = tt
 
 returns-3 : tie.Need-returns-3 Inv-loop μ-loop
-returns-3 c = digits-end (c .before .before .before .before .args .input .now) (c .before .before .before .before .args .from) (c .before .before .before .before .args .s) (c .before .before .loop .end) (record { good = c .before .before .before .before .args .s .good; count = c .before .before .before .before .args .s .count; digits = c .before .before .loop .digits; bits = c .before .before .loop .bits }) (c .part-to3 .result) (c .part-to3 .ensures) (c .before .before .loop .inv)
+returns-3 c =
+    let args = c .before .before .before .before .args in
+    let loop = c .before .before .loop in
+    digits-end (args .input .now) (args .from) (args .s) (loop .end)
+    (record { good = args .s .good; count = args .s .count; digits = loop .digits; bits = loop .bits }) (c .part-to3 .result) (c .part-to3 .ensures)
+    (loop .inv)
 
 pub read-digits-spec : {M : Type 1} → statement M
 read-digits-spec =

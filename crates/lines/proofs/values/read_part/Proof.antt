@@ -36,7 +36,17 @@ loop-less : tie.Need-loop-less Inv-loop μ-loop
 loop-less c = omega (arith, c .before .read-digits .ensures .0 .0, c .before .before .before .before .before .before .before .before .loop-test .taken)
 
 loop-again : tie.Need-loop-again Inv-loop μ-loop
-loop-again c = reading-run (c .before .before .before .before .before .before .before .before .before .before .before .before .args .input .now) (c .before .before .before .before .before .before .before .before .before .before .before .before .args .from) (c .before .before .before .before .before .before .before .before .before .before .before .before .args .s) (c .before .before .before .before .before .before .before .before .before .before .before .before .args .values .now) (c .before .before .before .before .before .before .before .before .before .loop .end + 1) (c .before .before .before .before .read-byte .result) (c .before .before .before .before .read-byte .last .1 .1 .0) (reading-step (c .before .before .before .before .before .before .before .before .before .before .before .before .args .input .now) (c .before .before .before .before .before .before .before .before .before .before .before .before .args .from) (c .before .before .before .before .before .before .before .before .before .before .before .before .args .s) (c .before .before .before .before .before .before .before .before .before .before .before .before .args .values .now) (c .before .before .before .before .before .before .before .before .before .loop .end) (c .before .before .before .before .before .before .before .before .before .loop .reading) (c .before .before .before .before .before .before .before .before .before .loop .values) (c .before .before .before .before .before .before .before .before .before .loop .inv) (c .before .before .before .before .before .before .before .before .loop-test .taken) (c .before .before .before .before .before .before .if1 .left) (c .before .before .before .before .read-byte .result) (c .before .before .before .before .read-byte .last .1 .1 .0) (c .before .before .before .before .read-byte .kept .1 .1 .0) (c .before .before .before .before .read-byte .ensures)) (c .before .read-digits .result .end) (c .before .read-digits .result .reading) (c .before .read-digits .ensures .0) (c .before .read-digits .ensures .1 (c .before .before .before .before .read-byte .last .1 .1 .0))
+loop-again c =
+    let args = c .before .before .before .before .before .before .before .before .before .before .before .before .args in
+    let loop = c .before .before .before .before .before .before .before .before .before .loop in
+    let loop-test = c .before .before .before .before .before .before .before .before .loop-test in
+    let if1 = c .before .before .before .before .before .before .if1 in
+    let read-byte = c .before .before .before .before .read-byte in
+    let read-digits = c .before .read-digits in
+    reading-run (args .input .now) (args .from) (args .s) (args .values .now) (loop .end + 1) (read-byte .result) (read-byte .last .1 .1 .0)
+    (reading-step (args .input .now) (args .from) (args .s) (args .values .now) (loop .end) (loop .reading) (loop .values) (loop .inv) (loop-test .taken)
+    (if1 .left) (read-byte .result) (read-byte .last .1 .1 .0) (read-byte .kept .1 .1 .0) (read-byte .ensures))
+    (read-digits .result .end) (read-digits .result .reading) (read-digits .ensures .0) (read-digits .ensures .1 (read-byte .last .1 .1 .0))
 
 same-length-2 : tie.Need-same-length-2 Inv-loop μ-loop
 same-length-2 c = c .before .loop .inv .same-length

@@ -41,7 +41,14 @@ ask-requires : tie.Need-ask-requires
 ask-requires c κs = search needs
 
 returns-5 : tie.Need-returns-5
-returns-5 c = rw (asked-here (c .before .before .before .before .before .args .opcode) (c .before .before .before .before .before .args .x) (c .before .before .before .before .before .args .y) (c .before .before .before .before .before .args .z) (c .before .before .before .before .before .pre .0) (omega (arith, c .before .before .before .before .before .pre .1, c .before .before .before .if2 .left, c .before .before .if3 .left, c .before .if4 .left)) (c .before .before .before .before .if1 .left)) (c .ask .ensures)
+returns-5 c =
+    let args = c .before .before .before .before .before .args in
+    let pre = c .before .before .before .before .before .pre in
+    let if1 = c .before .before .before .before .if1 in
+    let if2 = c .before .before .before .if2 in
+    let if3 = c .before .before .if3 in
+    rw (asked-here (args .opcode) (args .x) (args .y) (args .z) (pre .0) (omega (arith, pre .1, if2 .left, if3 .left, c .before .if4 .left)) (if1 .left))
+    (c .ask .ensures)
 
 pub single-spec : {M : Type 1} → statement M
 single-spec =

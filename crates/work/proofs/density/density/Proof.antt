@@ -42,7 +42,23 @@ returns-7 c = rw (c .before .before .before .before .before .before .before .bef
 
 returns-8 : tie.Need-returns-8
 unfolding density-work ofBits
-returns-8 c = rw (c .before .before .before .before .before .before .before .before .before .before .before .before .before .if1 .left, c .before .before .before .before .before .before .before .before .before .before .before .before .if2 .left, c .before .before .before .before .before .before .before .before .before .before .before .if3 .left, took 4 (c .before .before .before .before .before .before .before .before .before .before .before .before .before .before .args .kept .count) (places (c .before .before .before .before .before .before .before .before .before .before .before .before .before .before .args .kept)) (omega (arith, c .before .before .before .before .before .before .before .before .before .if4 .left, c .before .before .before .before .before .before .before .if5 .left, c .before .before .before .before .before .if6 .left, c .if8 .left)), c .before .before .if7 .taken) (given _ (drop 4 (kept-values (c .before .before .before .before .before .before .before .before .before .before .before .before .before .before .args .kept))))
+returns-8 c =
+    let args = c .before .before .before .before .before .before .before .before .before .before .before .before .before .before .args in
+    let if1 = c .before .before .before .before .before .before .before .before .before .before .before .before .before .if1 in
+    let if2 = c .before .before .before .before .before .before .before .before .before .before .before .before .if2 in
+    let if3 = c .before .before .before .before .before .before .before .before .before .before .before .if3 in
+    let if4 = c .before .before .before .before .before .before .before .before .before .if4 in
+    let if5 = c .before .before .before .before .before .before .before .if5 in
+    let if6 = c .before .before .before .before .before .if6 in
+    let if7 = c .before .before .if7 in
+    rw (
+      if1 .left,
+      if2 .left,
+      if3 .left,
+      took 4 (args .kept .count) (places (args .kept)) (omega (arith, if4 .left, if5 .left, if6 .left, c .if8 .left)),
+      if7 .taken,
+    )
+    (given _ (drop 4 (kept-values (args .kept))))
 
 with-cost-requires : tie.Need-with-cost-requires
 unfolding density-work ofBits
@@ -50,7 +66,22 @@ with-cost-requires c κs = omega (arith, c .before .before .before .before .befo
 
 returns-9 : tie.Need-returns-9
 unfolding density-work ofBits
-returns-9 c = rw (c .before .before .before .before .before .before .before .before .before .before .before .before .if1 .left, c .before .before .before .before .before .before .before .before .before .before .before .if2 .left, c .before .before .before .before .before .before .before .before .before .before .if3 .left, took 3 (c .before .before .before .before .before .before .before .before .before .before .before .before .before .args .kept .count) (places (c .before .before .before .before .before .before .before .before .before .before .before .before .before .args .kept)) (omega (arith, c .before .before .before .before .before .before .before .before .if4 .left, c .before .before .before .before .before .before .if5 .left, c .before .before .before .before .if6 .left)), c .before .if7 .left) (c .with-cost .ensures)
+returns-9 c =
+    let args = c .before .before .before .before .before .before .before .before .before .before .before .before .before .args in
+    let if1 = c .before .before .before .before .before .before .before .before .before .before .before .before .if1 in
+    let if2 = c .before .before .before .before .before .before .before .before .before .before .before .if2 in
+    let if3 = c .before .before .before .before .before .before .before .before .before .before .if3 in
+    let if4 = c .before .before .before .before .before .before .before .before .if4 in
+    let if5 = c .before .before .before .before .before .before .if5 in
+    let if6 = c .before .before .before .before .if6 in
+    rw (
+      if1 .left,
+      if2 .left,
+      if3 .left,
+      took 3 (args .kept .count) (places (args .kept)) (omega (arith, if4 .left, if5 .left, if6 .left)),
+      c .before .if7 .left,
+    )
+    (c .with-cost .ensures)
 
 pub density-spec : {M : Type 1} → statement M
 density-spec =

@@ -40,7 +40,15 @@ returns-6 c = rw (c .before .if6 .taken)
 
 returns-7 : tie.Need-returns-7
 unfolding density-cost ofBits
-returns-7 c = rw (take-all (c .before .before .before .before .before .before .before .before .before .before .before .before .args .kept .count) (places (c .before .before .before .before .before .before .before .before .before .before .before .before .args .kept)) (omega (arith, c .before .before .before .before .before .before .before .before .before .before .before .before .pre, c .before .before .before .before .before .before .before .before .before .before .if1 .left, c .before .before .before .before .before .before .before .before .if2 .left, c .before .before .before .before .before .before .if3 .left, c .before .before .before .before .if4 .left, c .before .before .if5 .left, c .if6 .left)))
+returns-7 c =
+    let args = c .before .before .before .before .before .before .before .before .before .before .before .before .args in
+    let pre = c .before .before .before .before .before .before .before .before .before .before .before .before .pre in
+    let if1 = c .before .before .before .before .before .before .before .before .before .before .if1 in
+    let if2 = c .before .before .before .before .before .before .before .before .if2 in
+    let if3 = c .before .before .before .before .before .before .if3 in
+    let if4 = c .before .before .before .before .if4 in
+    let if5 = c .before .before .if5 in
+    rw (take-all (args .kept .count) (places (args .kept)) (omega (arith, pre, if1 .left, if2 .left, if3 .left, if4 .left, if5 .left, c .if6 .left)))
 
 pub with-cost-spec : {M : Type 1} → statement M
 with-cost-spec =

@@ -34,7 +34,22 @@ returns-6 c = rw (c .before .before .before .before .before .before .before .bef
 
 returns-7 : tie.Need-returns-7
 unfolding hill-work ofBits
-returns-7 c = rw (c .before .before .before .before .before .before .before .before .before .before .before .if1 .left, c .before .before .before .before .before .before .before .before .before .before .if2 .left, c .before .before .before .before .before .before .before .before .before .if3 .left, took 3 (c .before .before .before .before .before .before .before .before .before .before .before .before .args .kept .count) (places (c .before .before .before .before .before .before .before .before .before .before .before .before .args .kept)) (omega (arith, c .before .before .before .before .before .before .before .if4 .left, c .before .before .before .before .before .if5 .left, c .before .if7 .left)), c .before .before .before .if6 .taken) (given _ (drop 3 (kept-values (c .before .before .before .before .before .before .before .before .before .before .before .before .args .kept))))
+returns-7 c =
+    let args = c .before .before .before .before .before .before .before .before .before .before .before .before .args in
+    let if1 = c .before .before .before .before .before .before .before .before .before .before .before .if1 in
+    let if2 = c .before .before .before .before .before .before .before .before .before .before .if2 in
+    let if3 = c .before .before .before .before .before .before .before .before .before .if3 in
+    let if4 = c .before .before .before .before .before .before .before .if4 in
+    let if5 = c .before .before .before .before .before .if5 in
+    let if6 = c .before .before .before .if6 in
+    rw (
+      if1 .left,
+      if2 .left,
+      if3 .left,
+      took 3 (args .kept .count) (places (args .kept)) (omega (arith, if4 .left, if5 .left, c .before .if7 .left)),
+      if6 .taken,
+    )
+    (given _ (drop 3 (kept-values (args .kept))))
 
 returns-8 : tie.Need-returns-8
 unfolding hill-work ofBits
@@ -42,7 +57,17 @@ returns-8 c = rw (c .before .before .before .before .before .before .before .bef
 
 returns-9 : tie.Need-returns-9
 unfolding hill-work ofBits
-returns-9 c = rw (c .before .before .before .before .before .before .before .before .before .before .before .before .if1 .left, c .before .before .before .before .before .before .before .before .before .before .before .if2 .left, c .before .before .before .before .before .before .before .before .before .before .if3 .left, took 3 (c .before .before .before .before .before .before .before .before .before .before .before .before .before .args .kept .count) (places (c .before .before .before .before .before .before .before .before .before .before .before .before .before .args .kept)) (omega (arith, c .before .before .before .before .before .before .before .before .if4 .left, c .before .before .before .before .before .before .if5 .left, c .before .before .if8 .left)), c .before .before .before .before .if6 .left) (given _ (drop 3 (kept-values (c .before .before .before .before .before .before .before .before .before .before .before .before .before .args .kept))))
+returns-9 c =
+    let args = c .before .before .before .before .before .before .before .before .before .before .before .before .before .args in
+    let if1 = c .before .before .before .before .before .before .before .before .before .before .before .before .if1 in
+    let if2 = c .before .before .before .before .before .before .before .before .before .before .before .if2 in
+    let if3 = c .before .before .before .before .before .before .before .before .before .before .if3 in
+    let if4 = c .before .before .before .before .before .before .before .before .if4 in
+    let if5 = c .before .before .before .before .before .before .if5 in
+    let if6 = c .before .before .before .before .if6 in
+    let if8 = c .before .before .if8 in
+    rw (if1 .left, if2 .left, if3 .left, took 3 (args .kept .count) (places (args .kept)) (omega (arith, if4 .left, if5 .left, if8 .left)), if6 .left)
+    (given _ (drop 3 (kept-values (args .kept))))
 
 pub hill-spec : {M : Type 1} → statement M
 hill-spec =

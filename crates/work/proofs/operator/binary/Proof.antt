@@ -38,7 +38,13 @@ returns-6 c = rw (c .before .before .before .before .if6 .taken, sym (c .before 
 
 returns-7 : tie.Need-returns-7
 unfolding ofBits
-returns-7 c = rw (c .before .before .before .before .if6 .taken, sym (c .before .before .before .is-power-defined .ensures) ∙ c .before .before .if7 .taken, took 1 (c .before .before .before .before .before .before .before .before .before .args .kept .count) (places (c .before .before .before .before .before .before .before .before .before .args .kept)) (omega (arith, c .if8 .left))) (given _ (drop 1 (kept-values (c .before .before .before .before .before .before .before .before .before .args .kept))))
+returns-7 c =
+    let args = c .before .before .before .before .before .before .before .before .before .args in
+    let if6 = c .before .before .before .before .if6 in
+    let is-power-defined = c .before .before .before .is-power-defined in
+    let if7 = c .before .before .if7 in
+    rw (if6 .taken, sym (is-power-defined .ensures) ∙ if7 .taken, took 1 (args .kept .count) (places (args .kept)) (omega (arith, c .if8 .left)))
+    (given _ (drop 1 (kept-values (args .kept))))
 
 returns-8 : tie.Need-returns-8
 unfolding ofBits
@@ -49,11 +55,28 @@ modulo-requires c κs = search needs
 
 returns-9 : tie.Need-returns-9
 unfolding ofBits
-returns-9 c = let e : c .before .before .before .before .before .before .before .args .opcode ≡ 13 = omega (arith, c .before .before .before .before .before .before .before .pre .0, c .before .before .before .before .before .before .before .pre .1, c .before .before .before .before .before .before .if1 .left, c .before .before .before .before .before .if2 .left, c .before .before .before .before .if3 .left, c .before .before .before .if4 .left, c .before .before .if6 .left) in rw (e, c .before .if9 .taken, c .modulo .ensures) (given _ (kept-values (c .before .before .before .before .before .before .before .args .kept)))
+returns-9 c =
+    let args = c .before .before .before .before .before .before .before .args in
+    let pre = c .before .before .before .before .before .before .before .pre in
+    let if1 = c .before .before .before .before .before .before .if1 in
+    let if2 = c .before .before .before .before .before .if2 in
+    let if3 = c .before .before .before .before .if3 in
+    let if4 = c .before .before .before .if4 in
+    let if6 = c .before .before .if6 in
+    let e : args .opcode ≡ 13 = omega (arith, pre .0, pre .1, if1 .left, if2 .left, if3 .left, if4 .left, if6 .left) in
+    rw (e, c .before .if9 .taken, c .modulo .ensures) (given _ (kept-values (args .kept)))
 
 returns-10 : tie.Need-returns-10
 unfolding ofBits
-returns-10 c = let e : c .before .before .before .before .before .before .args .opcode ≡ 13 = omega (arith, c .before .before .before .before .before .before .pre .0, c .before .before .before .before .before .before .pre .1, c .before .before .before .before .before .if1 .left, c .before .before .before .before .if2 .left, c .before .before .before .if3 .left, c .before .before .if4 .left, c .before .if6 .left) in rw (e, c .if9 .left) (outside (kept-values (c .before .before .before .before .before .before .args .kept)))
+returns-10 c =
+    let args = c .before .before .before .before .before .before .args in
+    let pre = c .before .before .before .before .before .before .pre in
+    let if1 = c .before .before .before .before .before .if1 in
+    let if2 = c .before .before .before .before .if2 in
+    let if3 = c .before .before .before .if3 in
+    let if4 = c .before .before .if4 in
+    let e : args .opcode ≡ 13 = omega (arith, pre .0, pre .1, if1 .left, if2 .left, if3 .left, if4 .left, c .before .if6 .left) in
+    rw (e, c .if9 .left) (outside (kept-values (args .kept)))
 
 pub binary-spec : {M : Type 1} → statement M
 binary-spec =

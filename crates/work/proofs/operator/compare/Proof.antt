@@ -41,7 +41,15 @@ truth-value-requires-6 : tie.Need-truth-value-requires-6
 truth-value-requires-6 c κs = search needs
 
 returns-6 : tie.Need-returns-6
-returns-6 c = let e : c .before .before .before .before .before .before .args .opcode ≡ 19 = omega (arith, c .before .before .before .before .before .before .pre .0, c .before .before .before .before .before .before .pre .1, c .before .before .before .before .before .if1 .left, c .before .before .before .before .if2 .left, c .before .before .before .if3 .left, c .before .before .if4 .left, c .before .if5 .left) in rw (e, c .truth-value6 .ensures) (given _ (kept-values (c .before .before .before .before .before .before .args .kept)))
+returns-6 c =
+    let args = c .before .before .before .before .before .before .args in
+    let pre = c .before .before .before .before .before .before .pre in
+    let if1 = c .before .before .before .before .before .if1 in
+    let if2 = c .before .before .before .before .if2 in
+    let if3 = c .before .before .before .if3 in
+    let if4 = c .before .before .if4 in
+    let e : args .opcode ≡ 19 = omega (arith, pre .0, pre .1, if1 .left, if2 .left, if3 .left, if4 .left, c .before .if5 .left) in
+    rw (e, c .truth-value6 .ensures) (given _ (kept-values (args .kept)))
 
 pub compare-spec : {M : Type 1} → statement M
 compare-spec =
