@@ -249,7 +249,7 @@ pub enum Lowered {
     Refused(u8),
 }
 
-// Lowers a formula into memory that is not the caller's program slice.
+// Lowers a formula into memory that is not the caller's program slice; what that holds then is free.
 fn lower_into(formula: &[u8], kinds: &[u8], path: &mut [u8], own: &mut [u8]) -> Lowered
     requires { ⌜ (15 * length (now formula) ≤ length (now own)) × (8192 ≤ length (now path)) × ((f : Formula) × (ss : List Symbol) × Formed (now formula) (now kinds) f ss) ⌝ }
     ensures { λ r. ⌜ ((f : Formula) (ss : List Symbol) → Formed (now (formula .entry)) (now (kinds .entry)) f ss → (r ≡ lowered-to f (fault (own-context ss) (term f) root)) × (now (path .exit) ≡ placed (fault-place (fault (own-context ss) (term f) root)) (now (path .entry)))) ⌝ }
