@@ -13,6 +13,15 @@ pub struct Call {
     pub listed: bool,
 }
 
+impl Call {
+    /// What a list of calls has after compile or derive refused: the refusal, and nothing written to cells and registers.
+    fn refused(made: &Made) -> Self {
+        let mut numbers = vec![0; 38];
+        (numbers[1], numbers[2], numbers[20]) = (PATH as u64, 1, made.answer as u64);
+        Self { numbers, text: made.text.to_string(), before: Vec::new(), after: Vec::new(), listed: true }
+    }
+}
+
 /// What compile or derive answered and left. A symbol above 32 bits stands for compile.
 pub struct Made<'a> {
     pub symbol: u64,
@@ -111,17 +120,19 @@ impl Recorder {
         self.add_list(case, made);
     }
 
-    /// The same case as a list of calls, each on what the one before it left.
+    /// The same case as a list of calls, each on what the one before it left. A refusal of compile or derive stands for one call.
     fn add_list(&mut self, case: &Case, made: &Made) {
-        let calls: Vec<&Call> = made.calls.iter().filter(|call| call.listed).collect();
-        let registers = calls.first().map_or(0, |call| call.before.first().copied().unwrap_or(0));
-        let path = if made.answer == 0 { PATH + 8 } else { made.lengths[0] };
-        let sizes = [case.formula.len(), case.names.len(), made.symbol as usize, path, made.lengths[1], made.lengths[2], made.answer, made.text.len()];
-        extend(&mut self.lists, sizes.map(|n| n as u64));
-        extend(&mut self.lists, [made.inputs.len() as u64, made.registers as u64, registers, calls.len() as u64]);
-        for part in [case.formula.as_slice(), &case.names, made.text.as_bytes()] {
-            self.lists.extend(part);
+        let none = Call::refused(made);
+        let mut calls: Vec<&Call> = made.calls.iter().filter(|call| call.listed).collect();
+        if made.answer != 0 {
+            calls.push(&none);
         }
+        let held = calls[0].before.first().copied().unwrap_or(0);
+        let path = if made.answer == 0 { PATH + 8 } else { made.lengths[0] };
+        let sizes = [case.formula.len(), case.names.len(), made.symbol as usize, path, made.lengths[1], made.lengths[2], made.answer];
+        extend(&mut self.lists, sizes.map(|n| n as u64));
+        extend(&mut self.lists, [made.inputs.len() as u64, made.registers as u64, held, calls.len() as u64]);
+        self.lists.extend(case.formula.iter().chain(&case.names));
         extend(&mut self.lists, made.inputs.iter().map(|x| x.to_bits()));
         extend(&mut self.lists, calls.iter().map(|call| call.numbers[1]));
         extend(&mut self.lists, calls.iter().map(|call| call.numbers[2]));

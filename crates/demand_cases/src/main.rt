@@ -2,10 +2,10 @@
 // `hosted::make_and_call`, which hands the cells from one C function to the next. The answers are the Rust reference's, and for budgets
 // and refused calls those of the model in tools/compare/machine.rs, whose whole runs agree with the reference's.
 //
-// Standard input has a record for each case; numbers are 8 bytes, the least first. A case has 12 numbers (`Head`), then formula, names,
-// the path text of a refusal, and the inputs. For its calls come each one's path room, each one's budget, a byte each for whether a value
-// is supplied, and the values; then for each call 18 numbers, its answer, the cells after it and the length of the path's text, then that
-// text and the registers after it.
+// Standard input has a record for each case; numbers are 8 bytes, the least first. A case has 11 numbers (`Head`), then formula, names and
+// inputs. For its calls come each one's path room, each one's budget, a byte each for whether a value is supplied, and the values; then
+// for each call 18 numbers, its answer, the cells after it and the length of the path's text, then that text and the registers after it.
+// A refusal of compile or derive stands there as the answer of one call.
 ghost use Prim.Native.Nat.{_≤_};
 ghost use lib.ListN.{length};
 use demand::Played;
@@ -131,7 +131,6 @@ struct Head {
     tree: usize,
     program: usize,
     answer: usize,
-    text: usize,
     inputs: usize,
     registers: usize,
     held: u64,
@@ -147,11 +146,10 @@ fn head_of(b: &[u8]) -> Head {
         tree: size(b, 4),
         program: size(b, 5),
         answer: size(b, 6),
-        text: size(b, 7),
-        inputs: size(b, 8),
-        registers: size(b, 9),
-        held: number(b, 10),
-        calls: size(b, 11),
+        inputs: size(b, 7),
+        registers: size(b, 8),
+        held: number(b, 9),
+        calls: size(b, 10),
     }
 }
 
@@ -190,17 +188,7 @@ fn by_machine(
         demand::Wanted::Formula
     };
     demand::make_and_play(
-        formula,
-        names,
-        wanted,
-        tree,
-        program,
-        inputs,
-        registers,
-        path,
-        rooms,
-        budgets,
-        flags,
+        formula, names, wanted, tree, program, inputs, registers, path, rooms, budgets, flags,
         values,
     )
 }
@@ -233,17 +221,14 @@ fn is_count(b: &[u8], count: usize) -> bool {
     count as u64 == number(b, 15)
 }
 
-fn is_played(b: &[u8], p: Played) -> bool {
+// The reply as recorded, or compile's or derive's refusal.
+fn is_played(b: &[u8], refusal: usize, p: Played) -> bool {
     match p {
-        Played::Refused(n) => false,
-        Played::Replied(r) => is_answer(b, r.answer) && is_count(b, r.count),
-    }
-}
-
-fn is_turned_away(p: Played, answer: usize) -> bool {
-    match p {
-        Played::Refused(n) => n as usize == answer,
-        Played::Replied(r) => false,
+        Played::Refused(n) => n as usize == refusal,
+        Played::Replied(r) => {
+            let answer = r.answer;
+            refusal == 0 && (is_answer(b, answer) && is_count(b, r.count))
+        }
     }
 }
 
@@ -274,27 +259,82 @@ fn by_host(
         hosted::Wanted::Formula
     };
     hosted::make_and_call(
-        formula,
-        names,
-        wanted,
-        tree,
-        program,
-        inputs,
-        registers,
-        path,
-        rooms,
-        budgets,
-        flags,
-        values,
-        cells,
+        formula, names, wanted, tree, program, inputs, registers, path, rooms, budgets, flags,
+        values, cells,
     )
 }
 
 // ---- lists
 
-// Registers and path slice after the last call, as recorded.
-fn is_left(b: &[u8], text: &[u8], after: &[u8], registers: &[f64], path: &[u8]) -> bool {
-    same_values(after, registers) && is_placed(path, text, size(b, 17), 8192)
+fn all(a: bool, b: bool, c: bool) -> bool {
+    a && (b && c)
+}
+
+// Registers and path slice after the last call, as recorded. A call writes to the 8,192 bytes that it was lent, compile and derive
+// write to the whole slice.
+fn is_left(
+    b: &[u8],
+    text: &[u8],
+    after: &[u8],
+    refusal: usize,
+    registers: &[f64],
+    path: &[u8],
+) -> bool {
+    let room = if refusal == 0 { 8192 } else { path.len() };
+    same_values(after, registers) && is_placed(path, text, size(b, 17), room)
+}
+
+fn as_played(
+    h: Head,
+    b: &[u8],
+    text: &[u8],
+    after: &[u8],
+    formula: &[u8],
+    names: &[u8],
+    tree: &mut [u8],
+    program: &mut [u8],
+    inputs: &[f64],
+    registers: &mut [f64],
+    path: &mut [u8],
+    rooms: &[usize],
+    budgets: &[usize],
+    flags: &[u8],
+    values: &[f64],
+) -> bool {
+    let p = by_machine(
+        h, formula, names, tree, program, inputs, registers, path, rooms, budgets, flags, values,
+    );
+    let first = is_played(b, h.answer, p);
+    let second = is_left(b, text, after, h.answer, registers, path);
+    all(first, second, true)
+}
+
+fn as_hosted(
+    h: Head,
+    b: &[u8],
+    text: &[u8],
+    after: &[u8],
+    formula: &[u8],
+    names: &[u8],
+    tree: &mut [u8],
+    program: &mut [u8],
+    inputs: &[f64],
+    registers: &mut [f64],
+    path: &mut [u8],
+    rooms: &[usize],
+    budgets: &[usize],
+    flags: &[u8],
+    values: &[f64],
+    cells: &mut [u64],
+) -> bool {
+    let n = by_host(
+        h, formula, names, tree, program, inputs, registers, path, rooms, budgets, flags, values,
+        cells,
+    );
+    let first = n == size(b, 0);
+    let second = same_cells(b, 1, cells);
+    let third = is_left(b, text, after, h.answer, registers, path);
+    all(first, second, third)
 }
 
 // A list whose record was read, played both ways.
@@ -316,63 +356,26 @@ fn both(
     values: &[f64],
     cells: &mut [u64],
 ) -> bool {
-    let p = by_machine(
-        h,
-        formula,
-        names,
-        tree,
-        program,
-        inputs,
-        registers,
-        path,
-        rooms,
-        budgets,
-        flags,
-        values,
+    let first = as_played(
+        h, b, text, after, formula, names, tree, program, inputs, registers, path, rooms, budgets,
+        flags, values,
     );
-    let same = is_played(b, p);
-    if !same {
-        return false;
-    }
-    let same = is_left(b, text, after, registers, path);
-    if !same {
-        return false;
-    }
-    let n = by_host(
-        h,
-        formula,
-        names,
-        tree,
-        program,
-        inputs,
-        registers,
-        path,
-        rooms,
-        budgets,
-        flags,
-        values,
-        cells,
+    let second = as_hosted(
+        h, b, text, after, formula, names, tree, program, inputs, registers, path, rooms, budgets,
+        flags, values, cells,
     );
-    if n != size(b, 0) {
-        return false;
-    }
-    same_cells(b, 1, cells) && is_left(b, text, after, registers, path)
+    all(first, second, true)
 }
 
 // Reads what is recorded of a list's last call; false also at the end of the input.
 fn read_last(b: &mut [u8], text: &mut [u8], after: &mut [u8], registers: usize) -> bool {
-    let read = take(b, 144);
-    if !read {
-        return false;
-    }
-    let read = take(text, size(b, 17));
-    if !read {
-        return false;
-    }
     if registers > 256 {
         return false;
     }
-    take(after, 8 * registers)
+    let first = take(b, 144);
+    let second = take(text, size(b, 17));
+    let third = take(after, 8 * registers);
+    all(first, second, third)
 }
 
 fn beginning(
@@ -390,31 +393,15 @@ fn beginning(
     values: &[f64],
 ) -> bool {
     let mut b = [0u8; 144];
-    let mut text = [0u8; 512];
+    let mut text = [0u8; 2048];
     let mut after = [0u8; 2048];
     let mut cells = [0u64; 16];
-    let read = read_last(&mut b, &mut text, &mut after, registers.len());
-    if !read {
-        return false;
-    }
-    both(
-        h,
-        &b,
-        &text,
-        &after,
-        formula,
-        names,
-        tree,
-        program,
-        inputs,
-        registers,
-        path,
-        rooms,
-        budgets,
-        flags,
-        values,
-        &mut cells,
-    )
+    let first = read_last(&mut b, &mut text, &mut after, registers.len());
+    let second = both(
+        h, &b, &text, &after, formula, names, tree, program, inputs, registers, path, rooms,
+        budgets, flags, values, &mut cells,
+    );
+    all(first, second, true)
 }
 
 // Whether every beginning of the list is as recorded.
@@ -432,6 +419,7 @@ fn beginnings(
     flags: &[u8],
     values: &[f64],
 ) -> bool {
+    let mut right = true;
     let mut k = 0;
     while k < budgets.len() {
         k += 1;
@@ -449,68 +437,9 @@ fn beginnings(
             flags,
             values,
         );
-        if !same {
-            return false;
-        }
+        right = all(right, same, true);
     }
-    true
-}
-
-// A formula that is refused, both ways.
-fn turned_away(
-    h: Head,
-    text: &[u8],
-    formula: &[u8],
-    names: &[u8],
-    tree: &mut [u8],
-    program: &mut [u8],
-    inputs: &[f64],
-    registers: &mut [f64],
-    path: &mut [u8],
-    rooms: &[usize],
-    budgets: &[usize],
-    flags: &[u8],
-    values: &[f64],
-    cells: &mut [u64],
-) -> bool {
-    let p = by_machine(
-        h,
-        formula,
-        names,
-        tree,
-        program,
-        inputs,
-        registers,
-        path,
-        rooms,
-        budgets,
-        flags,
-        values,
-    );
-    let same = is_turned_away(p, h.answer);
-    if !same {
-        return false;
-    }
-    let same = is_placed(path, text, h.text, path.len());
-    if !same {
-        return false;
-    }
-    let n = by_host(
-        h,
-        formula,
-        names,
-        tree,
-        program,
-        inputs,
-        registers,
-        path,
-        rooms,
-        budgets,
-        flags,
-        values,
-        cells,
-    );
-    n == h.answer && is_placed(path, text, h.text, path.len())
+    right
 }
 
 // ---- reading
@@ -531,38 +460,22 @@ fn read_list(
     if n > 16 {
         return false;
     }
-    let read = take(b, 8 * inputs.len());
-    if !read {
-        return false;
-    }
+    let first = take(b, 8 * inputs.len());
     read_values(b, inputs);
-    let read = take(b, 8 * n);
-    if !read {
-        return false;
-    }
+    let second = take(b, 8 * n);
     read_sizes(b, rooms);
-    let read = take(b, 8 * n);
-    if !read {
-        return false;
-    }
+    let third = take(b, 8 * n);
     read_sizes(b, budgets);
-    let read = take(flags, n);
-    if !read {
-        return false;
-    }
-    let read = take(b, 8 * n);
-    if !read {
-        return false;
-    }
+    let fourth = take(flags, n);
+    let fifth = take(b, 8 * n);
     read_values(b, values);
-    true
+    all(all(first, second, third), fourth, fifth)
 }
 
 // A case whose slices are just as long as it says.
 fn listed(
     h: Head,
     b: &mut [u8],
-    text: &[u8],
     formula: &[u8],
     names: &[u8],
     tree: &mut [u8],
@@ -575,48 +488,15 @@ fn listed(
     flags: &mut [u8],
     values: &mut [f64],
 ) -> bool {
-    let read = read_list(b, inputs, rooms, budgets, flags, values);
-    if !read {
-        return false;
-    }
-    if h.answer == 0 {
-        return beginnings(
-            h,
-            formula,
-            names,
-            tree,
-            program,
-            inputs,
-            registers,
-            path,
-            rooms,
-            budgets,
-            flags,
-            values,
-        );
-    }
-    let mut cells = [0u64; 16];
-    turned_away(
-        h,
-        text,
-        formula,
-        names,
-        tree,
-        program,
-        inputs,
-        registers,
-        path,
-        rooms,
-        budgets,
-        flags,
-        values,
-        &mut cells,
-    )
+    let first = read_list(b, inputs, rooms, budgets, flags, values);
+    let second = beginnings(
+        h, formula, names, tree, program, inputs, registers, path, rooms, budgets, flags, values,
+    );
+    all(first, second, true)
 }
 
 fn with_list(
     h: Head,
-    text: &[u8],
     formula: &[u8],
     names: &[u8],
     tree: &mut [u8],
@@ -642,7 +522,6 @@ fn with_list(
     listed(
         h,
         &mut b,
-        text,
         formula,
         names,
         tree,
@@ -661,7 +540,6 @@ fn case_in(
     h: Head,
     formula: &mut [u8],
     names: &mut [u8],
-    text: &mut [u8],
     path: &mut [u8],
     tree: &mut [u8],
     program: &mut [u8],
@@ -681,33 +559,22 @@ fn case_in(
     if h.names > names.len() {
         return false;
     }
-    let read = take(formula, h.formula);
-    if !read {
-        return false;
-    }
-    let read = take(names, h.names);
-    if !read {
-        return false;
-    }
-    let read = take(text, h.text);
-    if !read {
-        return false;
-    }
-    with_list(
+    let first = take(formula, h.formula);
+    let second = take(names, h.names);
+    let third = with_list(
         h,
-        text,
         &formula[..h.formula],
         &names[..h.names],
         &mut tree[..h.tree],
         &mut program[..h.program],
         &mut path[..h.path],
-    )
+    );
+    all(first, second, third)
 }
 
 fn one_case(h: Head) -> bool {
     let mut formula = [0u8; 8192];
     let mut names = [0u8; 8192];
-    let mut text = [0u8; 2048];
     let mut path = [0u8; 8200];
     let mut tree = [0u8; 8192];
     let mut program = [0u8; 65536];
@@ -715,7 +582,6 @@ fn one_case(h: Head) -> bool {
         h,
         &mut formula,
         &mut names,
-        &mut text,
         &mut path,
         &mut tree,
         &mut program,
@@ -730,7 +596,7 @@ struct Shown {
 }
 
 fn seen(head: &mut [u8]) -> Shown {
-    let read = take(head, 96);
+    let read = take(head, 88);
     if !read {
         return Shown {
             there: false,
@@ -742,12 +608,12 @@ fn seen(head: &mut [u8]) -> Shown {
     Shown {
         there: true,
         right: right,
-        calls: number(head, 11),
+        calls: number(head, 10),
     }
 }
 
 fn next_case() -> Shown {
-    let mut head = [0u8; 96];
+    let mut head = [0u8; 88];
     seen(&mut head)
 }
 
