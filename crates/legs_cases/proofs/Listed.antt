@@ -8,11 +8,9 @@ use lib.ListN.{length, take, drop, length-append, take-append-drop}
 use lib.Seq.{length-take-le}
 use borrow.Rule.Slice.PartMut.{midOf}
 use Rattle.listing.specs.Legs.{legs}
-use Rattle.steps.specs.Steps.{over}
 use Rattle.steps.proofs.Over.{over-nil}
 use Rattle.lines.specs.declared.Advanced.{Advanced}
 use Rattle.lines.specs.declared.Stage.{Stage}
-use Rattle.lines.specs.Text.{Wrote}
 use Rattle.lines.specs.Owed.{Begins, Ends, Memory, Roomy, file-of}
 use Rattle.lines.specs.Calls.{Advancing}
 use Rattle.lines.proofs.Compose.{whole-output}
@@ -22,7 +20,7 @@ use Rattle.legs_cases.specs.declared.Listing.{Listing}
 use Rattle.legs_cases.specs.declared.Listing.the-variants as Listing
 use Rattle.legs_cases.specs.declared.Fed.{Fed}
 use Rattle.legs_cases.specs.declared.Fed.the-variants as Fed
-use Rattle.legs_cases.specs.Listed.{Copies, Feeds-all, Fits, Lists, Too-long}
+use Rattle.legs_cases.specs.Listed.{Copies, Feeds-all, Fits, Lists}
 
 -- ---- the loop over the blocks: what came of the bytes before a place stands in the whole
 

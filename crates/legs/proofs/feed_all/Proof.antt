@@ -7,7 +7,6 @@ use Rattle.lines.specs.Owed.{memory}
 use borrow.Author.Needs.{needs}
 use lib.Seq.{length-take-le}
 use lib.ListN.{length, take}
-use Prim.Native.Nat.{_≤_}
 use mathlib.Core.Path.{sym, _∙_, subst}
 use native.Mathlib.Omega.{arith}
 use Rattle.legs.proofs.feed_all.Statement.{statement}
