@@ -188,7 +188,17 @@ fn by_machine(
         demand::Wanted::Formula
     };
     demand::make_and_play(
-        formula, names, wanted, tree, program, inputs, registers, path, rooms, budgets, flags,
+        formula,
+        names,
+        wanted,
+        tree,
+        program,
+        inputs,
+        registers,
+        path,
+        rooms,
+        budgets,
+        flags,
         values,
     )
 }
@@ -259,8 +269,19 @@ fn by_host(
         hosted::Wanted::Formula
     };
     hosted::make_and_call(
-        formula, names, wanted, tree, program, inputs, registers, path, rooms, budgets, flags,
-        values, cells,
+        formula,
+        names,
+        wanted,
+        tree,
+        program,
+        inputs,
+        registers,
+        path,
+        rooms,
+        budgets,
+        flags,
+        values,
+        cells,
     )
 }
 
@@ -302,7 +323,18 @@ fn as_played(
     values: &[f64],
 ) -> bool {
     let p = by_machine(
-        h, formula, names, tree, program, inputs, registers, path, rooms, budgets, flags, values,
+        h,
+        formula,
+        names,
+        tree,
+        program,
+        inputs,
+        registers,
+        path,
+        rooms,
+        budgets,
+        flags,
+        values,
     );
     let first = is_played(b, h.answer, p);
     let second = is_left(b, text, after, h.answer, registers, path);
@@ -328,7 +360,18 @@ fn as_hosted(
     cells: &mut [u64],
 ) -> bool {
     let n = by_host(
-        h, formula, names, tree, program, inputs, registers, path, rooms, budgets, flags, values,
+        h,
+        formula,
+        names,
+        tree,
+        program,
+        inputs,
+        registers,
+        path,
+        rooms,
+        budgets,
+        flags,
+        values,
         cells,
     );
     let first = n == size(b, 0);
@@ -357,12 +400,39 @@ fn both(
     cells: &mut [u64],
 ) -> bool {
     let first = as_played(
-        h, b, text, after, formula, names, tree, program, inputs, registers, path, rooms, budgets,
-        flags, values,
+        h,
+        b,
+        text,
+        after,
+        formula,
+        names,
+        tree,
+        program,
+        inputs,
+        registers,
+        path,
+        rooms,
+        budgets,
+        flags,
+        values,
     );
     let second = as_hosted(
-        h, b, text, after, formula, names, tree, program, inputs, registers, path, rooms, budgets,
-        flags, values, cells,
+        h,
+        b,
+        text,
+        after,
+        formula,
+        names,
+        tree,
+        program,
+        inputs,
+        registers,
+        path,
+        rooms,
+        budgets,
+        flags,
+        values,
+        cells,
     );
     all(first, second, true)
 }
@@ -398,8 +468,22 @@ fn beginning(
     let mut cells = [0u64; 16];
     let first = read_last(&mut b, &mut text, &mut after, registers.len());
     let second = both(
-        h, &b, &text, &after, formula, names, tree, program, inputs, registers, path, rooms,
-        budgets, flags, values, &mut cells,
+        h,
+        &b,
+        &text,
+        &after,
+        formula,
+        names,
+        tree,
+        program,
+        inputs,
+        registers,
+        path,
+        rooms,
+        budgets,
+        flags,
+        values,
+        &mut cells,
     );
     all(first, second, true)
 }
@@ -495,9 +579,7 @@ fn listed(
     flags: &mut [u8],
     values: &mut [f64],
 ) -> bool {
-    let first = read_list(
-        h.inputs, h.calls, b, inputs, rooms, budgets, flags, values,
-    );
+    let first = read_list(h.inputs, h.calls, b, inputs, rooms, budgets, flags, values);
     let i = cut(h.inputs, inputs.len());
     let r = cut(h.registers, registers.len());
     let k = cut(h.calls, budgets.len());

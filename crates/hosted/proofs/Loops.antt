@@ -101,13 +101,13 @@ module _ (r : Reply) (cells cells′ : List ℕ) (regs′ : List Float) (part pa
   follows =
       record {
         shows =
-          record {
-            number-shown = hn;
-            state-shown = hs;
-            value-shown = λ f. ap (λ (l : List ℕ). getD l 15 0) (hc f) ∙ written-value r cells;
-            question-shown = λ f. ap (λ (l : List ℕ). take 3 (drop 11 l)) (hc f) ∙ written-question r cells ∙ ap question-cells (hq f);
-            count-shown = λ f. ap (λ (l : List ℕ). getD l 14 0) (hc f) ∙ written-count r cells;
-          };
+            record {
+              number-shown = hn;
+              state-shown = hs;
+              value-shown = λ f. ap (λ (l : List ℕ). getD l 15 0) (hc f) ∙ written-value r cells;
+              question-shown = λ f. ap (λ (l : List ℕ). take 3 (drop 11 l)) (hc f) ∙ written-question r cells ∙ ap question-cells (hq f);
+              count-shown = λ f. ap (λ (l : List ℕ). getD l 14 0) (hc f) ∙ written-count r cells;
+            };
         registers-are = hr;
         path-is = ap (λ (l : List ℕ). l ++ drop room path) hp;
       }
@@ -220,8 +220,8 @@ module _ (inputs : List Float) (b : List ℕ) (n : ℕ) (rooms budgets flags : L
         cells-long = ec ∙ I .cells-long;
         hosts = sym (hosted-step inputs b n rooms budgets flags values regs regs′ cells cells′ path part number number′ i room k g er h ek eg L) ∙ I .hosts;
         plays = λ enough last F.
-          following-step last regs regs′ cells cells′ path part number number′ i room k g er l h ek eg (I .plays enough last F)
-          (resume-follows inputs b k regs regs′ cells cells′ path part number′ room (omega (arith, I .cells-long)) ec g L K);
+            following-step last regs regs′ cells cells′ path part number number′ i room k g er l h ek eg (I .plays enough last F)
+            (resume-follows inputs b k regs regs′ cells cells′ path part number′ room (omega (arith, I .cells-long)) ec g L K);
       }
 
   -- the whole list, from the run's outcome and the invariant after the last call
@@ -238,8 +238,8 @@ module _ (inputs : List Float) (b : List ℕ) (n : ℕ) (rooms budgets flags : L
         ∙ hosted-start inputs b n rooms budgets flags values regs regs₁ cells cells₁ path part number₁ room k en er ek L in (
           subst (λ (o : Outcome). Leaves o number cells′ regs′ path′) e (refl, refl, refl, refl),
           λ enough.
-            let last = play-at inputs b path rooms budgets flags values regs in
-            following-end last number cells′ regs′ path′ i done
-            (I .plays (omega arith) last
-            (following-start regs regs₁ cells cells₁ path part number₁ room k en er l ek (run-follows inputs b k regs regs₁ cells cells₁ path part number₁ room enough ec L K))),
+              let last = play-at inputs b path rooms budgets flags values regs in
+              following-end last number cells′ regs′ path′ i done
+              (I .plays (omega arith) last
+              (following-start regs regs₁ cells cells₁ path part number₁ room k en er l ek (run-follows inputs b k regs regs₁ cells cells₁ path part number₁ room enough ec L K))),
         )

@@ -85,7 +85,14 @@ fn call_all(
     let n = path.len();
     let first = room_at(rooms, n, 0);
     let budget = budget_at(budgets, 0);
-    let mut number = vebrostin_run(program, inputs, registers, &mut path[..first], budget, cells);
+    let mut number = vebrostin_run(
+        program,
+        inputs,
+        registers,
+        &mut path[..first],
+        budget,
+        cells,
+    );
     let mut i = 1;
     while i < budgets.len() {
         let room = room_at(rooms, n, i);
@@ -129,6 +136,14 @@ pub fn make_and_call(
         return refusal;
     }
     call_all(
-        program, inputs, registers, path, rooms, budgets, flags, values, cells,
+        program,
+        inputs,
+        registers,
+        path,
+        rooms,
+        budgets,
+        flags,
+        values,
+        cells,
     )
 }

@@ -62,9 +62,17 @@ module _ (F : Format) where
   unfolding density-work density-cost
   of-density x mean shape =
       either (le mean 0f || le shape 0f) undefined _ tt
-      (either (le x 0f) (give 0f) _ tt
-      (log-few, λ a. (log-few, λ b. (log-few, λ c. either (eq x mean) _ _ (exp-few, λ v. tt)
-      (log-few, λ d. (log-few, λ e. (log-few, λ f. (log-few, λ g. (exp-few, λ h. (exp-few, λ v. tt))))))))))
+      (either (le x 0f) (give 0f) _ tt (
+        log-few,
+        λ a. (
+          log-few,
+          λ b. (
+            log-few,
+            λ c. either (eq x mean) _ _ (exp-few, λ v. tt)
+                (log-few, λ d. (log-few, λ e. (log-few, λ f. (log-few, λ g. (exp-few, λ h. (exp-few, λ v. tt)))))),
+          ),
+        ),
+      ))
 
   of-call : (f : Function) (xs : List Float) (x y z : Float) → Asks (call-work F f xs x y z)
   of-call Exp xs x y z = (exp-few, λ v. tt)

@@ -100,9 +100,9 @@ module _ (inputs : List Float) (b : List ℕ) (budget : ℕ) (regs : List Float)
     unfolding run-outcome
     run-leaves = (
       subst (λ (o : Outcome). Leaves o n cells′ regs′ path′)
-      (ap (λ (x : List ℕ). told (reply-of b r regs′) x path) (shown b r regs′ cells cells′ hc)
-      ∙ ap (λ (x : Machine.Reply). told x (written x cells) path) hr ∙ roomy cells regs path _ h)
-      (leaves b r regs′ path cells′ path′ n hn hp),
+          (ap (λ (x : List ℕ). told (reply-of b r regs′) x path) (shown b r regs′ cells cells′ hc)
+          ∙ ap (λ (x : Machine.Reply). told x (written x cells) path) hr ∙ roomy cells regs path _ h)
+          (leaves b r regs′ path cells′ path′ n hn hp),
       λ l. hs (subst (λ (x : Machine.Reply). Askable (x .state .pending)) (sym hr) (run-asks inputs b (length path) budget regs .0)) ∙ ap (λ (x : Machine.Reply). x .state) hr,
     )
 

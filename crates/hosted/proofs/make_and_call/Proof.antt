@@ -22,9 +22,11 @@ same-length-3 c = search needs
 returns : tie.Need-returns
 returns c =
     let a = c .before .before .before .before .before .before .before .before .before .before .before .before .before .before .before .before .before .before .before .before .before .before .before .args in
-    let w = c .before .before .before .before .before .before .before .write-program in
-    (w .ensures .1, turned-away (w .last .1 .1 .1 .1 .1 .0) (a .inputs .now) (a .rooms .now) (a .budgets .now) (a .flags .now) (a .values .now) (a .registers .now) (a .path .now) (w .last .1 .1 .1 .0) (a .cells .now) (w .result)
-    (make (a .formula .now) (a .names .now) (wanted-of (a .wanted)) (length (a .path .now)) (length (a .tree .now)) (length (a .program .now))) (c .if1 .taken) (w .ensures .0))
+    let w = c .before .before .before .before .before .before .before .write-program in (
+      w .ensures .1,
+      turned-away (w .last .1 .1 .1 .1 .1 .0) (a .inputs .now) (a .rooms .now) (a .budgets .now) (a .flags .now) (a .values .now) (a .registers .now) (a .path .now) (w .last .1 .1 .1 .0) (a .cells .now) (w .result)
+          (make (a .formula .now) (a .names .now) (wanted-of (a .wanted)) (length (a .path .now)) (length (a .tree .now)) (length (a .program .now))) (c .if1 .taken) (w .ensures .0),
+    )
 
 call-all-requires : tie.Need-call-all-requires
 call-all-requires c κs = search needs
@@ -48,10 +50,12 @@ returns-2 : tie.Need-returns-2
 returns-2 c =
     let a = c .before .before .before .before .before .before .before .before .before .before .before .before .before .before .before .before .before .before .before .before .before .before .before .before .before .before .before .before .before .before .before .before .before .before .args in
     let w = c .before .before .before .before .before .before .before .before .before .before .before .before .before .before .before .before .before .before .write-program in
-    let r = c .before .before .before .before .before .before .call-all in
-    (w .ensures .1, called (a .formula .now) (a .names .now) (λ i. omega (arith, c .before .before .before .before .before .before .before .before .before .before .before .before .before .before .before .before .before .before .before .before .before .before .before .before .before .before .before .before .before .before .before .before .before .shared-slice-known .given i)) (wanted-of (a .wanted)) (length (a .tree .now)) (a .program .now) (w .last .1 .1 .1 .1 .1 .0)
-    (a .inputs .now) (a .rooms .now) (a .budgets .now) (a .flags .now) (a .values .now) (a .registers .now) (r .last .1 .1 .0) (a .path .now) (w .last .1 .1 .1 .0) (r .last .1 .1 .1 .0)
-    (a .cells .now) (r .last .1 .1 .1 .1 .1 .1 .1 .1 .0) (r .result) (w .result) (c .before .before .before .before .before .before .before .before .before .before .before .if1 .left) (w .ensures .0) (w .ensures .1 .1) (r .ensures .0) (r .ensures .1))
+    let r = c .before .before .before .before .before .before .call-all in (
+      w .ensures .1,
+      called (a .formula .now) (a .names .now) (λ i. omega (arith, c .before .before .before .before .before .before .before .before .before .before .before .before .before .before .before .before .before .before .before .before .before .before .before .before .before .before .before .before .before .before .before .before .before .shared-slice-known .given i)) (wanted-of (a .wanted)) (length (a .tree .now)) (a .program .now) (w .last .1 .1 .1 .1 .1 .0)
+          (a .inputs .now) (a .rooms .now) (a .budgets .now) (a .flags .now) (a .values .now) (a .registers .now) (r .last .1 .1 .0) (a .path .now) (w .last .1 .1 .1 .0) (r .last .1 .1 .1 .0)
+          (a .cells .now) (r .last .1 .1 .1 .1 .1 .1 .1 .1 .0) (r .result) (w .result) (c .before .before .before .before .before .before .before .before .before .before .before .if1 .left) (w .ensures .0) (w .ensures .1 .1) (r .ensures .0) (r .ensures .1),
+    )
 
 pub make-and-call-spec : {M : Type 1} → statement M
 make-and-call-spec =
