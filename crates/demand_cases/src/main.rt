@@ -528,8 +528,20 @@ fn beginnings(
 
 // ---- reading
 
-// Reads the inputs and the list; the slices are just as long as the case says.
+// A length, cut to what there is: a record that asks for more is not played as recorded.
+fn cut(n: usize, most: usize) -> usize
+    ensures { λ r. ⌜ r ≤ most ⌝ }
+{
+    if n < most {
+        return n;
+    }
+    most
+}
+
+// Reads so many inputs, and a list of so many calls.
 fn read_list(
+    count: usize,
+    calls: usize,
     b: &mut [u8],
     inputs: &mut [f64],
     rooms: &mut [usize],
@@ -537,14 +549,9 @@ fn read_list(
     flags: &mut [u8],
     values: &mut [f64],
 ) -> bool {
-    if inputs.len() > 256 {
-        return false;
-    }
-    let n = rooms.len();
-    if n > 16 {
-        return false;
-    }
-    let first = take(b, 8 * inputs.len());
+    let count = cut(count, 256);
+    let n = cut(calls, 16);
+    let first = take(b, 8 * count);
     read_values(b, inputs);
     let second = take(b, 8 * n);
     read_sizes(b, rooms);
@@ -556,7 +563,7 @@ fn read_list(
     all(all(first, second, third), fourth, fifth)
 }
 
-// A case whose slices are just as long as it says.
+// A case whose formula, names, tree, program and path slices are just as long as it says.
 fn listed(
     h: Head,
     b: &mut [u8],
@@ -572,18 +579,21 @@ fn listed(
     flags: &mut [u8],
     values: &mut [f64],
 ) -> bool {
-    let first = read_list(b, inputs, rooms, budgets, flags, values);
+    let first = read_list(h.inputs, h.calls, b, inputs, rooms, budgets, flags, values);
+    let i = cut(h.inputs, inputs.len());
+    let r = cut(h.registers, registers.len());
+    let k = cut(h.calls, budgets.len());
     let second = beginnings(
         h,
         formula,
         names,
         tree,
         program,
-        inputs,
-        registers,
+        &inputs[..i],
+        &mut registers[..r],
         path,
         rooms,
-        budgets,
+        &budgets[..k],
         flags,
         values,
     );
@@ -605,15 +615,6 @@ fn with_list(
     let mut budgets = [0usize; 16];
     let mut flags = [0u8; 16];
     let mut values = [0.0; 16];
-    if h.inputs > 256 {
-        return false;
-    }
-    if h.registers > 256 {
-        return false;
-    }
-    if h.calls > 16 {
-        return false;
-    }
     listed(
         h,
         &mut b,
@@ -621,13 +622,13 @@ fn with_list(
         names,
         tree,
         program,
-        &mut inputs[..h.inputs],
-        &mut registers[..h.registers],
+        &mut inputs,
+        &mut registers,
         path,
-        &mut rooms[..h.calls],
-        &mut budgets[..h.calls],
-        &mut flags[..h.calls],
-        &mut values[..h.calls],
+        &mut rooms,
+        &mut budgets,
+        &mut flags,
+        &mut values,
     )
 }
 
@@ -639,30 +640,20 @@ fn case_in(
     tree: &mut [u8],
     program: &mut [u8],
 ) -> bool {
-    if h.path > path.len() {
-        return false;
-    }
-    if h.tree > tree.len() {
-        return false;
-    }
-    if h.program > program.len() {
-        return false;
-    }
-    if h.formula > formula.len() {
-        return false;
-    }
-    if h.names > names.len() {
-        return false;
-    }
     let first = take(formula, h.formula);
     let second = take(names, h.names);
+    let f = cut(h.formula, formula.len());
+    let n = cut(h.names, names.len());
+    let t = cut(h.tree, tree.len());
+    let p = cut(h.program, program.len());
+    let q = cut(h.path, path.len());
     let third = with_list(
         h,
-        &formula[..h.formula],
-        &names[..h.names],
-        &mut tree[..h.tree],
-        &mut program[..h.program],
-        &mut path[..h.path],
+        &formula[..f],
+        &names[..n],
+        &mut tree[..t],
+        &mut program[..p],
+        &mut path[..q],
     );
     all(first, second, third)
 }

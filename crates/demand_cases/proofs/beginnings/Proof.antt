@@ -1,65 +1,54 @@
+use mathlib.Core.Path.{_≡_, refl, sym, _∙_}
+use Prim.Native.Nat.{_+_, _-_}
+use native.Mathlib.Omega.{arith}
+use borrow.Author.Needs.{needs}
+use lib.ListN.{length}
+use lib.Seq.{length-take-le}
 use Rattle.demand_cases.proofs.beginnings.Statement.{statement}
 use Rattle.demand_cases.proofs.beginnings.Tie as tie
-use Rattle.demand_cases.proofs.beginnings.Reads as reads
-use Rattle.demand_cases.proofs.beginnings.Lts as lts
-use Rattle.demand_cases.proofs.all.Reads as all-reads
-use Rattle.demand_cases.proofs.beginning.Reads as beginning-reads
 
 abbrev Inv-loop : tie.InvT-loop
 Inv-loop h formula names tree₀ program₀ inputs registers₀ path₀ rooms budgets flags values right₀ k₀ tree program registers path right k =
-    ?
+    (length tree ≡ length tree₀) × (length program ≡ length program₀) × (length registers ≡ length registers₀) × (length path ≡ length path₀)
 
 abbrev μ-loop : tie.MeasureT-loop
-μ-loop h formula names tree₀ program₀ inputs registers₀ path₀ rooms budgets flags values right₀ k₀ tree program registers path right k =
-    ?
+μ-loop h formula names tree₀ program₀ inputs registers₀ path₀ rooms budgets flags values right₀ k₀ tree program registers path right k = length budgets - k
 
--- src/main.rt:424:5
 loop-holds : tie.Need-loop-holds Inv-loop μ-loop
-loop-holds c = ?
+loop-holds c = (refl, refl, refl, refl)
 
--- src/main.rt:425:9
 add-k : tie.Need-add-k Inv-loop μ-loop
-add-k c = ?
+add-k c = omega (arith, c .loop-test .taken, c .before .before .before .before .before .before .before .before .before .before .before .before .before .good .1 .1 .1 .1 .1 .1 .1 .1 .1 .0 .0)
 
--- src/main.rt:436:13
 slice-aggregate-beginning : tie.Need-slice-aggregate-beginning Inv-loop μ-loop
-slice-aggregate-beginning c = ?
+slice-aggregate-beginning c = sym (length-take-le (c .before .before .before .before .before .before .loop .k + 1) (c .before .before .before .before .before .before .before .before .before .before .before .before .before .before .before .before .before .before .args .budgets .now) (omega (arith, c .before .before .before .before .before .loop-test .taken)))
 
--- src/main.rt:426:13
 beginning-requires : tie.Need-beginning-requires Inv-loop μ-loop
-beginning-requires c κs = ?
+beginning-requires c κs = search needs
 
--- src/main.rt:440:9
 all-requires : tie.Need-all-requires Inv-loop μ-loop
-all-requires c κs = ?
+all-requires c κs = search needs
 
--- src/main.rt:424:5
 loop-less : tie.Need-loop-less Inv-loop μ-loop
-loop-less c = ?
+loop-less c = omega (arith, c .before .before .before .before .before .before .before .before .before .before .before .before .before .before .before .loop-test .taken)
 
--- src/main.rt:424:5
 loop-again : tie.Need-loop-again Inv-loop μ-loop
-loop-again c = ?
+loop-again c = (c .before .before .before .before .before .before .before .before .before .beginning .kept .1 .1 .1 .0 ∙ c .before .before .before .before .before .before .before .before .before .before .before .before .before .before .before .before .loop .inv .0, c .before .before .before .before .before .before .before .before .before .beginning .kept .1 .1 .1 .1 .0 ∙ c .before .before .before .before .before .before .before .before .before .before .before .before .before .before .before .before .loop .inv .1, c .before .before .before .before .before .before .before .before .before .beginning .kept .1 .1 .1 .1 .1 .1 .0 ∙ c .before .before .before .before .before .before .before .before .before .before .before .before .before .before .before .before .loop .inv .2, c .before .before .before .before .before .before .before .before .before .beginning .kept .1 .1 .1 .1 .1 .1 .1 .0 ∙ c .before .before .before .before .before .before .before .before .before .before .before .before .before .before .before .before .loop .inv .3)
 
--- src/main.rt:408:1
 same-length : tie.Need-same-length Inv-loop μ-loop
-same-length c = ?
+same-length c = c .before .loop .inv .0
 
--- src/main.rt:408:1
 same-length-2 : tie.Need-same-length-2 Inv-loop μ-loop
-same-length-2 c = ?
+same-length-2 c = c .before .loop .inv .1
 
--- src/main.rt:408:1
 same-length-3 : tie.Need-same-length-3 Inv-loop μ-loop
-same-length-3 c = ?
+same-length-3 c = c .before .loop .inv .2
 
--- src/main.rt:408:1
 same-length-4 : tie.Need-same-length-4 Inv-loop μ-loop
-same-length-4 c = ?
+same-length-4 c = c .before .loop .inv .3
 
--- src/main.rt:408:1
 returns : tie.Need-returns Inv-loop μ-loop
-returns c = ?
+returns c = search needs
 
 pub beginnings-spec : {M : Type 1} → statement M
 beginnings-spec =

@@ -49,15 +49,12 @@ same-length-8 c = search needs
 returns-2 : tie.Need-returns-2
 returns-2 c =
     let a = c .before .before .before .before .before .before .before .before .before .before .before .before .before .before .before .before .before .before .before .before .before .before .before .before .before .before .before .before .before .before .before .before .before .before .args in
-    let shared-slice-known = c .before .before .before .before .before .before .before .before .before .before .before .before .before .before .before .before .before .before .before .before .before .before .before .before .before .before .before .before .before .before .before .before .before .shared-slice-known in
     let w = c .before .before .before .before .before .before .before .before .before .before .before .before .before .before .before .before .before .before .write-program in
-    let if1 = c .before .before .before .before .before .before .before .before .before .before .before .if1 in
     let r = c .before .before .before .before .before .before .call-all in (
       w .ensures .1,
-      called (a .formula .now) (a .names .now) (λ i. omega (arith, shared-slice-known .given i)) (wanted-of (a .wanted)) (length (a .tree .now))
-          (a .program .now) (w .last .1 .1 .1 .1 .1 .0) (a .inputs .now) (a .rooms .now) (a .budgets .now) (a .flags .now) (a .values .now) (a .registers .now)
-          (r .last .1 .1 .0) (a .path .now) (w .last .1 .1 .1 .0) (r .last .1 .1 .1 .0) (a .cells .now) (r .last .1 .1 .1 .1 .1 .1 .1 .1 .0) (r .result)
-          (w .result) (if1 .left) (w .ensures .0) (w .ensures .1 .1) (r .ensures .0) (r .ensures .1),
+      called (a .formula .now) (a .names .now) (λ i. omega (arith, c .before .before .before .before .before .before .before .before .before .before .before .before .before .before .before .before .before .before .before .before .before .before .before .before .before .before .before .before .before .before .before .before .before .shared-slice-known .given i)) (wanted-of (a .wanted)) (length (a .tree .now)) (a .program .now) (w .last .1 .1 .1 .1 .1 .0)
+          (a .inputs .now) (a .rooms .now) (a .budgets .now) (a .flags .now) (a .values .now) (a .registers .now) (r .last .1 .1 .0) (a .path .now) (w .last .1 .1 .1 .0) (r .last .1 .1 .1 .0)
+          (a .cells .now) (r .last .1 .1 .1 .1 .1 .1 .1 .1 .0) (r .result) (w .result) (c .before .before .before .before .before .before .before .before .before .before .before .if1 .left) (w .ensures .0) (w .ensures .1 .1) (r .ensures .0) (r .ensures .1),
     )
 
 pub make-and-call-spec : {M : Type 1} → statement M
