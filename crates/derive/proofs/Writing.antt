@@ -24,7 +24,7 @@ use Rattle.reader.proofs.Bytes.{Bytes}
 use Rattle.reader.proofs.Encode.{encode-length, formula-encode, writable-tree}
 use Rattle.reader.proofs.Heads.{and-first, and-second}
 use Rattle.reader.proofs.Scan.{formula-in}
-use Rattle.paths.specs.Over.{zeroed}
+use Rattle.writer.specs.Over.{zeroed}
 use Rattle.lower.specs.Piece.{context-of}
 use Rattle.compile.specs.Outcome.{Fits, fault-place, slice-after}
 use Rattle.compile.proofs.Entries.{few, low, same-context}

@@ -27,7 +27,7 @@ use compile::within;
 use compile::write;
 use differentiate::write_derivative;
 use paths::write_root;
-use paths::zero_from;
+use writer::zero_from;
 use reader::NODE_SIZE;
 use refusals::EXPRESSION_LIMIT;
 use refusals::SLICE_TOO_SHORT;
