@@ -17,7 +17,7 @@ use Rattle.formula.specs.Path.{placed, root}
 use Rattle.formula.specs.Term.{term}
 use Rattle.machine.specs.Check.{Context, Fault, fault}
 use Rattle.machine.specs.Compile.{filled, own-context}
-use Rattle.machine.proofs.Size.{longest-path}
+use Rattle.machine.specs.Paths.{longest-path}
 use Rattle.layout.specs.Image.{image}
 use Rattle.reader.specs.Writable.{writable}
 use Rattle.reader.proofs.Bytes.{Bytes}

@@ -9,7 +9,7 @@ use lib.Seq.{length-take-le}
 use lib.Ieee.{Float}
 use Rattle.layout.specs.Decode.{program-at}
 use Rattle.listing.specs.Legs.{header}
-use Rattle.names.proofs.Splits.{first-piece, free}
+use Rattle.names.specs.Lines.{first-piece, free}
 use Rattle.writer.specs.Over.{over}
 use Rattle.writer.proofs.Over.{over-nil}
 use Rattle.lines.specs.declared.Advanced.{Advanced}
