@@ -19,7 +19,8 @@ use Rattle.formula.specs.Term.{term, terms}
 use Rattle.machine.specs.Check.{Context, Fault, fault}
 use Rattle.machine.specs.Compile.{Compiled, accepted, compile, lowered-or, own-context, path-after, prepared, program-after, program-room, read, refused, sized}
 use Rattle.machine.specs.Lower.{instruction-count, instruction-counts}
-use Rattle.machine.proofs.Size.{longest-path, narrow, path-size}
+use Rattle.machine.specs.Paths.{longest-path}
+use Rattle.machine.proofs.Size.{narrow, path-size}
 use Rattle.layout.specs.Image.{entry-count, entry-counts, image, path-count, path-counts}
 use Rattle.reader.specs.Read.{is-some, limited}
 use Rattle.reader.proofs.Scan.{formula-in}

@@ -12,7 +12,8 @@ use Rattle.formula.specs.Operator.{Boolean, argument-kind, arity, same-kind, st
 use Rattle.formula.specs.Path.{Path, _▸_, argument, condition, else-arm, text, then-arm}
 use Rattle.formula.specs.Term.{Term, Terms, _and_, apply, branch, end, literal, miscounted, symbol, term-count, truth}
 use Rattle.machine.specs.Check.{Context, Fault, all-kind, any-dynamic, dynamic, fault, faults, kind, or-else, supported, unless}
-use Rattle.machine.proofs.Size.{Narrow, Narrows, argument-short, condition-short, else-short, longest-path, longest-paths, then-short}
+use Rattle.machine.specs.Paths.{longest-path, longest-paths}
+use Rattle.machine.proofs.Size.{Narrow, Narrows, argument-short, condition-short, else-short, then-short}
 
 -- the number is a refusal's, the text at most n bytes long
 pub record Near (x : Fault) (n : ℕ) : Type 0 where

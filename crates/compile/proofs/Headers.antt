@@ -5,8 +5,8 @@ use Prim.Native.Nat.{ℕ, _≤_}
 use native.Mathlib.Omega.{arith}
 use lib.ListN.{length}
 use Rattle.formula.specs.Text.{little-endian}
-use Rattle.paths.specs.Over.{over}
-use Rattle.lower.proofs.Slots.{next-over}
+use Rattle.writer.specs.Over.{over}
+use Rattle.writer.proofs.Over.{next-over}
 
 pub header-stored : (p p₁ p₂ p₃ p₄ p₅ p₆ p₇ p₈ : List ℕ) (a b c d e f g h : ℕ) → 32 ≤ length p → p₁ ≡ over p 0 (little-endian 4 a) → p₂ ≡ over p₁ 4 (little-endian 4 b)
     → p₃ ≡ over p₂ 8 (little-endian 4 c) → p₄ ≡ over p₃ 12 (little-endian 4 d) → p₅ ≡ over p₄ 16 (little-endian 4 e) → p₆ ≡ over p₅ 20 (little-endian 4 f)

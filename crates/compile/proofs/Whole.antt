@@ -19,9 +19,9 @@ use Rattle.machine.proofs.Size.{narrow}
 use Rattle.layout.specs.Opcode.{kind-number}
 use Rattle.layout.specs.Image.{below, entry-count, header, image, lists, magic, path-count, slots}
 use Rattle.layout.proofs.Lengths.{bounds, image-room, length-below, length-image, length-lists, length-slots}
-use Rattle.paths.specs.Over.{over, zeroed}
+use Rattle.writer.specs.Over.{over, zeroed}
 use Rattle.paths.specs.Table.{Linked, length-in, linked, path-in-table}
-use Rattle.paths.proofs.Over.{over-before, over-length, over-over, text-zeroed}
+use Rattle.writer.proofs.Over.{over-before, over-length, over-over, text-zeroed}
 use Rattle.paths.proofs.Climb.{path-length, path-root}
 use Rattle.reader.proofs.Past.{word-past}
 use Rattle.lower.specs.Bytes.{laid}

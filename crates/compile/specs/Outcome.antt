@@ -13,7 +13,7 @@ use Rattle.formula.specs.Node.{tree-in}
 use Rattle.formula.specs.Term.{term}
 use Rattle.machine.specs.Check.{Context, Fault, kind}
 use Rattle.machine.specs.Compile.{filled}
-use Rattle.machine.proofs.Size.{longest-path}
+use Rattle.machine.specs.Paths.{longest-path}
 use Rattle.layout.specs.Image.{image}
 use Rattle.compile.specs.declared.Answer.{Answer}
 use Rattle.compile.specs.declared.Answer.the-variants.{Program, Refused}

@@ -19,7 +19,7 @@ use Rattle.machine.specs.Check.{Fault, fault, kind}
 use Rattle.machine.specs.Compile.{Compiled, compile, lowered-or, own-context, program-room}
 use Rattle.machine.specs.Compile as Compile
 use Rattle.names.specs.Lines.{kind-number}
-use Rattle.paths.specs.Over.{zeroed}
+use Rattle.writer.specs.Over.{zeroed}
 use Rattle.names.proofs.Told.{number-state}
 use Rattle.compile.specs.Outcome.{fault-place, lowered-to}
 use Rattle.compile.specs.declared.Lowered.{Lowered}

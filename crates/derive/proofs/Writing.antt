@@ -17,14 +17,14 @@ use Rattle.formula.specs.Path.{placed, root}
 use Rattle.formula.specs.Term.{term}
 use Rattle.machine.specs.Check.{Context, Fault, fault}
 use Rattle.machine.specs.Compile.{filled, own-context}
-use Rattle.machine.proofs.Size.{longest-path}
+use Rattle.machine.specs.Paths.{longest-path}
 use Rattle.layout.specs.Image.{image}
 use Rattle.reader.specs.Writable.{writable}
 use Rattle.reader.proofs.Bytes.{Bytes}
 use Rattle.reader.proofs.Encode.{encode-length, formula-encode, writable-tree}
 use Rattle.reader.proofs.Heads.{and-first, and-second}
 use Rattle.reader.proofs.Scan.{formula-in}
-use Rattle.paths.specs.Over.{zeroed}
+use Rattle.writer.specs.Over.{zeroed}
 use Rattle.lower.specs.Piece.{context-of}
 use Rattle.compile.specs.Outcome.{Fits, fault-place, slice-after}
 use Rattle.compile.proofs.Entries.{few, low, same-context}

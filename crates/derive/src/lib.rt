@@ -27,7 +27,6 @@ use compile::within;
 use compile::write;
 use differentiate::write_derivative;
 use paths::write_root;
-use paths::zero_from;
 use reader::NODE_SIZE;
 use refusals::EXPRESSION_LIMIT;
 use refusals::SLICE_TOO_SHORT;
@@ -37,6 +36,7 @@ use refusals::WRONG_TYPE;
 use survey::By;
 use survey::survey_formula;
 use survey::with_primal;
+use writer::zero_from;
 
 // A tree of so many nodes and its program stand in their slices, or derive refused by a number.
 pub enum Answer {

@@ -10,7 +10,7 @@ ghost use Rattle.lines.specs.Calls.{Feedable};
 ghost use Rattle.lines.specs.Owed.{Roomy, memory};
 use lines::Stage;
 use std::num;
-use steps::put_bytes;
+use writer::put_bytes;
 
 // The length of the whole output; or it is longer than the slice for it.
 enum Listing {

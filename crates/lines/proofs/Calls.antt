@@ -9,9 +9,9 @@ use lib.Seq.{length-take-le}
 use lib.Ieee.{Float}
 use Rattle.layout.specs.Decode.{program-at}
 use Rattle.listing.specs.Legs.{header}
-use Rattle.names.proofs.Splits.{first-piece, free}
-use Rattle.steps.specs.Steps.{over}
-use Rattle.steps.proofs.Over.{over-nil}
+use Rattle.names.specs.Lines.{first-piece, free}
+use Rattle.writer.specs.Over.{over}
+use Rattle.writer.proofs.Over.{over-nil}
 use Rattle.lines.specs.declared.Advanced.{Advanced}
 use Rattle.lines.specs.declared.Begun.{Begun}
 use Rattle.lines.specs.declared.Listed.{Listed}

@@ -8,9 +8,9 @@ use lib.ListN.{length, getD, take, set, length-append, length-set, length-take}
 use lib.Seq.{set-out, take-all, take-append-le, take-nil, take-suc-set}
 use lib.Dec.{ltb}
 use borrow.Author.Tests.{ltb-true, ltb-false}
-use Rattle.names.proofs.Splits.{free}
-use Rattle.steps.specs.Steps.{over}
-use Rattle.steps.proofs.Over.{over-nil, over-one, over-over}
+use Rattle.names.specs.Lines.{free}
+use Rattle.writer.specs.Over.{over}
+use Rattle.writer.proofs.Over.{over-nil, over-one, over-over}
 use Rattle.lines.specs.Owed.{Keeps, Keeps-on, one-more}
 use Rattle.lines.proofs.Newlines.{take-byte}
 use Rattle.lines.proofs.Parts.{free-more}

@@ -11,8 +11,7 @@ use borrow.Author.Tests.{ltb-true, ltb-false}
 use Rattle.formula.specs.Values.{lines-of, values-of}
 use Rattle.machine.specs.Program.{Program}
 use Rattle.layout.specs.Decode.{program-at}
-use Rattle.names.specs.Lines.{part}
-use Rattle.names.proofs.Splits.{free}
+use Rattle.names.specs.Lines.{free, part}
 use Rattle.listing.specs.Legs.{printed, records, value-record}
 use Rattle.lines.specs.declared.Listed.{Listed}
 use Rattle.lines.specs.declared.values.Reading.{Reading}

@@ -17,7 +17,8 @@ use Rattle.formula.specs.Path.{path-room}
 use Rattle.machine.specs.Compile.{compile, program-room, read, refused, sized}
 use mathlib.Core.Bool.{_||_}
 use Rattle.listing.specs.Legs.{compiled, formula-room}
-use Rattle.names.proofs.Splits.{and-second, first-piece, later-pieces, no-true, pieces}
+use Rattle.names.specs.Lines.{first-piece}
+use Rattle.names.proofs.Splits.{and-second, later-pieces, no-true, pieces}
 use Rattle.names.proofs.Entries.{formed}
 
 -- the bytes of pieces and of one separator for each

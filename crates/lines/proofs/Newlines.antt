@@ -10,9 +10,9 @@ use lib.Dec.{ltb}
 use borrow.Author.Tests.{ltb-true, ltb-false}
 use Rattle.formula.specs.Text.{split}
 use Rattle.formula.specs.Values.{ended, last-line, lines-of}
-use Rattle.names.specs.Lines.{part}
-use Rattle.names.proofs.Splits.{first-piece, free, later-pieces, pieces, split-end, split-next}
-use Rattle.steps.specs.Steps.{over}
+use Rattle.names.specs.Lines.{first-piece, free, part}
+use Rattle.names.proofs.Splits.{later-pieces, pieces, split-end, split-next}
+use Rattle.writer.specs.Over.{over}
 use Rattle.lines.specs.Text.{Wrote, Wrote-some}
 
 -- "A line ends at a newline byte"

@@ -11,8 +11,8 @@ use lib.Dec.{eqb}
 use lib.Ieee.{Float}
 use borrow.Author.Tests.{ne-eqb}
 use Rattle.formula.specs.Values.{digit-of}
-use Rattle.names.specs.Lines.{part}
-use Rattle.names.proofs.Splits.{and-both, and-first, and-second, free}
+use Rattle.names.specs.Lines.{free, part}
+use Rattle.names.proofs.Splits.{and-both, and-first, and-second}
 use Rattle.lines.specs.declared.values.Part.{Part}
 use Rattle.lines.specs.declared.values.Reading.{Reading}
 use Rattle.lines.specs.Reading.{Reads, Reads-on}

@@ -10,7 +10,8 @@ use lib.Dec.{eqb}
 use borrow.Author.Tests.{eq-eqb, ne-eqb}
 use Rattle.formula.specs.Text.{all-some, glue, joined, parted, split}
 use Rattle.formula.specs.Values.{digit-of, numbered, of-digits, value-of, values-of}
-use Rattle.names.proofs.Splits.{and-both, and-first, and-second, free, first-piece, later-pieces, pieces, split-end, split-next}
+use Rattle.names.specs.Lines.{free, first-piece}
+use Rattle.names.proofs.Splits.{and-both, and-first, and-second, later-pieces, pieces, split-end, split-next}
 use Rattle.names.proofs.Digits.{value-length}
 use Rattle.lines.specs.Reading.{values-in}
 

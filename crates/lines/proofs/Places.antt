@@ -12,7 +12,8 @@ use borrow.Author.Tests.{ltb-true, ltb-false, ne-eqb}
 use Rattle.formula.specs.Text.{ascii, decimal, decimal-in, zeros}
 use Rattle.formula.specs.Path.{Path, Step, _▸_, argument, condition, else-arm, placed, root, step-text, text, then-arm}
 use Rattle.listing.specs.Legs.{place-text}
-use Rattle.names.proofs.Splits.{and-both, free, free-at}
+use Rattle.names.specs.Lines.{free}
+use Rattle.names.proofs.Splits.{and-both, free-at}
 use Rattle.lines.proofs.Parts.{free-append}
 
 -- ---- no zero in a path's text

@@ -12,8 +12,8 @@ use lib.Ieee.{Float, binary64, ofBits}
 use borrow.Author.Tests.{ltb-true, ltb-false}
 use Rattle.formula.specs.Text.{joined}
 use Rattle.formula.specs.Values.{digit-of, of-digits, values-of}
-use Rattle.names.proofs.Splits.{prefixed, prefixed-start, prefixed-more, prefixed-none, prefixed-some}
-use Rattle.names.proofs.Digits.{cap}
+use Rattle.names.specs.Lines.{cap, prefixed}
+use Rattle.names.proofs.Splits.{prefixed-start, prefixed-more, prefixed-none, prefixed-some}
 use Rattle.lines.specs.declared.values.Reading.{Reading}
 use Rattle.lines.specs.declared.values.Found.the-variants.{Malformed, Values}
 use Rattle.lines.specs.Reading.{Bad, Finds, Good, Kept, Reads, Reads-by, counted, floats, values-in}

@@ -14,8 +14,8 @@ use Rattle.machine.specs.Compile as Compile
 use Rattle.machine.specs.Lower.{program}
 use Rattle.machine.specs.Program.{Program}
 use Rattle.layout.specs.Decode.{program-at}
-use Rattle.names.proofs.Splits.{free}
-use Rattle.steps.proofs.Over.{over-nil}
+use Rattle.names.specs.Lines.{free}
+use Rattle.writer.proofs.Over.{over-nil}
 use Rattle.listing.specs.Legs.{compiled, header, legs, listed, printed, records, refusal-line, value-record, with-file, with-input}
 use Rattle.lines.specs.declared.Begun.{Begun}
 use Rattle.lines.specs.declared.Stage.{Stage}

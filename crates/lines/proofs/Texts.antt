@@ -13,9 +13,9 @@ use Rattle.formula.specs.Values.{hex}
 use mathlib.Core.Option.{some}
 use Rattle.meaning.specs.Work.{elementary, power}
 use Rattle.machine.specs.Machine.{Answer, asks, gives, outside, refused, spent}
-use Rattle.steps.specs.Steps.{over}
-use Rattle.steps.proofs.Over.{over-length, over-over}
-use Rattle.steps.proofs.Decimal.{decimal-length-le}
+use Rattle.writer.specs.Over.{over}
+use Rattle.writer.proofs.Over.{over-length, over-over}
+use Rattle.writer.proofs.Decimal.{decimal-length-le}
 use Rattle.listing.specs.Legs.{Line, bits-text, colon, comma, line-of, printed}
 use Rattle.lines.specs.Text.{Wrote, refused-as, shown}
 

@@ -9,8 +9,8 @@ use lib.Ieee.{Float}
 use Rattle.machine.specs.Compile.{compile, path-after, program-after}
 use Rattle.machine.specs.Program.{Program}
 use Rattle.layout.specs.Image.{image}
-use Rattle.names.proofs.Splits.{first-piece}
-use Rattle.steps.specs.Steps.{over}
+use Rattle.names.specs.Lines.{first-piece}
+use Rattle.writer.specs.Over.{over}
 use Rattle.lines.specs.declared.Advanced.{Advanced}
 use Rattle.lines.specs.declared.Begun.{Begun}
 use Rattle.lines.specs.declared.Listed.{Listed}

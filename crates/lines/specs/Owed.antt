@@ -16,7 +16,7 @@ use Rattle.machine.specs.Lower.{program}
 use Rattle.machine.specs.Program.{Program}
 use Rattle.layout.specs.Decode.{program-at}
 use Rattle.listing.specs.Legs.{compiled, legs, records, refusal-line, with-file, with-input}
-use Rattle.names.proofs.Splits.{free}
+use Rattle.names.specs.Lines.{free}
 use Rattle.lines.specs.declared.Advanced.{Advanced}
 use Rattle.lines.specs.declared.Begun.{Begun}
 use Rattle.lines.specs.declared.Stage.{Stage}

@@ -9,8 +9,7 @@ use lib.Dec.{ltb}
 use lib.Ieee.{Float, binary64, ofBits}
 use Rattle.formula.specs.Text.{all-some, split}
 use Rattle.formula.specs.Values.{digit-of, of-digits, value-of, values-of}
-use Rattle.names.proofs.Splits.{prefixed}
-use Rattle.names.proofs.Digits.{cap}
+use Rattle.names.specs.Lines.{cap, prefixed}
 use Rattle.lines.specs.declared.values.Reading.{Reading}
 use Rattle.lines.specs.declared.values.Found.{Found}
 use Rattle.lines.specs.declared.values.Found.the-variants.{Malformed, Values}

@@ -4,7 +4,7 @@ use mathlib.Core.List.{List, _++_}
 use Prim.Native.Nat.{ℕ, _+_, _≤_}
 use lib.ListN.{length, drop}
 use Rattle.formula.specs.Text.{ascii, decimal}
-use Rattle.steps.specs.Steps.{over}
+use Rattle.writer.specs.Over.{over}
 use Rattle.run.specs.declared.Answer.{Answer}
 use Rattle.run.specs.Views.{answer-of}
 use Rattle.listing.specs.Legs.{Line, colon, comma, line-of}

@@ -11,8 +11,8 @@ ghost use Prim.Native.Nat.{_+_, _-_, _≤_, _<_};
 ghost use lib.ListN.{length, getD, set, take};
 ghost use Rattle.layout.specs.Decode.{program-at};
 ghost use Rattle.listing.specs.Legs.{refusal-line};
-ghost use Rattle.names.proofs.Splits.{free};
-ghost use Rattle.steps.specs.Steps.{over};
+ghost use Rattle.names.specs.Lines.{free};
+ghost use Rattle.writer.specs.Over.{over};
 ghost use Rattle.lines.specs.Calls.{Advancing, Beginning, Finishing, Listing-block, Names-advance, Names-end, Starting, Values-advance, Values-end};
 ghost use Rattle.lines.specs.Owed.{Keeps-on, Opens, Text-length, line-number, memory, one-more};
 ghost use Rattle.lines.specs.Record.{Ready};
@@ -242,7 +242,7 @@ pub fn start(readable: bool, formula: &[u8], out: &mut [u8]) -> Begun
             length: 0,
         };
     }
-    let at = steps::put_bytes(out, 0, b"no,answer,detail,steps\n");
+    let at = writer::put_bytes(out, 0, b"no,answer,detail,steps\n");
     opened(readable, formula, out, at)
 }
 

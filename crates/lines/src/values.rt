@@ -6,8 +6,7 @@ ghost use mathlib.Core.List.{List, [], _∷_};
 ghost use Prim.Native.Nat.{_≤_, _<_};
 ghost use lib.ListN.{length, getD, set};
 ghost use lib.Ieee.{Float, binary64, ofBits};
-ghost use Rattle.names.specs.Lines.{part};
-ghost use Rattle.names.proofs.Splits.{free};
+ghost use Rattle.names.specs.Lines.{free, part};
 ghost use Rattle.lines.specs.Reading.{Ends-as, Reads-on, Starts, Tells-empty, counted};
 
 // What was read of a line: whether it is as said so far, how many values stand before its last comma, how many digits

@@ -4,7 +4,7 @@ use mathlib.Core.List.{List, _++_, append-assoc}
 use Prim.Native.Nat.{ℕ, _+_, _-_, _≤_}
 use native.Mathlib.Omega.{arith}
 use lib.ListN.{length, length-append}
-use Rattle.paths.specs.Over.{over}
+use Rattle.writer.specs.Over.{over}
 use Rattle.lower.specs.Bytes.{Chunk, laid}
 use Rattle.lower.proofs.Laid.{Fits, chunk-path, joined, laid-after, laid-before, laid-length, laid-then}
 

@@ -13,8 +13,8 @@ use Rattle.machine.specs.Check.{Context, Fault, dynamic, fault, kind}
 use Rattle.machine.specs.Lower.{instruction-count, register-count, result-register}
 use Rattle.layout.specs.Image.{below, entry-count, lists, path-count, path-record, slot}
 use Rattle.layout.proofs.Lengths.{length-below, length-lists, length-slots}
-use Rattle.paths.specs.Over.{over}
-use Rattle.paths.proofs.Over.{over-length}
+use Rattle.writer.specs.Over.{over}
+use Rattle.writer.proofs.Over.{over-length}
 use Rattle.lower.specs.Bytes.{Chunk, laid, written}
 use Rattle.lower.specs.Piece.{Kept, Piece, Says, Sound, arms-answer, arms-bytes, branch-piece, is-boolean, kind-if, place, term-piece}
 use Rattle.lower.specs.Ready.{Ready}

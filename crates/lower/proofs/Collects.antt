@@ -14,9 +14,9 @@ use Rattle.machine.specs.Check.{Context, Fault, all-kind, any-dynamic, dynamic,
 use Rattle.machine.specs.Lower.{instruction-count, instruction-counts, register-count, register-counts, result-register, result-registers}
 use Rattle.layout.specs.Image.{below, below-all, entries, entry-count, entry-counts, lists, lists-all, path-count, path-counts, path-record, slots-all}
 use Rattle.layout.proofs.Lengths.{length-below, length-below-all, length-entries, length-lists, length-lists-all, length-result-registers, length-slots, length-slots-all}
-use Rattle.paths.specs.Over.{over}
+use Rattle.writer.specs.Over.{over}
 use Rattle.paths.specs.Table.{Linked, path-in-table}
-use Rattle.paths.proofs.Over.{over-before, over-nil}
+use Rattle.writer.proofs.Over.{over-before, over-nil}
 use Rattle.lower.specs.Bytes.{Chunk, laid, written}
 use Rattle.lower.specs.Piece.{without-operands, Kept, Lists, Lists-at, Piece, Sound, is-boolean, kind-if, listed, operands-piece, operands-value, place, term-piece}
 use Rattle.lower.specs.Ready.{Ready}

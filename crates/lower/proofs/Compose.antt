@@ -13,10 +13,10 @@ use Rattle.machine.specs.Lower.{instruction-count, instruction-counts, register
 use Rattle.layout.specs.Opcode.{step-of}
 use Rattle.layout.specs.Image.{below, entry-count, lists, path-count, path-record, slots}
 use Rattle.layout.proofs.Lengths.{length-below, length-lists, length-slots}
-use Rattle.paths.proofs.Decimal.{step-length-le}
-use Rattle.paths.specs.Over.{over}
+use Rattle.paths.proofs.Steps.{step-length-le}
+use Rattle.writer.specs.Over.{over}
 use Rattle.paths.specs.Table.{length-in, linked}
-use Rattle.paths.proofs.Over.{over-length, over-nil}
+use Rattle.writer.proofs.Over.{over-length, over-nil}
 use Rattle.lower.specs.Bytes.{Chunk, laid, written}
 use Rattle.lower.specs.Piece.{Kept, Piece, Says, Says-at, Sound, inner-count, own-piece, place, term-piece}
 use Rattle.lower.specs.Ready.{Ready}

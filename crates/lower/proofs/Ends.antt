@@ -15,7 +15,7 @@ use Rattle.formula.specs.Names.{Parameter, varies}
 use Rattle.formula.specs.Term.{Term, literal, symbol, truth}
 use Rattle.machine.specs.Check.{Context, fault}
 use Rattle.layout.specs.Image.{below, constant-slot, lists, slot, slots, truth-bits}
-use Rattle.paths.specs.Over.{over}
+use Rattle.writer.specs.Over.{over}
 use Rattle.reader.specs.declared.Fields.{Fields}
 use Rattle.lower.specs.Operators.{arity-at, gives-boolean, listing-at, opcode-at, stepped-at}
 use Rattle.lower.specs.Piece.{Piece, Says, context-of, finish-piece, kind-of, leaf, own-piece, place}

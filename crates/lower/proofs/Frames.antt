@@ -11,12 +11,13 @@ use Rattle.formula.specs.Text.{half-at, little-endian, word-at}
 use Rattle.formula.specs.Path.{Path, Step, _▸_, argument, condition, else-arm, step-text, text, then-arm}
 use Rattle.layout.specs.Opcode.{step-number, step-of}
 use Rattle.layout.specs.Image.{path-record}
-use Rattle.paths.specs.Over.{over}
+use Rattle.writer.specs.Over.{over}
 use Rattle.paths.specs.Table.{climbed, length-in, linked, parent-in, path-in-table, step-in}
-use Rattle.paths.proofs.Over.{over-length}
+use Rattle.writer.proofs.Over.{over-length}
+use Rattle.writer.proofs.Apart.{getD-inside, word-above, word-below}
 use Rattle.paths.proofs.Climb.{parent-less, path-length, path-parent}
 use Rattle.lower.specs.Bytes.{Chunk, laid}
-use Rattle.lower.proofs.Laid.{Fits, getD-inside, word-above, word-below}
+use Rattle.lower.proofs.Laid.{Fits}
 
 -- the words of the first q records are the same
 abbrev pub Same : ℕ → List ℕ → List ℕ → ℕ → Type 0

@@ -4,13 +4,14 @@ use mathlib.Core.List.{List}
 use Prim.Native.Nat.{ℕ, _+_, _*_, _≤_}
 use native.Mathlib.Omega.{arith}
 use lib.ListN.{length}
-use Rattle.paths.specs.Over.{over}
-use Rattle.paths.proofs.Over.{over-length}
+use Rattle.writer.specs.Over.{over}
+use Rattle.writer.proofs.Over.{over-length}
+use Rattle.writer.proofs.Apart.{getD-above, getD-below}
 use Rattle.lower.specs.Bytes.{Chunk, laid, written}
 use Rattle.lower.specs.Piece.{Kept}
 use Rattle.lower.specs.declared.Layout.{Layout}
 use Rattle.lower.specs.declared.Cursor.{Cursor}
-use Rattle.lower.proofs.Laid.{Fits, getD-above, getD-below}
+use Rattle.lower.proofs.Laid.{Fits}
 
 pub kept-here : (L : Layout) (c : Cursor) (p : List ℕ) → Kept L c p p
 kept-here L c p = record { long = refl; code = λ i x. refl; records = λ i x y. refl; lists = λ i x y. refl }

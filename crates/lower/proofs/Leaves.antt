@@ -3,7 +3,7 @@ use mathlib.Core.Path.{_≡_, ap, _∙_}
 use mathlib.Core.List.{List, _++_}
 use Prim.Native.Nat.{ℕ, _+_}
 use Rattle.formula.specs.Text.{little-endian}
-use Rattle.paths.specs.Over.{over}
+use Rattle.writer.specs.Over.{over}
 use Rattle.lower.specs.declared.Site.{Site}
 
 pub entered : (p p′ : List ℕ) (a parent own step base x y : ℕ) → x ≡ y → p′ ≡ over p a (little-endian 4 parent ++ little-endian 4 step ++ little-endian 4 (base + x))

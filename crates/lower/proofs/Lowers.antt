@@ -17,7 +17,7 @@ use Rattle.machine.proofs.Laws.{instruction-count-pos}
 use Rattle.layout.specs.Opcode.{step-of}
 use Rattle.layout.specs.Image.{below, constant-slot, entry-count, lists, path-count, path-record, slots, truth-bits}
 use Rattle.layout.proofs.Lengths.{length-below, length-lists, length-slots}
-use Rattle.paths.specs.Over.{over}
+use Rattle.writer.specs.Over.{over}
 use Rattle.lower.specs.Piece.{Piece, Says, Sound, arm, branch-piece, ends, inner-count, junction-of, kids, own-piece, past, place, term-piece}
 use Rattle.lower.specs.Ready.{Ready}
 use Rattle.lower.specs.declared.Layout.{Layout}

@@ -6,9 +6,9 @@ use Prim.Native.Nat.{ℕ, _+_, _*_, _≤_}
 use native.Mathlib.Omega.{arith}
 use lib.ListN.{length}
 use Rattle.machine.specs.Check.{Fault}
-use Rattle.paths.specs.Over.{over}
+use Rattle.writer.specs.Over.{over}
 use Rattle.paths.specs.Table.{Linked, linked, path-in-table}
-use Rattle.paths.proofs.Over.{over-nil}
+use Rattle.writer.proofs.Over.{over-nil}
 use Rattle.lower.specs.Bytes.{Chunk, laid, written}
 use Rattle.lower.specs.Piece.{Kept, Piece, Says, Says-at, Sound, place}
 use Rattle.lower.specs.Ready.{Ready}

@@ -1,46 +1,13 @@
--- Numbers, instructions and records as they are stored.
-use mathlib.Core.Path.{_≡_, refl, ap, ap₂, _∙_}
+-- Instructions and records as they are stored.
+use mathlib.Core.Path.{_≡_, refl, ap₂, _∙_}
 use mathlib.Core.List.{List, _∷_, _++_}
-use Prim.Native.Nat.{ℕ, suc, _+_, _/_, _%_, _≤_, _<_}
+use Prim.Native.Nat.{ℕ, _+_, _/_, _%_, _≤_, _<_}
 use native.Mathlib.Omega.{arith}
-use lib.ListN.{length, set}
+use lib.ListN.{length}
 use Rattle.formula.specs.Text.{little-endian}
 use Rattle.layout.specs.Image.{constant-slot, slot}
-use Rattle.paths.specs.Over.{over}
-use Rattle.paths.proofs.Over.{over-over}
-use Rattle.lower.proofs.Laid.{over-sets}
-
-pub half-stored : (p : List ℕ) (i x : ℕ) → i + 2 ≤ length p → set (set p i (x % 256)) (i + 1) (x / 256 % 256) ≡ over p i (little-endian 2 x)
-half-stored p i x h =
-    let e : i + 1 ≡ suc i = omega arith in
-    rw e (over-sets p i (little-endian 2 x) h)
-
-pub word-stored : (p : List ℕ) (i x : ℕ) → i + 4 ≤ length p
-    → set (set (set (set p i (x % 256)) (i + 1) (x / 256 % 256)) (i + 2) (x / 256 / 256 % 256)) (i + 3) (x / 256 / 256 / 256 % 256) ≡ over p i (little-endian 4 x)
-word-stored p i x h =
-    let e1 : i + 1 ≡ suc i = omega arith in
-    let e2 : i + 2 ≡ suc (suc i) = omega arith in
-    let e3 : i + 3 ≡ suc (suc (suc i)) = omega arith in
-    rw (e1, e2, e3) (over-sets p i (little-endian 4 x) h)
-
--- one part right after another
-pub next-over : (p p₁ p₂ : List ℕ) (i j : ℕ) (xs ys : List ℕ) → p₁ ≡ over p i xs → p₂ ≡ over p₁ j ys → j ≡ i + length xs → i + length xs ≤ length p
-    → p₂ ≡ over p i (xs ++ ys)
-next-over p p₁ p₂ i j xs ys e f g h =
-    f ∙ ap (λ (q : List ℕ). over q j ys) e ∙ ap (λ (k : ℕ). over (over p i xs) k ys) g ∙ over-over p i xs ys h
-
-pub long-stored : (p : List ℕ) (i x : ℕ) → i + 8 ≤ length p
-    → set (set (set (set (set (set (set (set p i (x % 256)) (i + 1) (x / 256 % 256)) (i + 2) (x / 256 / 256 % 256)) (i + 3) (x / 256 / 256 / 256 % 256)) (i + 4) (x / 256 / 256 / 256 / 256 % 256)) (i + 5) (x / 256 / 256 / 256 / 256 / 256 % 256)) (i + 6) (x / 256 / 256 / 256 / 256 / 256 / 256 % 256)) (i + 7) (x / 256 / 256 / 256 / 256 / 256 / 256 / 256 % 256)
-    ≡ over p i (little-endian 8 x)
-long-stored p i x h =
-    let e1 : i + 1 ≡ suc i = omega arith in
-    let e2 : i + 2 ≡ suc (suc i) = omega arith in
-    let e3 : i + 3 ≡ suc (suc (suc i)) = omega arith in
-    let e4 : i + 4 ≡ suc (suc (suc (suc i))) = omega arith in
-    let e5 : i + 5 ≡ suc (suc (suc (suc (suc i)))) = omega arith in
-    let e6 : i + 6 ≡ suc (suc (suc (suc (suc (suc i))))) = omega arith in
-    let e7 : i + 7 ≡ suc (suc (suc (suc (suc (suc (suc i)))))) = omega arith in
-    rw (e1, e2, e3, e4, e5, e6, e7) (over-sets p i (little-endian 8 x) h)
+use Rattle.writer.specs.Over.{over}
+use Rattle.writer.proofs.Over.{next-over}
 
 pub record-stored : (p p₁ p₂ p₃ : List ℕ) (i a b c : ℕ) → i + 12 ≤ length p → p₁ ≡ over p i (little-endian 4 a) → p₂ ≡ over p₁ (i + 4) (little-endian 4 b)
     → p₃ ≡ over p₂ (i + 8) (little-endian 4 c) → p₃ ≡ over p i (little-endian 4 a ++ little-endian 4 b ++ little-endian 4 c)

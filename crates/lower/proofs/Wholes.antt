@@ -21,8 +21,8 @@ use Rattle.machine.specs.Lower.{instruction-count, instruction-counts, register
 use Rattle.layout.specs.Opcode.{listing, operation-number}
 use Rattle.layout.specs.Image.{below, entries, entry-count, entry-counts, lists, operation-slot, own-entries, path-counts, slots}
 use Rattle.layout.proofs.Lengths.{length-below-all, length-entries, length-lists-all, length-operation-slot, length-result-registers, length-slots-all}
-use Rattle.paths.specs.Over.{over}
-use Rattle.paths.proofs.Over.{over-length, over-nil, over-over}
+use Rattle.writer.specs.Over.{over}
+use Rattle.writer.proofs.Over.{over-length, over-nil, over-over}
 use Rattle.reader.specs.Read.{written as written-fields}
 use Rattle.reader.specs.declared.Fields.{Fields}
 use Rattle.lower.specs.Bytes.{Chunk, laid, written}

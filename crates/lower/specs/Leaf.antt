@@ -7,7 +7,7 @@ use lib.ListN.{getD}
 use lib.Dec.{eqb}
 use Rattle.refusals.specs.Numbers.{unknown-symbol}
 use Rattle.layout.specs.Image.{slot}
-use Rattle.paths.specs.Over.{over}
+use Rattle.writer.specs.Over.{over}
 use Rattle.lower.specs.declared.Cursor.{Cursor}
 use Rattle.lower.specs.declared.Site.{Site}
 use Rattle.lower.specs.declared.Low.{Low}

@@ -14,7 +14,7 @@ use Rattle.formula.specs.Term.{Term, Terms, _and_, apply, branch, chain, end, l
 use Rattle.machine.specs.Check.{Context, Fault, any-dynamic, all-kind, dynamic, fault, faults, kind, or-else, supported, unless}
 use Rattle.machine.specs.Lower.{instruction-count, instruction-counts, register-count, register-counts, result-register, result-registers}
 use Rattle.layout.specs.Image.{below, below-all, entries, entry-count, entry-counts, lists, lists-all, path-count, path-counts, path-record, slot, slots, slots-all}
-use Rattle.paths.specs.Over.{over}
+use Rattle.writer.specs.Over.{over}
 use Rattle.paths.specs.Table.{Linked, linked, path-in-table}
 use Rattle.formula.specs.Formula.{Formulas, sizes}
 use Rattle.formula.specs.Node.{children-at, node-size, tree-in}

@@ -11,7 +11,7 @@ ghost use Rattle.formula.specs.Term.{term, terms, chain};
 ghost use Rattle.machine.specs.Lower.{instruction-count, instruction-counts};
 ghost use Rattle.layout.specs.Opcode.{step-of};
 ghost use Rattle.layout.specs.Image.{slot, constant-slot, path-count, path-counts, entry-count, entry-counts};
-ghost use Rattle.paths.specs.Over.{over};
+ghost use Rattle.writer.specs.Over.{over};
 ghost use Rattle.reader.specs.Read.{written};
 ghost use Rattle.formula.specs.Operator.{same-kind};
 ghost use Rattle.formula.specs.Path.{_▸_};
@@ -31,6 +31,9 @@ use refusals::OUTSIDE_DOMAIN;
 use refusals::UNKNOWN_SYMBOL;
 use refusals::UNSUPPORTED;
 use refusals::WRONG_TYPE;
+use writer::put_half;
+use writer::put_long;
+use writer::put_word;
 
 // Where path records and list entries begin, and whether the formula is a derivative.
 pub struct Layout {
@@ -70,38 +73,6 @@ pub enum Low {
 }
 
 // ---- bytes
-
-fn put_half(p: &mut [u8], at: usize, x: usize)
-    requires { ⌜ at + 2 ≤ length (now p) ⌝ }
-    ensures { λ _. ⌜ now (p .exit) ≡ over (now (p .entry)) at (little-endian 2 x) ⌝ }
-{
-    p[at] = (x % 256) as u8;
-    p[at + 1] = (x / 256 % 256) as u8;
-}
-
-pub fn put_word(p: &mut [u8], at: usize, x: usize)
-    requires { ⌜ at + 4 ≤ length (now p) ⌝ }
-    ensures { λ _. ⌜ now (p .exit) ≡ over (now (p .entry)) at (little-endian 4 x) ⌝ }
-{
-    p[at] = (x % 256) as u8;
-    p[at + 1] = (x / 256 % 256) as u8;
-    p[at + 2] = (x / 256 / 256 % 256) as u8;
-    p[at + 3] = (x / 256 / 256 / 256 % 256) as u8;
-}
-
-fn put_long(p: &mut [u8], at: usize, x: u64)
-    requires { ⌜ at + 8 ≤ length (now p) ⌝ }
-    ensures { λ _. ⌜ now (p .exit) ≡ over (now (p .entry)) at (little-endian 8 x) ⌝ }
-{
-    p[at] = (x % 256) as u8;
-    p[at + 1] = (x / 256 % 256) as u8;
-    p[at + 2] = (x / 256 / 256 % 256) as u8;
-    p[at + 3] = (x / 256 / 256 / 256 % 256) as u8;
-    p[at + 4] = (x / 256 / 256 / 256 / 256 % 256) as u8;
-    p[at + 5] = (x / 256 / 256 / 256 / 256 / 256 % 256) as u8;
-    p[at + 6] = (x / 256 / 256 / 256 / 256 / 256 / 256 % 256) as u8;
-    p[at + 7] = (x / 256 / 256 / 256 / 256 / 256 / 256 / 256 % 256) as u8;
-}
 
 // The instruction n: opcode, a zero, the list's length, destination, a, b, c, path number.
 fn put_slot(

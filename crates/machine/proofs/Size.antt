@@ -2,7 +2,7 @@
 use mathlib.Core.Path.{_≡_, refl, subst}
 use mathlib.Core.List.{List, [], _∷_, _++_}
 use mathlib.Core.Bool.{Bool, true, false}
-use Prim.Native.Nat.{ℕ, zero, suc, _+_, _*_, _/_, _%_, _^_, _≤_, _<_, max}
+use Prim.Native.Nat.{ℕ, zero, suc, _+_, _*_, _/_, _%_, _^_, _≤_, _<_}
 use native.Mathlib.Nat.{pow-suc}
 use native.Mathlib.Omega.{arith}
 use lib.ListN.{length, length-append}
@@ -13,21 +13,8 @@ use Rattle.formula.specs.Path.{Path, Step, _▸_, argument, condition, else-arm
 use Rattle.formula.specs.Operator.{Junction, And, Or}
 use Rattle.formula.specs.Formula.{Formula, Formulas, Head, conditional, count, ifelse, junction, last, malformed, next, number, operation, size, sizes}
 use Rattle.formula.specs.Formula as Written
+pub use Rattle.machine.specs.Paths.{longest-path, longest-paths}
 use Rattle.formula.specs.Term.{Term, Terms, _and_, apply, branch, branch-term, chain, end, junction-term, leaf-term, literal, miscounted, symbol, term, term-count, term-from, terms, truth}
-
--- the steps of the longest path
-abbrev mutual
-  pub longest-path : Term → ℕ
-  longest-path (literal b) = 0
-  longest-path (truth b) = 0
-  longest-path (symbol i) = 0
-  longest-path (apply o ts) = longest-paths ts
-  longest-path (branch c y e) = suc (max (longest-path c) (max (longest-path y) (longest-path e)))
-  longest-path miscounted = 0
-
-  pub longest-paths : Terms → ℕ
-  longest-paths end = 0
-  longest-paths (t and ts) = max (suc (longest-path t)) (longest-paths ts)
 
 -- no operation has more than 65,536 arguments
 abbrev mutual

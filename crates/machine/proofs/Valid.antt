@@ -17,7 +17,8 @@ use Rattle.machine.specs.Check.{Context, dynamic, fault, faults, kind, s
 use Rattle.machine.specs.Program.{Instruction, Op, Program, all-allowed, all-below, allowed, constant, copy, forward, instruction, jump, jump-if-false, load, op-allowed, perform, valid}
 use Rattle.machine.specs.Lower.{instruction-count, instruction-counts, lowered, lowered-all, program, register-count, register-counts, result-register, result-registers}
 use Rattle.machine.proofs.Laws.{and-l, and-r, and-true, instruction-count-pos, length-lowered, length-lowered-all, none-left, none-right, result-lt, unless-none}
-use Rattle.machine.proofs.Size.{Narrow, Narrows, argument-short, condition-short, else-short, longest-path, longest-paths, then-short}
+use Rattle.machine.specs.Paths.{longest-path, longest-paths}
+use Rattle.machine.proofs.Size.{Narrow, Narrows, argument-short, condition-short, else-short, then-short}
 
 module _ (P : Program) (C : Context) (same-count : P .inputs ≡ length (C .symbols)) where
   cons-allowed : (o : Op) (d : ℕ) (p : Path) (n : ℕ) (is : List Instruction) → d < P .registers → length (text p) ≤ 8192 → op-allowed P n o ≡ true

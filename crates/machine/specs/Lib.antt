@@ -2,6 +2,7 @@
 pub mod Check
 pub mod Program
 pub mod Lower
+pub mod Paths
 pub mod Machine
 pub mod Progress
 pub mod Compile

@@ -11,8 +11,7 @@ use lib.Dec.{eqb, ltb}
 use borrow.Author.Tests.{eqb-true, eqb-false, ltb-true, ltb-false, ne-eqb, eq-eqb}
 use Rattle.formula.specs.Text.{all-some}
 use Rattle.formula.specs.Values.{hex-digits, found, place-in, digit-of, numbered, value-of, digits-in, hex}
-use Rattle.names.specs.Lines.{place}
-unfoldable pub use Rattle.names.specs.Lines.{cap}
+use Rattle.names.specs.Lines.{cap, place}
 
 -- ---- the table
 

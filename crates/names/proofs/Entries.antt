@@ -11,9 +11,9 @@ use lib.Dec.{eqb}
 use borrow.Author.Tests.{eqb-true, ne-eqb}
 use Rattle.formula.specs.Text.{parted, split, all}
 use Rattle.formula.specs.Names.{SymbolKind, Symbol, is-letter, is-digit, is-name, kind-of, named, symbol-of}
-use Rattle.names.specs.Lines.{kind-number, kind-place, part, entry}
+use Rattle.names.specs.Lines.{entry, first-piece, free, kind-number, kind-place, part}
 use Rattle.names.specs.declared.Entry.the-variants.{Named, NoEntry}
-use Rattle.names.proofs.Splits.{no-true, and-first, and-second, and-both, free, split-end, split-next, first-piece, later-pieces, pieces}
+use Rattle.names.proofs.Splits.{no-true, and-first, and-second, and-both, split-end, split-next, later-pieces, pieces}
 use Rattle.names.proofs.Letters.{letter-or-digit}
 
 -- ---- pieces joined again

@@ -11,11 +11,11 @@ use lib.Dec.{eqb, leb}
 use borrow.Author.Tests.{eqb-true, eqb-false, ne-eqb, eq-eqb, le-leb, lt-leb}
 use Rattle.formula.specs.Text.{same-bytes, all, split, joined, all-some, zeros}
 use Rattle.formula.specs.Names.{Symbol, symbol-of, unlike, none-twice, table, symbols-of, kinds}
-use Rattle.names.specs.Lines.{kind-number, part, Ends, entry, repeats, Listed, Marked, mark, names-of}
+use Rattle.names.specs.Lines.{Ends, entry, free, kind-number, Listed, mark, Marked, names-of, part, prefixed, repeats}
 use Rattle.names.specs.declared.Entry.{Entry}
 use Rattle.names.specs.declared.Entry.the-variants.{Named, NoEntry}
 use Rattle.names.specs.declared.Names.{Names}
-use Rattle.names.proofs.Splits.{no-true, and-both, and-first, and-second, free, free-from, split-end, split-next, prefixed, prefixed-start, prefixed-more, prefixed-none, prefixed-some}
+use Rattle.names.proofs.Splits.{no-true, and-both, and-first, and-second, free-from, split-end, split-next, prefixed-start, prefixed-more, prefixed-none, prefixed-some}
 use Rattle.names.proofs.Entries.{formed, part-front}
 use Rattle.formula.proofs.Tests.{or-none}
 

@@ -9,8 +9,7 @@ use lib.ListN.{length, getD}
 use lib.Dec.{eqb}
 use borrow.Author.Tests.{eqb-false, ne-eqb, eq-eqb}
 use Rattle.formula.specs.Text.{glue, parted, split, joined}
-pub use Rattle.names.specs.Lines.{free}
-unfoldable pub use Rattle.names.specs.Lines.{prefixed}
+use Rattle.names.specs.Lines.{first-of, first-piece, free, prefixed}
 pub use Rattle.formula.proofs.Tests.{no-true, and-first, and-second, and-both}
 
 not-true : (a : Bool) → not a ≡ true → a ≡ false
@@ -31,14 +30,6 @@ split-next c (x ∷ xs) ys h =
     ∙ ap (λ (ps : List (List ℕ)). glue x ps) (split-next c xs ys (and-second (not (eqb x c)) (free c xs) h))
 
 -- ---- the first piece, and the others
-
-abbrev first-of : Bool → ℕ → List ℕ → List ℕ
-first-of true x p = []
-first-of false x p = x ∷ p
-
-abbrev pub first-piece : ℕ → List ℕ → List ℕ
-first-piece c [] = []
-first-piece c (x ∷ xs) = first-of (eqb x c) x (first-piece c xs)
 
 abbrev pub later-pieces : ℕ → List ℕ → List (List ℕ)
 later-pieces c [] = []

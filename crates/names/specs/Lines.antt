@@ -30,6 +30,15 @@ cap (suc i) = 16 * cap i
 abbrev pub free : ℕ → List ℕ → Bool
 free c xs = all (λ x. not (eqb x c)) xs
 
+abbrev pub first-of : Bool → ℕ → List ℕ → List ℕ
+first-of true x p = []
+first-of false x p = x ∷ p
+
+-- what stands before the first byte that is c, or all
+abbrev pub first-piece : ℕ → List ℕ → List ℕ
+first-piece c [] = []
+first-piece c (x ∷ xs) = first-of (eqb x c) x (first-piece c xs)
+
 -- some that are read, before what comes of the rest of the line
 unfoldable pub prefixed : {A : Type 0} → List A → Option (List A) → Option (List A)
 prefixed [] r = r

@@ -12,9 +12,9 @@ use Rattle.formula.specs.Text.{ascii, word-at}
 use Rattle.formula.specs.Path.{Path, _▸_, placed, root, step-text, text}
 use Rattle.layout.specs.Opcode.{step-of}
 use Rattle.machine.proofs.Laws.{and-l, and-r}
-use Rattle.paths.specs.Over.{over, zeroed}
+use Rattle.writer.specs.Over.{over, zeroed}
 use Rattle.paths.specs.Table.{Linked, climbed, length-in, linked, parent-in, path-in-table, step-in}
-use Rattle.paths.proofs.Over.{over-before, text-zeroed}
+use Rattle.writer.proofs.Over.{over-before, text-zeroed}
 
 module _ (b : List ℕ) (base : ℕ) where
   root-length : linked b base 0 ≡ true → length-in b base 0 ≡ 4

@@ -1,3 +1,2 @@
-pub mod Over
-pub mod Decimal
+pub mod Steps
 pub mod Climb

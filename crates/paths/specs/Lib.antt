@@ -1,3 +1,2 @@
--- Paths as records, and their text in a slice.
-pub mod Over
+-- Paths as records.
 pub mod Table

@@ -6,9 +6,11 @@ ghost use lib.ListN.{length};
 ghost use Rattle.formula.specs.Text.{decimal};
 ghost use Rattle.formula.specs.Path.{root, step-text, placed};
 ghost use Rattle.layout.specs.Opcode.{step-of};
-ghost use Rattle.paths.specs.Over.{over, zeroed};
+ghost use Rattle.writer.specs.Over.{over};
 ghost use Rattle.paths.specs.Table.{path-in-table, length-in, Linked};
 use layout::RECORD_SIZE;
+use writer::put_bytes;
+use writer::zero_from;
 
 // How many digits a number has.
 fn digits(n: usize) -> usize
@@ -43,11 +45,7 @@ fn copy_before(out: &mut [u8], end: usize, text: &[u8]) -> usize
     ensures { λ r. ⌜ (r + length (now (text .entry)) ≡ end) × (now (out .exit) ≡ over (now (out .entry)) r (now (text .entry))) ⌝ }
 {
     let begin = end - text.len();
-    let mut i = 0;
-    while i < text.len() {
-        out[begin + i] = text[i];
-        i += 1;
-    }
+    put_bytes(out, begin, text);
     begin
 }
 
@@ -81,17 +79,6 @@ fn step_before(out: &mut [u8], end: usize, step: usize) -> usize
             let number = number_before(out, close, step - 3);
             copy_before(out, number, b".arguments[")
         }
-    }
-}
-
-pub fn zero_from(out: &mut [u8], at: usize)
-    requires { ⌜ at ≤ length (now out) ⌝ }
-    ensures { λ r. ⌜ now (out .exit) ≡ zeroed (now (out .entry)) at ⌝ }
-{
-    let mut i = at;
-    while i < out.len() {
-        out[i] = 0;
-        i += 1;
     }
 }
 

@@ -258,7 +258,7 @@ fn step_case(line: &[u8]) -> bool {
 
 fn decimal_case(line: &[u8]) -> bool {
     let mut out = [0u8; 10];
-    let end = steps::put_decimal(&mut out, 0, number(line, 1));
+    let end = writer::put_decimal(&mut out, 0, number(line, 1));
     ends_with(line, 1, &out[..end])
 }
 

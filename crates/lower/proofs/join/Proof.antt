@@ -3,7 +3,7 @@ use mathlib.Core.List.{List}
 use Prim.Native.Nat.{ℕ, _+_, _*_}
 use native.Mathlib.Omega.{arith}
 use Rattle.layout.specs.Image.{slot}
-use Rattle.paths.specs.Over.{over}
+use Rattle.writer.specs.Over.{over}
 use borrow.Author.Needs.{needs}
 use Rattle.lower.proofs.join.Statement.{statement}
 use Rattle.lower.proofs.join.Tie as tie

@@ -3,7 +3,7 @@ use Prim.Native.Nat.{_+_, _-_}
 use native.Mathlib.Omega.{arith}
 use lib.ListN.{length}
 use Rattle.formula.specs.Text.{decimal}
-use Rattle.paths.proofs.Decimal.{decimal-bound, length-large, length-small}
+use Rattle.writer.proofs.Decimal.{decimal-bound, length-large, length-small}
 use Rattle.paths.proofs.digits.Statement.{statement}
 use Rattle.paths.proofs.digits.Tie as tie
 

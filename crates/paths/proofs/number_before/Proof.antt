@@ -1,13 +1,13 @@
-use Rattle.paths.proofs.Decimal.{decimal-small, last-digit, digit-more, length-large, length-small}
 use mathlib.Core.Path.{_≡_, refl, sym, ap, _∙_}
 use mathlib.Core.List.{List}
 use Prim.Native.Nat.{ℕ, _+_, _-_, _≤_}
 use native.Mathlib.Omega.{arith}
 use lib.ListN.{length, length-set}
 use Rattle.formula.specs.Text.{decimal}
-use Rattle.paths.specs.Over.{over}
-use Rattle.paths.proofs.Over.{over-one}
-use Rattle.paths.proofs.Decimal.{decimal-small, digit-more, length-large, length-small}
+use Rattle.writer.specs.Over.{over}
+use Rattle.writer.proofs.Over.{over-one}
+use Rattle.writer.proofs.Decimal.{decimal-small, length-large, length-small}
+use Rattle.paths.proofs.Steps.{digit-more, last-digit}
 use Rattle.paths.proofs.number_before.Statement.{statement}
 use Rattle.paths.proofs.number_before.Tie as tie
 

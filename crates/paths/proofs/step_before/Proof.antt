@@ -4,7 +4,7 @@ use native.Mathlib.Omega.{arith}
 use lib.ListN.{length}
 use Rattle.formula.specs.Path.{step-text}
 use Rattle.layout.specs.Opcode.{step-of}
-use Rattle.paths.proofs.Decimal.{argument-length, argument-written}
+use Rattle.paths.proofs.Steps.{argument-length, argument-written}
 use borrow.Author.Needs.{needs}
 use Rattle.paths.proofs.step_before.Statement.{statement}
 use Rattle.paths.proofs.step_before.Tie as tie

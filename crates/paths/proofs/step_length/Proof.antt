@@ -1,6 +1,6 @@
 use Prim.Native.Nat.{_≤_}
 use native.Mathlib.Omega.{arith}
-use Rattle.paths.proofs.Decimal.{argument-length}
+use Rattle.paths.proofs.Steps.{argument-length}
 use borrow.Author.Needs.{needs}
 use Rattle.paths.proofs.step_length.Statement.{statement}
 use Rattle.paths.proofs.step_length.Tie as tie

@@ -5,7 +5,7 @@ use Prim.Native.Nat.{_-_, _≤_}
 use native.Mathlib.Omega.{arith}
 use lib.ListN.{length}
 use Rattle.formula.specs.Path.{text}
-use Rattle.paths.specs.Over.{over}
+use Rattle.writer.specs.Over.{over}
 use Rattle.paths.specs.Table.{length-in, path-in-table}
 use Rattle.paths.proofs.Climb.{begin-is, parent-is, path-written, root-begin, step-fits, step-written}
 use Rattle.paths.proofs.write_path.Statement.{statement}

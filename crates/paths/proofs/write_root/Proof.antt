@@ -2,8 +2,8 @@ use mathlib.Core.Path.{_≡_, refl, ap, _∙_}
 use Prim.Native.Nat.{ℕ}
 use native.Mathlib.Omega.{arith}
 use Rattle.formula.specs.Text.{ascii}
-use Rattle.paths.specs.Over.{over}
-use Rattle.paths.proofs.Over.{text-zeroed}
+use Rattle.writer.specs.Over.{over}
+use Rattle.writer.proofs.Over.{text-zeroed}
 use borrow.Author.Needs.{needs}
 use Rattle.paths.proofs.write_root.Statement.{statement}
 use Rattle.paths.proofs.write_root.Tie as tie

@@ -4,7 +4,7 @@ use Rattle.reader_cases.proofs.decimal_case.Tie as tie
 use mathlib.Core.Path.{sym}
 use native.Mathlib.Omega.{arith}
 use lib.Seq.{length-take-le}
-use Rattle.steps.proofs.Decimal.{decimal-length-le}
+use Rattle.writer.proofs.Decimal.{decimal-length-le}
 
 slice-aggregate-put-decimal : tie.Need-slice-aggregate-put-decimal
 slice-aggregate-put-decimal c = search needs

@@ -1,12 +1,12 @@
-use Rattle.steps.proofs.put_bytes.Statement.{statement}
-use Rattle.steps.proofs.put_bytes.Tie as tie
+use Rattle.writer.proofs.put_bytes.Statement.{statement}
+use Rattle.writer.proofs.put_bytes.Tie as tie
 use mathlib.Core.Path.{_≡_, refl, ap, _∙_}
 use mathlib.Core.List.{List}
 use Prim.Native.Nat.{ℕ, _-_, _+_, _≤_}
 use native.Mathlib.Omega.{arith}
 use lib.ListN.{length, set, getD, length-set}
 use lib.Seq.{paste, paste-zero}
-use Rattle.steps.proofs.Over.{paste-more, paste-over}
+use Rattle.writer.proofs.Over.{paste-more, paste-over}
 
 abbrev Inv-loop : tie.InvT-loop
 Inv-loop out₀ at b i₀ out i = (i ≤ length b) × (length out ≡ length out₀) × (out ≡ paste out₀ at b i)

@@ -7,7 +7,7 @@ use native.Mathlib.Nat.{add-zero}
 use lib.ListN.{length, take, drop, set, length-append, length-drop, take-append-drop, getD, replicate, length-replicate, replicate-append-replicate}
 use lib.Seq.{paste, paste-suc, take-length, set-split, take-at, drop-at, drop-append-add, drop-drop, length-take-le, take-append-le, drop-length}
 use Rattle.formula.specs.Text.{zeros}
-use Rattle.paths.specs.Over.{over, zeroed}
+use Rattle.writer.specs.Over.{over, zeroed}
 
 module _ (p : List ℕ) (a : ℕ) (xs : List ℕ) (h : a + length xs ≤ length p) where
   pub length-head : length (take a p ++ xs) ≡ a + length xs
@@ -42,6 +42,12 @@ over-over p a xs ys h =
     drop-drop (length ys) (a + length xs) p
     ∙ ap (λ (k : ℕ). drop k p) l in
     rw (s, t, d, g, append-assoc (take a p) xs (ys ++ drop (a + length (xs ++ ys)) p), append-assoc xs ys (drop (a + length (xs ++ ys)) p))
+
+-- one part right after another
+pub next-over : (p p₁ p₂ : List ℕ) (i j : ℕ) (xs ys : List ℕ) → p₁ ≡ over p i xs → p₂ ≡ over p₁ j ys → j ≡ i + length xs → i + length xs ≤ length p
+    → p₂ ≡ over p i (xs ++ ys)
+next-over p p₁ p₂ i j xs ys e f g h =
+    f ∙ ap (λ (q : List ℕ). over q j ys) e ∙ ap (λ (k : ℕ). over (over p i xs) k ys) g ∙ over-over p i xs ys h
 
 -- the second part first
 pub over-before : (p : List ℕ) (a : ℕ) (xs ys : List ℕ) → a + length xs + length ys ≤ length p

@@ -2,10 +2,10 @@ use mathlib.Core.Path.{_≡_, refl, _∙_}
 use Prim.Native.Nat.{_-_, _≤_}
 use native.Mathlib.Omega.{arith}
 use lib.ListN.{length, length-set, replicate}
-use Rattle.paths.specs.Over.{over}
-use Rattle.paths.proofs.Over.{zero-last, zero-more, zero-none}
-use Rattle.paths.proofs.zero_from.Statement.{statement}
-use Rattle.paths.proofs.zero_from.Tie as tie
+use Rattle.writer.specs.Over.{over}
+use Rattle.writer.proofs.Over.{zero-last, zero-more, zero-none}
+use Rattle.writer.proofs.zero_from.Statement.{statement}
+use Rattle.writer.proofs.zero_from.Tie as tie
 
 abbrev Inv-loop : tie.InvT-loop
 Inv-loop out₀ at i₀ out i = (at ≤ i) × (i ≤ length out₀) × (length out ≡ length out₀) × (out ≡ over out₀ at (replicate (i - at) 0))

@@ -1,15 +1,15 @@
 use Prim.Native.Nat.{ℕ, _<_, _+_}
 use borrow.Fn.Kinds.{In}
 use borrow.Fn.PlainCycle.{Measures, is, falls, and}
-use Rattle.steps.proofs.put_decimal.Reads as put-decimal
-use Rattle.steps.proofs.put_decimal.Kinds as put-decimal-kinds
-use Rattle.steps.proofs.+put_decimal.Lts-put_decimal as put-decimal-lts
-use Rattle.steps.proofs.+put_decimal.{statement}
-use Rattle.steps.proofs.+put_decimal.Tie.{close}
+use Rattle.writer.proofs.put_decimal.Reads as put-decimal
+use Rattle.writer.proofs.put_decimal.Kinds as put-decimal-kinds
+use Rattle.writer.proofs.+put_decimal.Lts-put_decimal as put-decimal-lts
+use Rattle.writer.proofs.+put_decimal.{statement}
+use Rattle.writer.proofs.+put_decimal.Tie.{close}
 use mathlib.Core.Path.{_∙_}
 use native.Mathlib.Omega.{arith}
 use lib.ListN.{length-set}
-use Rattle.steps.proofs.Decimal.{put-small, put-more, length-small, length-more}
+use Rattle.writer.proofs.Decimal.{put-small, put-more, length-small, length-large}
 
 abbrev μ-put-decimal : Measures 1 put-decimal-kinds.ps ℕ
 μ-put-decimal κs a = a .1 .1 .0
@@ -51,7 +51,7 @@ put-decimal-put-decimal-requires t c κs =
     let args = c .before .before .before .args in
     let pre = c .before .before .before .pre in
     let if1 = c .before .if1 in
-    (omega (arith, pre .0, if1 .left), omega (arith, pre .1, length-more (args .n) (if1 .left)))
+    (omega (arith, pre .0, if1 .left), omega (arith, pre .1, length-large (args .n) (if1 .left)))
 
 put-decimal-cast-out-2 : (t : ℕ) → put-decimal-lts.Need-cast-out-2 (put-decimal-calls t) (put-decimal-at t) put-decimal.Post
 put-decimal-cast-out-2 t c = omega arith
@@ -65,7 +65,7 @@ put-decimal-slice-write-out-2 t c =
     let pre = c .before .before .before .before .before .before .pre in
     let if1 = c .before .before .before .before .if1 in
     let put-decimal = c .before .before .put-decimal in
-    omega (arith, pre .1, length-more (args .n) (if1 .left), put-decimal .ensures .0, put-decimal .kept .0)
+    omega (arith, pre .1, length-large (args .n) (if1 .left), put-decimal .ensures .0, put-decimal .kept .0)
 
 put-decimal-add-result-2 : (t : ℕ) → put-decimal-lts.Need-add-result-2 (put-decimal-calls t) (put-decimal-at t) put-decimal.Post
 put-decimal-add-result-2 t c =
@@ -74,7 +74,7 @@ put-decimal-add-result-2 t c =
     let pre = c .before .before .before .before .before .before .pre in
     let if1 = c .before .before .before .before .if1 in
     let put-decimal = c .before .before .put-decimal in
-    omega (arith, pre .1, length-more (args .n) (if1 .left), put-decimal .ensures .0, good .0 .0)
+    omega (arith, pre .1, length-large (args .n) (if1 .left), put-decimal .ensures .0, good .0 .0)
 
 put-decimal-same-length-2 : (t : ℕ) → put-decimal-lts.Need-same-length-2 (put-decimal-calls t) (put-decimal-at t) put-decimal.Post
 put-decimal-same-length-2 t c = length-set (c .before .before .put-decimal .last .0) (c .before .before .put-decimal .result) _ ∙ c .before .before .put-decimal .kept .0

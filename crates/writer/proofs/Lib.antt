@@ -1,2 +1,4 @@
 pub mod Over
+pub mod Apart
+pub mod Stored
 pub mod Decimal

@@ -1,9 +1,9 @@
-use Rattle.lower.proofs.Slots.{word-stored}
+use Rattle.writer.proofs.Stored.{word-stored}
 use native.Mathlib.Omega.{arith}
 use lib.ListN.{length-set}
 use borrow.Author.Needs.{needs}
-use Rattle.lower.proofs.put_word.Statement.{statement}
-use Rattle.lower.proofs.put_word.Tie as tie
+use Rattle.writer.proofs.put_word.Statement.{statement}
+use Rattle.writer.proofs.put_word.Tie as tie
 
 cast-p : tie.Need-cast-p
 cast-p c = search needs

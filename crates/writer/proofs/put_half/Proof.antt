@@ -1,9 +1,9 @@
-use Rattle.lower.proofs.Slots.{half-stored}
+use Rattle.writer.proofs.Stored.{half-stored}
 use native.Mathlib.Omega.{arith}
 use lib.ListN.{length-set}
 use borrow.Author.Needs.{needs}
-use Rattle.lower.proofs.put_half.Statement.{statement}
-use Rattle.lower.proofs.put_half.Tie as tie
+use Rattle.writer.proofs.put_half.Statement.{statement}
+use Rattle.writer.proofs.put_half.Tie as tie
 
 cast-p : tie.Need-cast-p
 cast-p c = search needs

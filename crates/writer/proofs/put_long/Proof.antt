@@ -1,9 +1,9 @@
-use Rattle.lower.proofs.Slots.{long-stored}
+use Rattle.writer.proofs.Stored.{long-stored}
 use native.Mathlib.Omega.{arith}
 use lib.ListN.{length-set}
 use borrow.Author.Needs.{needs}
-use Rattle.lower.proofs.put_long.Statement.{statement}
-use Rattle.lower.proofs.put_long.Tie as tie
+use Rattle.writer.proofs.put_long.Statement.{statement}
+use Rattle.writer.proofs.put_long.Tie as tie
 
 cast-p : tie.Need-cast-p
 cast-p c = search needs

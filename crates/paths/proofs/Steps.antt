@@ -1,48 +1,17 @@
--- Digits, the last one apart.
-use mathlib.Core.Path.{_≡_, refl, sym, ap, _∙_}
-use mathlib.Core.Bool.{Bool, true, false}
+-- The text of a step, written from its end.
+use mathlib.Core.Path.{_≡_, sym, ap, _∙_}
 use mathlib.Core.List.{List, [], _∷_, _++_}
 use Prim.Native.Nat.{ℕ, zero, suc, _+_, _-_, _/_, _%_, _≤_, _<_}
 use native.Mathlib.Omega.{arith}
-use borrow.Author.Tests.{lt-ltb, le-ltb, ltb-false, ne-eqb}
+use borrow.Author.Tests.{ne-eqb}
 use lib.ListN.{length, length-append, set}
-use lib.Dec.{ltb}
-use Rattle.formula.specs.Text.{ascii, decimal, decimal-in}
+use Rattle.formula.specs.Text.{ascii, decimal}
 use Rattle.formula.specs.Path.{argument, step-text}
 use Rattle.machine.proofs.Size.{step-short}
 use Rattle.layout.specs.Opcode.{step-of}
-use Rattle.paths.specs.Over.{over}
-use Rattle.paths.proofs.Over.{over-before, over-one}
-
-same-decimal : (t u n : ℕ) (b : Bool) → n < t → n < u → ltb n 10 ≡ b → decimal-in t b n ≡ decimal-in u b n
-same-decimal zero u n b h k e = absurd (omega arith)
-same-decimal (suc t) zero n b h k e = absurd (omega arith)
-same-decimal (suc t) (suc u) n true h k e = refl
-same-decimal (suc t) (suc u) n false h k e =
-    let l = ltb-false n 10 e in
-    ap (λ (xs : List ℕ). xs ++ (48 + n % 10) ∷ []) (same-decimal t u (n / 10) (ltb (n / 10) 10) (omega arith) (omega arith) refl)
-
-pub decimal-small : (n : ℕ) → n < 10 → decimal n ≡ (48 + n) ∷ []
-decimal-small n h = rw (lt-ltb n 10 h)
-
-pub decimal-large : (n : ℕ) → 10 ≤ n → decimal n ≡ decimal (n / 10) ++ (48 + n % 10) ∷ []
-decimal-large n h =
-    rw (le-ltb n 10 h)
-    (ap (λ (xs : List ℕ). xs ++ (48 + n % 10) ∷ []) (same-decimal n (suc (n / 10)) (n / 10) (ltb (n / 10) 10) (omega arith) (omega arith) refl))
-
-length-turns : (t n : ℕ) (b : Bool) → length (decimal-in t b n) ≤ t
-length-turns zero n b = omega arith
-length-turns (suc t) n true = omega arith
-length-turns (suc t) n false = rw length-append (omega (arith, length-turns t (n / 10) (ltb (n / 10) 10)))
-
-pub decimal-bound : (n : ℕ) → length (decimal n) ≤ n + 1
-decimal-bound n = omega (arith, length-turns (suc n) n (ltb n 10))
-
-pub length-small : (n : ℕ) → n < 10 → length (decimal n) ≡ 1
-length-small n h = ap length (decimal-small n h)
-
-pub length-large : (n : ℕ) → 10 ≤ n → length (decimal n) ≡ length (decimal (n / 10)) + 1
-length-large n h = ap length (decimal-large n h) ∙ length-append (decimal (n / 10)) ((48 + n % 10) ∷ [])
+use Rattle.writer.specs.Over.{over}
+use Rattle.writer.proofs.Over.{over-before, over-one}
+use Rattle.writer.proofs.Decimal.{decimal-large}
 
 -- one digit more stands before those that were written
 pub digit-more : (out whole : List ℕ) (n x at begin : ℕ) → 10 ≤ n → x ≡ 48 + n % 10 → at ≡ begin + length (decimal (n / 10)) → at < length out
