@@ -8,7 +8,6 @@ use lib.ListN.{length, take, drop, length-append, take-append-drop}
 use lib.Seq.{length-take-le}
 use borrow.Rule.Slice.PartMut.{midOf}
 use Rattle.listing.specs.Legs.{legs}
-use Rattle.writer.specs.Over.{over}
 use Rattle.writer.proofs.Over.{over-nil}
 use Rattle.lines.specs.declared.Advanced.{Advanced}
 use Rattle.lines.specs.declared.Stage.{Stage}
