@@ -6,7 +6,7 @@ mod raw;
 pub mod slices;
 
 pub use error::{Action, Error, Refusal};
-use slices::{ASK, COUNT, FIRST, PATH, QUESTION, SECOND, SPENT, STATE, VALUE};
+use slices::{ASK, COUNT, FIRST, NODE, NODE_ROOM, PATH, QUESTION, SECOND, SPENT, STATE, VALUE};
 
 /// Nodes that a derivative tree has at most.
 const LARGEST_TREE: usize = 16384;
@@ -42,12 +42,12 @@ impl Program {
     /// The derivative of a formula by a symbol's number. The slices grow until the tree has room.
     pub fn derive(formula: &[u8], names: &[u8], symbol: u32) -> Result<Derivative, Error> {
         let mut path = [0; PATH];
-        let mut nodes = formula.len().div_ceil(16).max(64);
+        let mut nodes = formula.len().div_ceil(NODE).max(64);
         loop {
-            let (mut tree, mut program) = (vec![0; 16 * nodes], vec![0; 240 * nodes]);
+            let (mut tree, mut program) = (vec![0; NODE * nodes], vec![0; NODE_ROOM * nodes]);
             match slices::derive(formula, names, symbol, &mut path, &mut tree, &mut program) {
                 0 => {
-                    tree.truncate(16 * tree_nodes(&tree));
+                    tree.truncate(NODE * tree_nodes(&tree));
                     return Ok(Derivative { tree, program: Self(program) });
                 }
                 1 if nodes < LARGEST_TREE => nodes = (4 * nodes).min(LARGEST_TREE),
@@ -81,7 +81,7 @@ impl Program {
 /// Nodes of the tree at the start of a slice: the trees still owed are counted.
 fn tree_nodes(bytes: &[u8]) -> usize {
     let (mut owed, mut nodes) = (1, 0);
-    for node in bytes.chunks_exact(16) {
+    for node in bytes.chunks_exact(NODE) {
         if owed == 0 {
             break;
         }

@@ -5,6 +5,9 @@ use crate::raw;
 
 /// A path slice has this many bytes or more.
 pub const PATH: usize = 8192;
+/// Bytes of a formula's node, and of a program slice for each node.
+pub const NODE: usize = 16;
+pub const NODE_ROOM: usize = 240;
 /// Numbers of a run's state and outcome.
 pub const STATE: usize = 16;
 /// A run's answer: a question pends.
@@ -27,7 +30,7 @@ pub const VALUE: usize = 15;
 
 /// Bytes that a program slice needs for a formula of so many bytes.
 pub fn program_room(formula_length: usize) -> usize {
-    formula_length.div_ceil(16) * 240
+    formula_length.div_ceil(NODE) * NODE_ROOM
 }
 
 /// 0 and a program, or a refusal.

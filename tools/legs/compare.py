@@ -4,7 +4,7 @@
 Usage: compare.py LEGS ORACLE [SEED [CASES]]
 
 LEGS is the built program, ORACLE the reference (reference/build.sh). What the reference has no part in, lines, digits, counts
-and the form of the output, is written out here from document 01. In some cases the input is cut into blocks at random places:
+and the form of the output, is written out here from docs/REFERENCE.md. In some cases the input is cut into blocks at random places:
 a block is written to the pipe when the program has read all of the one before.
 """
 import array
@@ -29,7 +29,7 @@ HEADER = b"no,answer,detail,steps\n"
 VALUES = re.compile(rb"[0-9a-f]{16}(,[0-9a-f]{16})*")
 
 
-# ---- what document 01 asks for
+# ---- what legs has to print
 
 def lines_of(data):
     pieces = data.split(b"\n")

@@ -1,5 +1,5 @@
 #!/bin/sh
-# Tests the library through its interface: document 01's flights by the Rust crate, both examples, then 20,000 random formulas
+# Tests the library through its interface: the worked flights by the Rust crate, both examples, then 20,000 random formulas
 # beside the reference (tools/compare).
 set -e
 cd "$(dirname "$0")/../.."

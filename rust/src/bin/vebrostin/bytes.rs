@@ -1,8 +1,7 @@
-//! Formula bytes: nodes of `NODE` bytes, each followed by its children, as document 01 lays them out. No other module knows them.
+//! Formula bytes: nodes of `NODE` bytes, each followed by its children, as docs/REFERENCE.md, 1, has them. No other module knows them.
 use crate::tree::{Head, Tree, BINARY, BOOLEAN, CALLS, COMPARE, LEVELS, UNARY};
 
-/// Bytes of a node.
-pub const NODE: usize = 16;
+pub use vebrostin::slices::NODE;
 
 /// Why no tree is read from bytes, and at which byte: they are no formula, or one with too many levels.
 #[derive(Debug, PartialEq, Eq)]

@@ -82,7 +82,7 @@ impl Names {
         Ok(())
     }
 
-    /// The name line as document 01 has it, without blanks; or what is wrong with it.
+    /// The name line as docs/REFERENCE.md, 2, has it, without blanks; or what is wrong with it.
     pub fn from_line(line: &[u8]) -> Result<Self, String> {
         let mut names = Self::default();
         let Ok(line) = std::str::from_utf8(line) else {

@@ -4,7 +4,7 @@ use std::ops::Range;
 /// A piece of a text, by its bytes.
 pub type Span = Range<usize>;
 
-/// What a node is, by document 01's kinds; an operator is its number there.
+/// What a node is, by the kinds of docs/REFERENCE.md, 1; an operator is its number there.
 #[derive(Clone, Copy, Debug, PartialEq, Eq)]
 pub enum Head {
     /// The bits of an f64, finite or not.
@@ -33,7 +33,7 @@ pub struct Tree {
 pub const LEVELS: usize = 1000;
 pub const CHILDREN: usize = u16::MAX as usize;
 
-/// Operators in the order of document 01, as a text writes them.
+/// Operators in the order of their numbers, as a text writes them.
 pub const UNARY: [&str; 3] = ["+", "-", "not"];
 pub const BINARY: [&str; 6] = ["+", "-", "*", "/", "^", "%"];
 pub const COMPARE: [&str; 6] = ["<", "<=", ">", ">=", "==", "!="];
