@@ -55,7 +55,7 @@ fn refused(n: u8) -> Outcome
     ensures { λ r. ⌜ r ≡ record { answer = Answer.Refused n; count = 0 } ⌝ }
 {
     Outcome {
-        answer: Answer::Refused(n as usize),
+        answer: Answer::Refused(n),
         count: 0,
     }
 }
