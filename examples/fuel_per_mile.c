@@ -9,6 +9,7 @@ enum { FORMULA = 16 * VEBROSTIN_FORMULA_NODES, TREE = 1024, PROGRAM = VEBROSTIN_
 
 static uint8_t formula[FORMULA], names[65536], path[VEBROSTIN_PATH_LENGTH], tree[16 * TREE], program[PROGRAM];
 static double inputs[256], registers[REGISTERS];
+static uint64_t report[VEBROSTIN_REPORT_LENGTH];
 static size_t input_count;
 
 static double value_of(uint64_t bits) {
@@ -41,10 +42,10 @@ static void refused(const char *what, size_t number) {
 static double evaluate(const char *what) {
     uint64_t state[VEBROSTIN_STATE_LENGTH];
     size_t number = vebrostin_run(program, PROGRAM, inputs, input_count, registers, REGISTERS, path, sizeof path, SIZE_MAX,
-                                  state, VEBROSTIN_STATE_LENGTH);
+                                  state, VEBROSTIN_STATE_LENGTH, report, VEBROSTIN_REPORT_LENGTH);
     while (number == VEBROSTIN_ASK)
         number = vebrostin_answer(program, PROGRAM, inputs, input_count, registers, REGISTERS, path, sizeof path, SIZE_MAX,
-                                  state, VEBROSTIN_STATE_LENGTH, answer(state));
+                                  state, VEBROSTIN_STATE_LENGTH, report, VEBROSTIN_REPORT_LENGTH, answer(state));
     if (number != VEBROSTIN_OK)
         refused(what, number);
     return value_of(state[VEBROSTIN_VALUE]);
@@ -74,11 +75,12 @@ int main(int count, char **words) {
         m = (size_t)(end - names);
     for (int i = 3; i < count && input_count < 256; i++)
         inputs[input_count++] = atof(words[i]);
-    size_t number = vebrostin_compile(formula, n, names, m, path, sizeof path, program, PROGRAM);
+    size_t number = vebrostin_compile(formula, n, names, m, path, sizeof path, program, PROGRAM, report, VEBROSTIN_REPORT_LENGTH);
     if (number != VEBROSTIN_OK)
         refused("compile", number);
     printf("fuel %g kg\n", evaluate("run"));
-    number = vebrostin_derive(formula, n, names, m, (uint32_t)atol(words[2]), path, sizeof path, tree, sizeof tree, program, PROGRAM);
+    number = vebrostin_derive(formula, n, names, m, (uint32_t)atol(words[2]), path, sizeof path, tree, sizeof tree, program, PROGRAM,
+                              report, VEBROSTIN_REPORT_LENGTH);
     if (number != VEBROSTIN_OK)
         refused("derive", number);
     printf("fuel per mile %g kg\n", evaluate("run of the derivative"));

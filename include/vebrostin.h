@@ -25,7 +25,8 @@ enum {
     /* done: a program, a derivative, a value */
     VEBROSTIN_OK = 0,
     /* a slice is too short: the path slice below 8,192 bytes; the program slice below 240 bytes for each 16 bytes of formula
-     * (of the derivative tree, for a derivative); the tree slice below 16 bytes for each node; the state below 16 numbers */
+     * (of the derivative tree, for a derivative); the tree slice below 16 bytes for each node; the state below 16 numbers;
+     * the report below 8, which is looked at before anything else */
     VEBROSTIN_SLICE_TOO_SHORT = 1,
     /* the bytes are no formula */
     VEBROSTIN_FORMULA = 2,
@@ -60,6 +61,7 @@ enum {
 enum {
     VEBROSTIN_PATH_LENGTH = 8192,
     VEBROSTIN_STATE_LENGTH = 16,
+    VEBROSTIN_REPORT_LENGTH = 8,
     VEBROSTIN_PROGRAM_PER_NODE = 240,
     VEBROSTIN_FORMULA_NODES = 256,
     VEBROSTIN_TREE_NODES = 16384
@@ -77,6 +79,9 @@ enum {
     VEBROSTIN_VALUE = 15      /* the value where that call answered 0, else 0 */
 };
 
+/* A report has the numbers that a call hands out beside its answer and its state: a place for each, 0 where there is none. An enum
+ * names the places as functions come to fill them. None is filled yet, and every call leaves the report as it was. */
+
 /* Functions that a run asks its host for. */
 enum {
     VEBROSTIN_EXP = 0,
@@ -91,12 +96,14 @@ enum {
 
 /* Compiles a formula. 0 and a program, zeros after it; or 1 to 9. 1 to 4 leave the program slice as it was, 5 to 9 all zero. */
 size_t vebrostin_compile(const uint8_t *formula, size_t formula_length, const uint8_t *names, size_t names_length,
-                         uint8_t *path, size_t path_length, uint8_t *program, size_t program_length);
+                         uint8_t *path, size_t path_length, uint8_t *program, size_t program_length,
+                         uint64_t *report, size_t report_length);
 
 /* The derivative of a formula by a symbol's number (from 0). 0, its tree as formula bytes and the tree's program, zeros after each; or
  * 1 to 9. A refusal of the formula itself leaves the tree slice as it was, a later one all zero; both leave the program slice. */
 size_t vebrostin_derive(const uint8_t *formula, size_t formula_length, const uint8_t *names, size_t names_length, uint32_t symbol,
-                        uint8_t *path, size_t path_length, uint8_t *tree, size_t tree_length, uint8_t *program, size_t program_length);
+                        uint8_t *path, size_t path_length, uint8_t *tree, size_t tree_length, uint8_t *program, size_t program_length,
+                        uint64_t *report, size_t report_length);
 
 /* Whether a run takes the bytes. */
 bool vebrostin_is_program(const uint8_t *program, size_t program_length);
@@ -107,22 +114,22 @@ size_t vebrostin_registers(const uint8_t *program, size_t program_length);
 size_t vebrostin_inputs(const uint8_t *program, size_t program_length);
 
 /* Begins a run and completes at most `budget` instructions. 0 with a value, 100, 101, or 1, 5, 9, 10. Inputs stand in the order of
- * the names. The state's numbers are written, unless there are fewer than sixteen; what they held doesn't matter. Where the run is
+ * the names. The state's numbers are written, unless a slice of numbers is too short; what they held doesn't matter. Where the run is
  * refused they are those of a fresh state. */
 size_t vebrostin_run(const uint8_t *program, size_t program_length, const double *inputs, size_t inputs_length,
                      double *registers, size_t registers_length, uint8_t *path, size_t path_length, size_t budget,
-                     uint64_t *state, size_t state_length);
+                     uint64_t *state, size_t state_length, uint64_t *report, size_t report_length);
 
 /* Goes on with the same program, inputs, registers and state. A question that pends is put again. 1, 10 and 11 leave all as it was, 5
  * all but the path slice: no number of the state is written, the count and the value neither. */
 size_t vebrostin_resume(const uint8_t *program, size_t program_length, const double *inputs, size_t inputs_length,
                         double *registers, size_t registers_length, uint8_t *path, size_t path_length, size_t budget,
-                        uint64_t *state, size_t state_length);
+                        uint64_t *state, size_t state_length, uint64_t *report, size_t report_length);
 
 /* Goes on with the value for the question that pends; otherwise as vebrostin_resume. */
 size_t vebrostin_answer(const uint8_t *program, size_t program_length, const double *inputs, size_t inputs_length,
                         double *registers, size_t registers_length, uint8_t *path, size_t path_length, size_t budget,
-                        uint64_t *state, size_t state_length, double value);
+                        uint64_t *state, size_t state_length, uint64_t *report, size_t report_length, double value);
 
 #ifdef __cplusplus
 }

@@ -6,7 +6,7 @@ mod raw;
 pub mod slices;
 
 pub use error::{Action, Error, Refusal};
-use slices::{ASK, COUNT, FIRST, NODE, NODE_ROOM, PATH, QUESTION, SECOND, SPENT, STATE, VALUE};
+use slices::{ASK, COUNT, FIRST, NODE, NODE_ROOM, PATH, QUESTION, REPORT, SECOND, SPENT, STATE, VALUE};
 
 /// Nodes that a derivative tree has at most.
 const LARGEST_TREE: usize = 16384;
@@ -33,7 +33,7 @@ impl Program {
     pub fn compile(formula: &[u8], names: &[u8]) -> Result<Self, Error> {
         let mut path = [0; PATH];
         let mut program = vec![0; slices::program_room(formula.len())];
-        match slices::compile(formula, names, &mut path, &mut program) {
+        match slices::compile(formula, names, &mut path, &mut program, &mut [0; REPORT]) {
             0 => Ok(Self(program)),
             number => Err(refused(number, Action::Compile, &path)),
         }
@@ -45,7 +45,7 @@ impl Program {
         let mut nodes = formula.len().div_ceil(NODE).max(64);
         loop {
             let (mut tree, mut program) = (vec![0; NODE * nodes], vec![0; NODE_ROOM * nodes]);
-            match slices::derive(formula, names, symbol, &mut path, &mut tree, &mut program) {
+            match slices::derive(formula, names, symbol, &mut path, &mut tree, &mut program, &mut [0; REPORT]) {
                 0 => {
                     tree.truncate(NODE * tree_nodes(&tree));
                     return Ok(Derivative { tree, program: Self(program) });
@@ -151,7 +151,8 @@ impl<'a> Run<'a> {
 
     /// Begins at the first instruction and completes at most `budget` instructions.
     pub fn start(&mut self, inputs: &[f64], budget: usize) -> Result<Answer, Error> {
-        let number = slices::run(self.program.bytes(), inputs, &mut self.registers, &mut self.path, budget, &mut self.state);
+        let (program, report) = (self.program.bytes(), &mut [0; REPORT]);
+        let number = slices::run(program, inputs, &mut self.registers, &mut self.path, budget, &mut self.state, report);
         self.told(number)
     }
 
@@ -171,8 +172,8 @@ impl<'a> Run<'a> {
     }
 
     fn go_on(&mut self, inputs: &[f64], budget: usize, value: Option<f64>) -> Result<Answer, Error> {
-        let program = self.program.bytes();
-        let number = slices::resume(program, inputs, &mut self.registers, &mut self.path, budget, &mut self.state, value);
+        let (program, report) = (self.program.bytes(), &mut [0; REPORT]);
+        let number = slices::resume(program, inputs, &mut self.registers, &mut self.path, budget, &mut self.state, report, value);
         self.told(number)
     }
 

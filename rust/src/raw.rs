@@ -3,10 +3,12 @@ extern "C" {
     pub fn vebrostin_compile(
         formula: *const u8, formula_length: usize, names: *const u8, names_length: usize,
         path: *mut u8, path_length: usize, program: *mut u8, program_length: usize,
+        report: *mut u64, report_length: usize,
     ) -> usize;
     pub fn vebrostin_derive(
         formula: *const u8, formula_length: usize, names: *const u8, names_length: usize, symbol: u32,
         path: *mut u8, path_length: usize, tree: *mut u8, tree_length: usize, program: *mut u8, program_length: usize,
+        report: *mut u64, report_length: usize,
     ) -> usize;
     pub fn vebrostin_is_program(program: *const u8, program_length: usize) -> bool;
     pub fn vebrostin_instructions(program: *const u8, program_length: usize) -> usize;
@@ -15,16 +17,16 @@ extern "C" {
     pub fn vebrostin_run(
         program: *const u8, program_length: usize, inputs: *const f64, inputs_length: usize,
         registers: *mut f64, registers_length: usize, path: *mut u8, path_length: usize,
-        budget: usize, state: *mut u64, state_length: usize,
+        budget: usize, state: *mut u64, state_length: usize, report: *mut u64, report_length: usize,
     ) -> usize;
     pub fn vebrostin_resume(
         program: *const u8, program_length: usize, inputs: *const f64, inputs_length: usize,
         registers: *mut f64, registers_length: usize, path: *mut u8, path_length: usize,
-        budget: usize, state: *mut u64, state_length: usize,
+        budget: usize, state: *mut u64, state_length: usize, report: *mut u64, report_length: usize,
     ) -> usize;
     pub fn vebrostin_answer(
         program: *const u8, program_length: usize, inputs: *const f64, inputs_length: usize,
         registers: *mut f64, registers_length: usize, path: *mut u8, path_length: usize,
-        budget: usize, state: *mut u64, state_length: usize, value: f64,
+        budget: usize, state: *mut u64, state_length: usize, report: *mut u64, report_length: usize, value: f64,
     ) -> usize;
 }

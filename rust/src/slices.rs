@@ -10,6 +10,8 @@ pub const NODE: usize = 16;
 pub const NODE_ROOM: usize = 240;
 /// Numbers of a run's state and outcome.
 pub const STATE: usize = 16;
+/// Numbers of a report, in which a call hands out what it has beside its answer; none yet, so that it stays as it was.
+pub const REPORT: usize = 8;
 /// A run's answer: a question pends.
 pub const ASK: usize = 100;
 /// A run's answer: the whole budget was completed and code remains.
@@ -34,23 +36,26 @@ pub fn program_room(formula_length: usize) -> usize {
 }
 
 /// 0 and a program, or a refusal.
-pub fn compile(formula: &[u8], names: &[u8], path: &mut [u8], program: &mut [u8]) -> usize {
+pub fn compile(formula: &[u8], names: &[u8], path: &mut [u8], program: &mut [u8], report: &mut [u64]) -> usize {
     // SAFETY: each pointer has its slice's length after it, and the library stays within both.
     unsafe {
         raw::vebrostin_compile(
             formula.as_ptr(), formula.len(), names.as_ptr(), names.len(),
-            path.as_mut_ptr(), path.len(), program.as_mut_ptr(), program.len(),
+            path.as_mut_ptr(), path.len(), program.as_mut_ptr(), program.len(), report.as_mut_ptr(), report.len(),
         )
     }
 }
 
 /// 0, a derivative tree and its program, or a refusal.
-pub fn derive(formula: &[u8], names: &[u8], symbol: u32, path: &mut [u8], tree: &mut [u8], program: &mut [u8]) -> usize {
+pub fn derive(
+    formula: &[u8], names: &[u8], symbol: u32, path: &mut [u8], tree: &mut [u8], program: &mut [u8], report: &mut [u64],
+) -> usize {
     // SAFETY: as in `compile`.
     unsafe {
         raw::vebrostin_derive(
             formula.as_ptr(), formula.len(), names.as_ptr(), names.len(), symbol,
             path.as_mut_ptr(), path.len(), tree.as_mut_ptr(), tree.len(), program.as_mut_ptr(), program.len(),
+            report.as_mut_ptr(), report.len(),
         )
     }
 }
@@ -80,27 +85,32 @@ pub fn inputs(program: &[u8]) -> usize {
 }
 
 /// Begins a run: 0 with a value, `ASK`, `SPENT`, or a refusal.
-pub fn run(program: &[u8], inputs: &[f64], registers: &mut [f64], path: &mut [u8], budget: usize, state: &mut [u64]) -> usize {
+pub fn run(
+    program: &[u8], inputs: &[f64], registers: &mut [f64], path: &mut [u8], budget: usize, state: &mut [u64], report: &mut [u64],
+) -> usize {
     // SAFETY: as in `compile`.
     unsafe {
         raw::vebrostin_run(
             program.as_ptr(), program.len(), inputs.as_ptr(), inputs.len(), registers.as_mut_ptr(), registers.len(),
             path.as_mut_ptr(), path.len(), budget, state.as_mut_ptr(), state.len(),
+            report.as_mut_ptr(), report.len(),
         )
     }
 }
 
 /// Goes on with a run, with a value for the question that pends or without. Refused with 1, 5, 10 or 11 it leaves state and registers.
 pub fn resume(
-    program: &[u8], inputs: &[f64], registers: &mut [f64], path: &mut [u8], budget: usize, state: &mut [u64], value: Option<f64>,
+    program: &[u8], inputs: &[f64], registers: &mut [f64], path: &mut [u8], budget: usize, state: &mut [u64], report: &mut [u64],
+    value: Option<f64>,
 ) -> usize {
     let (p, x, r, t, s) = (program.as_ptr(), inputs.as_ptr(), registers.as_mut_ptr(), path.as_mut_ptr(), state.as_mut_ptr());
     let (n, m, k, l, c) = (program.len(), inputs.len(), registers.len(), path.len(), state.len());
+    let (o, e) = (report.as_mut_ptr(), report.len());
     // SAFETY: as in `compile`.
     unsafe {
         match value {
-            None => raw::vebrostin_resume(p, n, x, m, r, k, t, l, budget, s, c),
-            Some(value) => raw::vebrostin_answer(p, n, x, m, r, k, t, l, budget, s, c, value),
+            None => raw::vebrostin_resume(p, n, x, m, r, k, t, l, budget, s, c, o, e),
+            Some(value) => raw::vebrostin_answer(p, n, x, m, r, k, t, l, budget, s, c, o, e, value),
         }
     }
 }

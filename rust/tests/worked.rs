@@ -1,4 +1,5 @@
 //! Document 01's worked flights, and each refusal's text, through the crate.
+use vebrostin::slices::{self, PATH, REPORT, STATE};
 use vebrostin::{Answer, Error, Program, Question, Refusal, Run};
 
 const NAMES: &[u8] = b"climb:p,burn:p,distance:i,tas:i,wind:i";
@@ -103,4 +104,16 @@ fn refusals() {
     let derived = Program::derive(&node(1, 0, 0, 1, &[]), b"a:p", 0).unwrap_err();
     assert_eq!((derived.refusal, derived.place.as_deref()), (Refusal::Type, Some("root")));
     assert_eq!((1..=12).filter_map(Refusal::from_number).map(Refusal::number).collect::<Vec<_>>(), (1..=11).collect::<Vec<_>>());
+}
+
+#[test]
+fn short_report() {
+    let (mut path, mut tree, mut program, mut cells) = ([7; PATH], [7; 16], [7; 240], [7; STATE]);
+    let (formula, report) = (number(1.0), &mut [7; REPORT - 1]);
+    assert_eq!(slices::compile(&formula, b"", &mut path, &mut program, report), 1);
+    assert_eq!(slices::derive(&formula, b"a:p", 0, &mut path, &mut tree, &mut program, report), 1);
+    assert_eq!(slices::run(&program, &[], &mut [7.0], &mut path, 1, &mut cells, report), 1);
+    assert_eq!(slices::resume(&program, &[], &mut [7.0], &mut path, 1, &mut cells, report, None), 1);
+    assert_eq!(slices::resume(&program, &[], &mut [7.0], &mut path, 1, &mut cells, report, Some(1.0)), 1);
+    assert_eq!((path, tree, program, cells, *report), ([7; PATH], [7; 16], [7; 240], [7; STATE], [7; REPORT - 1]));
 }

@@ -18,7 +18,7 @@ use compile::Program;
 use node::NODE_SIZE;
 use std::hint::black_box;
 use std::time::{Duration, Instant};
-use vebrostin::slices::{self, PATH};
+use vebrostin::slices::{self, PATH, REPORT};
 use vebrostin::{Question, Run};
 
 /// How long the rounds of one line go on.
@@ -70,7 +70,7 @@ fn compile_table() {
     for (name, formula, names) in eight.chain(others) {
         let mut path = vec![0; PATH];
         let mut program = vec![0; slices::program_room(formula.len())];
-        let here = || assert_eq!(slices::compile(black_box(&formula), &names, &mut path, &mut program), 0);
+        let here = || assert_eq!(slices::compile(black_box(&formula), &names, &mut path, &mut program, &mut [0; REPORT]), 0);
         let there = || {
             let symbols = names::read(black_box(&names)).unwrap();
             let expr = nodes::read(black_box(&formula), &symbols);
@@ -91,7 +91,8 @@ fn derive_table() {
         let tree = Program::tree_of_derivative(&nodes::read(&formula, &symbols), &symbols, "climb").unwrap();
         let size = nodes::write(&tree, &symbols).len();
         let (mut path, mut tree, mut program) = (vec![0; PATH], vec![0; size], vec![0; (15 * size).max(slices::program_room(formula.len()))]);
-        let here = || assert_eq!(slices::derive(black_box(&formula), formulas::NAMES, 0, &mut path, &mut tree, &mut program), 0);
+        let report = &mut [0; REPORT];
+        let here = || assert_eq!(slices::derive(black_box(&formula), formulas::NAMES, 0, &mut path, &mut tree, &mut program, report), 0);
         let there = || {
             let symbols = names::read(black_box(formulas::NAMES)).unwrap();
             let expr = nodes::read(black_box(&formula), &symbols);

@@ -30,7 +30,7 @@ use node::NODE_SIZE;
 use random::Random;
 use record::{Made, Recorder};
 use runs::Played;
-use vebrostin::slices::{self, PATH};
+use vebrostin::slices::{self, PATH, REPORT};
 
 const FILL: u8 = 170;
 /// Nodes of a derivative at most.
@@ -71,6 +71,11 @@ fn is_path(slice: &[u8], text: Option<&str>) -> bool {
         None => slice.iter().all(|byte| *byte == FILL),
         Some(text) => slice.starts_with(text.as_bytes()) && slice[text.len()..].iter().all(|byte| *byte == 0),
     }
+}
+
+/// No call writes to its report yet.
+fn unreported(report: &[u64]) -> Result<(), String> {
+    if report.iter().all(|number| *number == 7) { Ok(()) } else { Err(format!("the report is {report:?}")) }
 }
 
 fn all(slice: &[u8], byte: u8) -> bool {
@@ -144,7 +149,9 @@ impl Comparison {
         let room = slices::program_room(case.formula.len());
         let (path_length, length) = (self.path_length(), self.length(room));
         let (path, program) = (filled(&mut self.path, path_length), filled(&mut self.program, length));
-        let number = slices::compile(&case.formula, &case.names, path, program);
+        let mut report = [7; REPORT];
+        let number = slices::compile(&case.formula, &case.names, path, program, &mut report);
+        unreported(&report)?;
         self.tally.compiled[number.min(11)] += 1;
         let short = path_length < PATH || length < room;
         let expected = if short { Err((1, None)) } else { expected };
@@ -215,7 +222,9 @@ impl Comparison {
         let path = filled(&mut self.path, lengths[0]);
         let tree = filled(&mut self.tree, lengths[1]);
         let program = filled(&mut self.program, lengths[2]);
-        let number = slices::derive(&case.formula, &case.names, case.symbol, path, tree, program);
+        let mut report = [7; REPORT];
+        let number = slices::derive(&case.formula, &case.names, case.symbol, path, tree, program, &mut report);
+        unreported(&report)?;
         self.tally.derived[number.min(11)] += 1;
         let made = Made { symbol: u64::from(case.symbol), lengths, answer: number, ..Made::default() };
         match expected {

@@ -8,7 +8,7 @@ use crate::record::Call;
 use crate::{formulas, programs, steps};
 use std::sync::atomic::{AtomicU64, Ordering::Relaxed};
 use std::panic::{catch_unwind, resume_unwind, AssertUnwindSafe};
-use vebrostin::slices::{self, ASK, COUNT, FIRST, KEPT, KEPT_COUNT, PATH, POSITION, QUESTION, SECOND, SPENT, STATE, VALUE};
+use vebrostin::slices::{self, ASK, COUNT, FIRST, KEPT, KEPT_COUNT, PATH, POSITION, QUESTION, REPORT, SECOND, SPENT, STATE, VALUE};
 
 const FILL: u8 = 170;
 /// Zeros of a formula with Min or Max whose signs differed.
@@ -104,11 +104,13 @@ impl Player<'_> {
         let (cells_before, before) = (self.cells, self.registers.iter().map(|x| bits(*x)).collect());
         self.path[..room].fill(FILL);
         let path = &mut self.path[..room];
+        let mut report = [7; REPORT];
         let number = if run {
-            slices::run(self.bytes, self.inputs, &mut self.registers, path, budget, &mut self.cells)
+            slices::run(self.bytes, self.inputs, &mut self.registers, path, budget, &mut self.cells, &mut report)
         } else {
-            slices::resume(self.bytes, self.inputs, &mut self.registers, path, budget, &mut self.cells, given)
+            slices::resume(self.bytes, self.inputs, &mut self.registers, path, budget, &mut self.cells, &mut report, given)
         };
+        crate::unreported(&report)?;
         let kind = u64::from(!run) + u64::from(given.is_some());
         let mut numbers = vec![kind, room as u64, budget as u64, given.map_or(0, bits)];
         numbers.extend(cells_before);
@@ -200,7 +202,7 @@ fn compare_damaged(bytes: &[u8], random: &mut Random, tally: &mut Tally) -> Resu
         return Err(format!("is_program {here} here, {there} by docs/PROGRAM.md: {bytes:x?}"));
     }
     let (mut registers, mut path, mut cells) = ([7.25; 4], vec![FILL; PATH], [1; STATE]);
-    if !here && slices::resume(&bytes, &[], &mut registers, &mut path, 1, &mut cells, None) != 10 {
+    if !here && slices::resume(&bytes, &[], &mut registers, &mut path, 1, &mut cells, &mut [7; REPORT], None) != 10 {
         return Err(format!("a run of what is no program is not refused with 10: {bytes:x?}"));
     }
     let untouched = registers == [7.25; 4] && path.iter().all(|byte| *byte == FILL);

@@ -268,6 +268,7 @@ fn by_host(
     } else {
         hosted::Wanted::Formula
     };
+    let mut report = [0u64; 8];
     hosted::make_and_call(
         formula,
         names,
@@ -282,6 +283,7 @@ fn by_host(
         flags,
         values,
         cells,
+        &mut report,
     )
 }
 

@@ -1,13 +1,13 @@
 -- The loop over a host's list of calls: what the C functions leave, and that it follows the machine's replies.
 use mathlib.Core.Path.{_≡_, refl, ap, ap₂, sym, _∙_, subst}
-use mathlib.Core.Bool.{Bool, false, cond}
+use mathlib.Core.Bool.{Bool, true, false, _||_}
 use mathlib.Core.List.{List, [], _∷_, _++_}
 use mathlib.Core.Option.{Option, none}
 use Prim.Native.Nat.{ℕ, suc, _+_, _-_, _≤_, _<_}
 use native.Mathlib.Numerals.{add-one}
 use native.Mathlib.Omega.{arith}
-use borrow.Author.Tests.{le-ltb, lt-ltb}
 use lib.ListN.{drop, getD, length, take, take-append-drop}
+use lib.Dec.{ltb}
 use lib.Seq.{length-take-le}
 use lib.Ieee.{Float, binary64}
 use Rattle.refusals.specs.Numbers.{slice-too-short}
@@ -18,75 +18,76 @@ use Rattle.run.specs.Calls.{resume-at, run-at}
 use Rattle.play.proofs.Loops.{again-long}
 use Rattle.play.specs.Listed.{Played, call-at, calls-from, first-call, noted, play-at, playing, room-at, value-at}
 use Rattle.vebrostin.specs.Cells.{number-of, question-cells, question-of, state-in}
-use Rattle.vebrostin.specs.Calls.{Carries, Leaves, Outcome, after, is-refused, resume-outcome, run-outcome, told, with-room, written}
+use Rattle.vebrostin.specs.Calls.{Carries, Leaves, Outcome, after, is-refused, report-length, resume-outcome, run-outcome, short, state-length, told, untouched, with-room, written}
 use Rattle.vebrostin.proofs.Asking.{resume-asks, run-asks}
+use Rattle.vebrostin.proofs.Outcomes.{no-room, roomy}
 use Rattle.vebrostin.proofs.Crossing.{written-count, written-question, written-value}
 use Rattle.hosted.specs.Hosted.{host-at, hosting, lent, resumed}
 use Rattle.hosted.specs.Owed.{Follows, Shows}
 
 -- ---- the C functions' definitions
 
-abbrev pub left : ℕ → List ℕ → List Float → List ℕ → Outcome
-left number cells regs path = record { number = number; cells = cells; registers = regs; path = path }
+abbrev pub left : ℕ → List ℕ → List Float → List ℕ → List ℕ → Outcome
+left number cells regs path report = record { number = number; cells = cells; registers = regs; path = path; report = report }
 
-left-is : (o : Outcome) (number : ℕ) (cells : List ℕ) (regs : List Float) (part path : List ℕ) (room : ℕ) → Leaves o number cells regs part
-    → left number cells regs (part ++ drop room path) ≡ lent room o path
-left-is o number cells regs part path room h = rw (h .0, h .1, h .2, h .3)
+left-is : (o : Outcome) (number : ℕ) (cells : List ℕ) (regs : List Float) (part path report : List ℕ) (room : ℕ) → Leaves o number cells regs part report
+    → left number cells regs (part ++ drop room path) report ≡ lent room o path
+left-is o number cells regs part path report room h = rw (h .0, h .1, h .2, h .3, h .4)
 
 module _ (inputs : List Float) (b : List ℕ) (n : ℕ) (rooms budgets flags : List ℕ) (values : List Float) where
   unfoldable pub hosted-at : Outcome → ℕ → Outcome
   hosted-at x i = hosting inputs b x (calls-from n rooms budgets flags values (length budgets - i) i)
 
-  pub hosted-start : (regs regs′ : List Float) (cells cells′ path part : List ℕ) (number room k : ℕ) → n ≡ length path → room ≡ room-at n rooms 0 → k ≡ getD budgets 0 0
-      → Leaves (run-outcome inputs b k regs cells (take room path)) number cells′ regs′ part
-      → hosted-at (left number cells′ regs′ (part ++ drop room path)) 1 ≡ host-at inputs b cells path rooms budgets flags values regs
+  pub hosted-start : (regs regs′ : List Float) (cells cells′ path part report report′ : List ℕ) (number room k : ℕ) → n ≡ length path → room ≡ room-at n rooms 0 → k ≡ getD budgets 0 0
+      → Leaves (run-outcome inputs b k regs cells (take room path) report) number cells′ regs′ part report′
+      → hosted-at (left number cells′ regs′ (part ++ drop room path) report′) 1 ≡ host-at inputs b cells path report rooms budgets flags values regs
   unfolding hosted-at host-at
-  hosted-start regs regs′ cells cells′ path part number room k en er ek h =
+  hosted-start regs regs′ cells cells′ path part report report′ number room k en er ek h =
       ap (λ x. hosting inputs b x (calls-from n rooms budgets flags values (length budgets - 1) 1))
-      (left-is (run-outcome inputs b k regs cells (take room path)) number cells′ regs′ part path room h)
+      (left-is (run-outcome inputs b k regs cells (take room path) report) number cells′ regs′ part path report′ room h)
       ∙ rw (ek, er, en)
 
-  pub hosted-step : (regs regs′ : List Float) (cells cells′ path part : List ℕ) (number number′ i room k : ℕ) (g : Option Float) → room ≡ room-at n rooms i
+  pub hosted-step : (regs regs′ : List Float) (cells cells′ path part report report′ : List ℕ) (number number′ i room k : ℕ) (g : Option Float) → room ≡ room-at n rooms i
       → i < length budgets → k ≡ getD budgets i 0 → g ≡ value-at flags values i
-      → Leaves (resume-outcome inputs b k g regs cells (take room path)) number′ cells′ regs′ part
-      → hosted-at (left number cells regs path) i ≡ hosted-at (left number′ cells′ regs′ (part ++ drop room path)) (i + 1)
+      → Leaves (resume-outcome inputs b k g regs cells (take room path) report) number′ cells′ regs′ part report′
+      → hosted-at (left number cells regs path report) i ≡ hosted-at (left number′ cells′ regs′ (part ++ drop room path) report′) (i + 1)
   unfolding hosted-at
-  hosted-step regs regs′ cells cells′ path part number number′ i room k g er h ek eg l =
+  hosted-step regs regs′ cells cells′ path part report report′ number number′ i room k g er h ek eg l =
       let z : length budgets - i ≡ suc (length budgets - (i + 1)) = omega arith in
-      ap (λ (k : ℕ). hosting inputs b (left number cells regs path) (calls-from n rooms budgets flags values k i)) z
+      ap (λ (k : ℕ). hosting inputs b (left number cells regs path report) (calls-from n rooms budgets flags values k i)) z
       ∙ rw (← er, ← ek, ← eg, add-one)
       (sym (ap (λ x. hosting inputs b x (calls-from n rooms budgets flags values (length budgets - suc i) (suc i)))
-      (left-is (resume-outcome inputs b k g regs cells (take room path)) number′ cells′ regs′ part path room l)))
+      (left-is (resume-outcome inputs b k g regs cells (take room path) report) number′ cells′ regs′ part path report′ room l)))
 
   pub hosted-end : (x : Outcome) (i : ℕ) → length budgets ≤ i → hosted-at x i ≡ x
   unfolding hosted-at
   hosted-end x i h = let z : length budgets - i ≡ 0 = omega arith in rw z
 
--- ---- fewer than sixteen cells
+-- ---- too few numbers in the cells or the report
 
-module _ (inputs : List Float) (b : List ℕ) where
-  refused-lent : (regs : List Float) (cells path : List ℕ) (room : ℕ) (o : Outcome) → length cells < 16
-      → lent room (with-room cells regs (take room path) o) path ≡ left slice-too-short cells regs path
-  refused-lent regs cells path room o h =
-      rw (lt-ltb (length cells) 16 h) (ap (left slice-too-short cells regs) (take-append-drop room path))
+module _ (inputs : List Float) (b : List ℕ) (regs : List Float) (cells path report : List ℕ) (h : short cells report ≡ true) where
+  abbrev turned : Outcome
+  turned = left slice-too-short cells regs path report
 
-  resumed-short : (regs : List Float) (cells path : List ℕ) (c : Call) → length cells < 16
-      → resumed inputs b (left slice-too-short cells regs path) c ≡ left slice-too-short cells regs path
+  refused-lent : (room : ℕ) (o : Outcome) → lent room (with-room (short cells report) (untouched cells regs (take room path) report) o) path ≡ turned
+  refused-lent room o =
+      ap (λ (x : Outcome). lent room x path) (sym (no-room (short cells report) (untouched cells regs (take room path) report) o h))
+      ∙ ap (λ (x : List ℕ). left slice-too-short cells regs x report) (take-append-drop room path)
+
+  resumed-short : (c : Call) → resumed inputs b turned c ≡ turned
   unfolding resume-outcome
-  resumed-short regs cells path c h = refused-lent regs cells path (c .room) _ h
+  resumed-short c = refused-lent (c .room) _
 
-  hosting-short : (regs : List Float) (cells path : List ℕ) (cs : List Call) → length cells < 16
-      → hosting inputs b (left slice-too-short cells regs path) cs ≡ left slice-too-short cells regs path
-  hosting-short regs cells path [] h = refl
-  hosting-short regs cells path (c ∷ cs) h = ap (λ x. hosting inputs b x cs) (resumed-short regs cells path c h) ∙ hosting-short regs cells path cs h
+  hosting-short : (cs : List Call) → hosting inputs b turned cs ≡ turned
+  hosting-short [] = refl
+  hosting-short (c ∷ cs) = ap (λ x. hosting inputs b x cs) (resumed-short c) ∙ hosting-short cs
 
   -- "1", and nothing is written
-  pub host-short : (regs : List Float) (cells path rooms budgets flags : List ℕ) (values : List Float) → length cells < 16
-      → host-at inputs b cells path rooms budgets flags values regs ≡ left slice-too-short cells regs path
+  pub host-short : (rooms budgets flags : List ℕ) (values : List Float) → host-at inputs b cells path report rooms budgets flags values regs ≡ turned
   unfolding host-at run-outcome
-  host-short regs cells path rooms budgets flags values h =
+  host-short rooms budgets flags values =
       let cs = calls-from (length path) rooms budgets flags values (length budgets - 1) 1 in
-      ap (λ x. hosting inputs b x cs) (refused-lent regs cells path (room-at (length path) rooms 0) _ h) ∙ hosting-short regs cells path cs h
+      ap (λ x. hosting inputs b x cs) (refused-lent (room-at (length path) rooms 0) _) ∙ hosting-short cs
 
 -- ---- one reply of the machine
 
@@ -112,31 +113,31 @@ module _ (r : Reply) (cells cells′ : List ℕ) (regs′ : List Float) (part pa
         path-is = ap (λ (l : List ℕ). l ++ drop room path) hp;
       }
 
-with-cells : (cells : List ℕ) (regs : List Float) (path : List ℕ) (o : Outcome) → 16 ≤ length cells → with-room cells regs path o ≡ o
-with-cells cells regs path o h = rw (le-ltb (length cells) 16 h)
+same-short : (cells cells′ report report′ : List ℕ) → length cells′ ≡ length cells → length report′ ≡ length report → short cells′ report′ ≡ short cells report
+same-short cells cells′ report report′ ec et = ap₂ (λ (x y : ℕ). ltb y report-length || ltb x state-length) ec et
 
 after-is : (r : Reply) (cells cells′ : List ℕ) → cells′ ≡ after r cells → is-refused (r .answer) ≡ false → cells′ ≡ written r cells
 after-is r cells cells′ e f = e ∙ rw f
 
-module _ (inputs : List Float) (b : List ℕ) (k : ℕ) (regs regs′ : List Float) (cells cells′ path part : List ℕ) (number room : ℕ)
-    (enough : 16 ≤ length cells) (same : length cells′ ≡ length cells) where
+module _ (inputs : List Float) (b : List ℕ) (k : ℕ) (regs regs′ : List Float) (cells cells′ path part report report′ : List ℕ) (number room : ℕ)
+    (enough : short cells report ≡ false) (same : length cells′ ≡ length cells) (alike : length report′ ≡ length report) where
   pub run-follows : (let r = run-at inputs b (length (take room path)) k regs in
-      Leaves (run-outcome inputs b k regs cells (take room path)) number cells′ regs′ part → Carries cells′ r
+      Leaves (run-outcome inputs b k regs cells (take room path) report) number cells′ regs′ part report′ → Carries cells′ report′ r
       → Follows (noted room r path) number cells′ regs′ (part ++ drop room path))
   unfolding run-outcome
   run-follows l c =
       let r = run-at inputs b (length (take room path)) k regs in
-      let h = subst (λ (o : Outcome). Leaves o number cells′ regs′ part) (with-cells cells regs (take room path) _ enough) l in
-      follows r cells cells′ regs′ part path number room (h .0) (c (omega arith)) (λ f. h .1) (λ f. run-asks inputs b (length (take room path)) k regs .1) (h .2) (h .3)
+      let h = subst (λ (o : Outcome). Leaves o number cells′ regs′ part report′) (sym (roomy (short cells report) (untouched cells regs (take room path) report) _ enough)) l in
+      follows r cells cells′ regs′ part path number room (h .0) (c (same-short cells cells′ report report′ same alike ∙ enough)) (λ f. h .1) (λ f. run-asks inputs b (length (take room path)) k regs .1) (h .2) (h .3)
 
   pub resume-follows : (g : Option Float) → (let r = resume-at inputs b (length (take room path)) k g (state-in cells) regs in
-      Leaves (resume-outcome inputs b k g regs cells (take room path)) number cells′ regs′ part → Carries cells′ r
+      Leaves (resume-outcome inputs b k g regs cells (take room path) report) number cells′ regs′ part report′ → Carries cells′ report′ r
       → Follows (noted room r path) number cells′ regs′ (part ++ drop room path))
   unfolding resume-outcome
   resume-follows g l c =
       let r = resume-at inputs b (length (take room path)) k g (state-in cells) regs in
-      let h = subst (λ (o : Outcome). Leaves o number cells′ regs′ part) (with-cells cells regs (take room path) _ enough) l in
-      follows r cells cells′ regs′ part path number room (h .0) (c (omega arith)) (after-is r cells cells′ (h .1))
+      let h = subst (λ (o : Outcome). Leaves o number cells′ regs′ part report′) (sym (roomy (short cells report) (untouched cells regs (take room path) report) _ enough)) l in
+      follows r cells cells′ regs′ part path number room (h .0) (c (same-short cells cells′ report report′ same alike ∙ enough)) (after-is r cells cells′ (h .1))
       (λ f. resume-asks inputs b (length (take room path)) k g (state-in cells) regs f .1) (h .2) (h .3)
 
 -- ---- the machine's list
@@ -193,53 +194,57 @@ module _ (inputs : List Float) (b : List ℕ) (n : ℕ) (rooms budgets flags : L
 
   -- ---- the invariant: the calls left from here come to what the calls left after the run come to
 
-  pub record Inv (number₀ : ℕ) (cells₀ : List ℕ) (regs₀ : List Float) (path₀ : List ℕ) (number : ℕ) (cells : List ℕ) (regs : List Float) (path : List ℕ) (i : ℕ) : Type 0 where
+  pub record Inv (number₀ : ℕ) (cells₀ : List ℕ) (regs₀ : List Float) (path₀ report₀ : List ℕ) (number : ℕ) (cells : List ℕ) (regs : List Float) (path report : List ℕ) (i : ℕ) : Type 0 where
     pub registers-long : length regs ≡ length regs₀
     pub path-long : length path ≡ n
     pub cells-long : length cells ≡ length cells₀
-    pub hosts : hosted-at inputs b n rooms budgets flags values (left number cells regs path) i
-        ≡ hosted-at inputs b n rooms budgets flags values (left number₀ cells₀ regs₀ path₀) 1
-    pub plays : 16 ≤ length cells₀ → (last : Played) → Following last number₀ cells₀ regs₀ path₀ 1 → Following last number cells regs path i
+    pub report-long : length report ≡ length report₀
+    pub hosts : hosted-at inputs b n rooms budgets flags values (left number cells regs path report) i
+        ≡ hosted-at inputs b n rooms budgets flags values (left number₀ cells₀ regs₀ path₀ report₀) 1
+    pub plays : short cells₀ report₀ ≡ false → (last : Played) → Following last number₀ cells₀ regs₀ path₀ 1 → Following last number cells regs path i
 
-  pub inv-start : (number : ℕ) (cells : List ℕ) (regs : List Float) (path : List ℕ) → length path ≡ n → Inv number cells regs path number cells regs path 1
-  inv-start number cells regs path e =
-      record { registers-long = refl; path-long = e; cells-long = refl; hosts = refl; plays = λ h last F. F }
+  pub inv-start : (number : ℕ) (cells : List ℕ) (regs : List Float) (path report : List ℕ) → length path ≡ n
+      → Inv number cells regs path report number cells regs path report 1
+  inv-start number cells regs path report e =
+      record { registers-long = refl; path-long = e; cells-long = refl; report-long = refl; hosts = refl; plays = λ h last F. F }
 
-  pub inv-step : (number₀ : ℕ) (cells₀ : List ℕ) (regs₀ : List Float) (path₀ : List ℕ) (number : ℕ) (cells : List ℕ) (regs : List Float) (path : List ℕ) (i : ℕ)
-      → Inv number₀ cells₀ regs₀ path₀ number cells regs path i
-      → (number′ : ℕ) (cells′ : List ℕ) (regs′ : List Float) (part : List ℕ) (room k : ℕ) (g : Option Float)
+  pub inv-step : (number₀ : ℕ) (cells₀ : List ℕ) (regs₀ : List Float) (path₀ report₀ : List ℕ) (number : ℕ) (cells : List ℕ) (regs : List Float) (path report : List ℕ) (i : ℕ)
+      → Inv number₀ cells₀ regs₀ path₀ report₀ number cells regs path report i
+      → (number′ : ℕ) (cells′ : List ℕ) (regs′ : List Float) (part report′ : List ℕ) (room k : ℕ) (g : Option Float)
       → room ≡ room-at n rooms i → room ≤ length path → i < length budgets → k ≡ getD budgets i 0 → g ≡ value-at flags values i
-      → Leaves (resume-outcome inputs b k g regs cells (take room path)) number′ cells′ regs′ part
-      → Carries cells′ (resume-at inputs b (length (take room path)) k g (state-in cells) regs)
-      → length cells′ ≡ length cells → length regs′ ≡ length regs → length part ≡ length (take room path)
-      → Inv number₀ cells₀ regs₀ path₀ number′ cells′ regs′ (part ++ drop room path) (i + 1)
-  inv-step number₀ cells₀ regs₀ path₀ number cells regs path i I number′ cells′ regs′ part room k g er l h ek eg L K ec eregs ep =
+      → Leaves (resume-outcome inputs b k g regs cells (take room path) report) number′ cells′ regs′ part report′
+      → Carries cells′ report′ (resume-at inputs b (length (take room path)) k g (state-in cells) regs)
+      → length cells′ ≡ length cells → length regs′ ≡ length regs → length part ≡ length (take room path) → length report′ ≡ length report
+      → Inv number₀ cells₀ regs₀ path₀ report₀ number′ cells′ regs′ (part ++ drop room path) report′ (i + 1)
+  inv-step number₀ cells₀ regs₀ path₀ report₀ number cells regs path report i I number′ cells′ regs′ part report′ room k g er l h ek eg L K ec eregs ep et =
       record {
         registers-long = eregs ∙ I .registers-long;
         path-long = again-long path part room l ep ∙ I .path-long;
         cells-long = ec ∙ I .cells-long;
-        hosts = sym (hosted-step inputs b n rooms budgets flags values regs regs′ cells cells′ path part number number′ i room k g er h ek eg L) ∙ I .hosts;
+        report-long = et ∙ I .report-long;
+        hosts = sym (hosted-step inputs b n rooms budgets flags values regs regs′ cells cells′ path part report report′ number number′ i room k g er h ek eg L) ∙ I .hosts;
         plays = λ enough last F.
             following-step last regs regs′ cells cells′ path part number number′ i room k g er l h ek eg (I .plays enough last F)
-            (resume-follows inputs b k regs regs′ cells cells′ path part number′ room (omega (arith, I .cells-long)) ec g L K);
+            (resume-follows inputs b k regs regs′ cells cells′ path part report report′ number′ room
+            (same-short cells₀ cells report₀ report (I .cells-long) (I .report-long) ∙ enough) ec et g L K);
       }
 
   -- the whole list, from the run's outcome and the invariant after the last call
-  module _ (regs regs₁ regs′ : List Float) (cells cells₁ cells′ path part path′ : List ℕ) (number₁ number room k i : ℕ) where
+  module _ (regs regs₁ regs′ : List Float) (cells cells₁ cells′ path part path′ report report₁ report′ : List ℕ) (number₁ number room k i : ℕ) where
     pub inv-end : n ≡ length path → room ≡ room-at n rooms 0 → room ≤ length path → k ≡ getD budgets 0 0
-        → Leaves (run-outcome inputs b k regs cells (take room path)) number₁ cells₁ regs₁ part
-        → Carries cells₁ (run-at inputs b (length (take room path)) k regs) → length cells₁ ≡ length cells
-        → length budgets ≤ i → Inv number₁ cells₁ regs₁ (part ++ drop room path) number cells′ regs′ path′ i
-        → Leaves (host-at inputs b cells path rooms budgets flags values regs) number cells′ regs′ path′
-        × (16 ≤ length cells → Follows (play-at inputs b path rooms budgets flags values regs) number cells′ regs′ path′)
-    inv-end en er l ek L K ec done I =
-        let e : left number cells′ regs′ path′ ≡ host-at inputs b cells path rooms budgets flags values regs =
-        sym (hosted-end inputs b n rooms budgets flags values (left number cells′ regs′ path′) i done) ∙ I .hosts
-        ∙ hosted-start inputs b n rooms budgets flags values regs regs₁ cells cells₁ path part number₁ room k en er ek L in (
-          subst (λ (o : Outcome). Leaves o number cells′ regs′ path′) e (refl, refl, refl, refl),
+        → Leaves (run-outcome inputs b k regs cells (take room path) report) number₁ cells₁ regs₁ part report₁
+        → Carries cells₁ report₁ (run-at inputs b (length (take room path)) k regs) → length cells₁ ≡ length cells → length report₁ ≡ length report
+        → length budgets ≤ i → Inv number₁ cells₁ regs₁ (part ++ drop room path) report₁ number cells′ regs′ path′ report′ i
+        → Leaves (host-at inputs b cells path report rooms budgets flags values regs) number cells′ regs′ path′ report′
+        × (short cells report ≡ false → Follows (play-at inputs b path rooms budgets flags values regs) number cells′ regs′ path′)
+    inv-end en er l ek L K ec et done I =
+        let e : left number cells′ regs′ path′ report′ ≡ host-at inputs b cells path report rooms budgets flags values regs =
+        sym (hosted-end inputs b n rooms budgets flags values (left number cells′ regs′ path′ report′) i done) ∙ I .hosts
+        ∙ hosted-start inputs b n rooms budgets flags values regs regs₁ cells cells₁ path part report report₁ number₁ room k en er ek L in (
+          subst (λ (o : Outcome). Leaves o number cells′ regs′ path′ report′) e (refl, refl, refl, refl, refl),
           λ enough.
               let last = play-at inputs b path rooms budgets flags values regs in
               following-end last number cells′ regs′ path′ i done
-              (I .plays (omega arith) last
-              (following-start regs regs₁ cells cells₁ path part number₁ room k en er l ek (run-follows inputs b k regs regs₁ cells cells₁ path part number₁ room enough ec L K))),
+              (I .plays (same-short cells cells₁ report report₁ ec et ∙ enough) last
+              (following-start regs regs₁ cells cells₁ path part number₁ room k en er l ek (run-follows inputs b k regs regs₁ cells cells₁ path part report report₁ number₁ room enough ec et L K))),
         )

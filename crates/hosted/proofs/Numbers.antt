@@ -15,7 +15,7 @@ use Rattle.formula.specs.Names.{Symbol, symbols-of}
 use Rattle.formula.specs.Path.{path-room, root, text}
 use Rattle.formula.specs.Term.{term}
 use Rattle.machine.specs.Check.{Fault, fault, kind}
-use Rattle.machine.specs.Compile.{Compiled, accepted, compile, lowered-or, own-context, program-room, read}
+use Rattle.machine.specs.Compile.{Compiled, accepted, compile, lowered-or, own-context, program-room, read, sized}
 use Rattle.machine.specs.Compile as Compile
 use Rattle.machine.proofs.Size.{longest-path, narrow}
 use Rattle.reader.proofs.Heads.{and-first}
@@ -45,7 +45,7 @@ sized-positive f ss true e =
     lowered-positive f ss (fault (own-context ss) (term f) root)
     (λ x h. near (own-context ss) (term f) root (length (text root) + 17 * longest-path (term f)) (narrow f (omega (arith, few))) (omega arith) x h .least)
 
-read-positive : (f : Option Formula) (ss : Option (List Symbol)) → Positive (read f ss)
+read-positive : (f : Option Formula) (ss : Option (List Symbol)) → Positive (read sized f ss)
 read-positive none ss = omega arith
 read-positive (some f) none = omega arith
 read-positive (some f) (some ss) = sized-positive f ss (formula-limit f) refl

@@ -1,14 +1,14 @@
 // Demand 3 for a host that has only the C functions of `vebrostin`: compile or derive, then a list of calls that hand the cells on.
 ghost use mathlib.Core.Path.{_≡_};
-ghost use Prim.Native.Nat.{_≤_};
+ghost use mathlib.Core.Bool.{false};
 ghost use lib.ListN.{length};
 ghost use Rattle.run.specs.Calls.{resume-at};
 ghost use Rattle.run.specs.Views.{supplied-of};
 ghost use Rattle.play.specs.Listed.{play-at};
 ghost use Rattle.demand.specs.Made.{make, program-left, tree-left};
 ghost use Rattle.vebrostin.specs.Cells.{state-in};
-ghost use Rattle.vebrostin.specs.Calls.{Carries, Leaves, resume-outcome};
-ghost use Rattle.hosted.specs.Hosted.{host-at, wanted-of};
+ghost use Rattle.vebrostin.specs.Calls.{Carries, Leaves, report-short, resume-outcome, short, with-room};
+ghost use Rattle.hosted.specs.Hosted.{asked, host-at, wanted-of};
 ghost use Rattle.hosted.specs.Owed.{Follows, Makes, Owes};
 use play::budget_at;
 use play::room_at;
@@ -34,14 +34,15 @@ fn write_program(
     path: &mut [u8],
     tree: &mut [u8],
     program: &mut [u8],
+    report: &mut [u64],
 ) -> usize
-    ensures made { λ r. ⌜ Makes (make (now (formula .entry)) (now (names .entry)) (wanted-of wanted) (length (now (path .entry))) (length (now (tree .entry))) (length (now (program .entry)))) r (now (path .entry)) (now (path .exit)) ⌝ }
-    ensures written { λ r. ⌜ (now (tree .exit) ≡ tree-left (now (formula .entry)) (now (names .entry)) (wanted-of wanted) (length (now (path .entry))) (now (tree .entry)) (length (now (program .entry)))) × (now (program .exit) ≡ program-left (now (formula .entry)) (now (names .entry)) (wanted-of wanted) (length (now (path .entry))) (length (now (tree .entry))) (now (program .entry))) ⌝ }
+    ensures made { λ r. ⌜ Makes (asked (now (report .entry)) (make (now (formula .entry)) (now (names .entry)) (wanted-of wanted) (length (now (path .entry))) (length (now (tree .entry))) (length (now (program .entry))))) r (now (path .entry)) (now (path .exit)) × (now (report .exit) ≡ now (report .entry)) ⌝ }
+    ensures written { λ r. ⌜ (now (tree .exit) ≡ with-room (report-short (now (report .entry))) (now (tree .entry)) (tree-left (now (formula .entry)) (now (names .entry)) (wanted-of wanted) (length (now (path .entry))) (now (tree .entry)) (length (now (program .entry))))) × (now (program .exit) ≡ with-room (report-short (now (report .entry))) (now (program .entry)) (program-left (now (formula .entry)) (now (names .entry)) (wanted-of wanted) (length (now (path .entry))) (length (now (tree .entry))) (now (program .entry)))) ⌝ }
 {
     match wanted {
-        Wanted::Formula => vebrostin_compile(formula, names, path, program),
+        Wanted::Formula => vebrostin_compile(formula, names, path, program, report),
         Wanted::Derivative(symbol) => {
-            vebrostin_derive(formula, names, symbol, path, tree, program)
+            vebrostin_derive(formula, names, symbol, path, tree, program, report)
         }
     }
 }
@@ -53,15 +54,33 @@ fn go_on(
     path: &mut [u8],
     budget: usize,
     cells: &mut [u64],
+    report: &mut [u64],
     supplied: Supplied,
 ) -> usize
-    ensures outcome { λ r. ⌜ Leaves (resume-outcome (now (inputs .entry)) (now (program .entry)) budget (supplied-of supplied) (now (registers .entry)) (now (cells .entry)) (now (path .entry))) r (now (cells .exit)) (now (registers .exit)) (now (path .exit)) ⌝ }
-    ensures state { λ r. ⌜ Carries (now (cells .exit)) (resume-at (now (inputs .entry)) (now (program .entry)) (length (now (path .entry))) budget (supplied-of supplied) (state-in (now (cells .entry))) (now (registers .entry))) ⌝ }
+    ensures outcome { λ r. ⌜ Leaves (resume-outcome (now (inputs .entry)) (now (program .entry)) budget (supplied-of supplied) (now (registers .entry)) (now (cells .entry)) (now (path .entry)) (now (report .entry))) r (now (cells .exit)) (now (registers .exit)) (now (path .exit)) (now (report .exit)) ⌝ }
+    ensures state { λ r. ⌜ Carries (now (cells .exit)) (now (report .exit)) (resume-at (now (inputs .entry)) (now (program .entry)) (length (now (path .entry))) budget (supplied-of supplied) (state-in (now (cells .entry))) (now (registers .entry))) ⌝ }
 {
     match supplied {
-        Supplied::Nothing => vebrostin_resume(program, inputs, registers, path, budget, cells),
+        Supplied::Nothing => vebrostin_resume(
+            program,
+            inputs,
+            registers,
+            path,
+            budget,
+            cells,
+            report,
+        ),
         Supplied::Value(value) => {
-            vebrostin_answer(program, inputs, registers, path, budget, cells, value)
+            vebrostin_answer(
+                program,
+                inputs,
+                registers,
+                path,
+                budget,
+                cells,
+                report,
+                value,
+            )
         }
     }
 }
@@ -78,9 +97,10 @@ fn call_all(
     flags: &[u8],
     values: &[f64],
     cells: &mut [u64],
+    report: &mut [u64],
 ) -> usize
-    ensures outcome { λ r. ⌜ Leaves (host-at (now (inputs .entry)) (now (program .entry)) (now (cells .entry)) (now (path .entry)) (now (rooms .entry)) (now (budgets .entry)) (now (flags .entry)) (now (values .entry)) (now (registers .entry))) r (now (cells .exit)) (now (registers .exit)) (now (path .exit)) ⌝ }
-    ensures reply { λ r. ⌜ (16 ≤ length (now (cells .entry)) → Follows (play-at (now (inputs .entry)) (now (program .entry)) (now (path .entry)) (now (rooms .entry)) (now (budgets .entry)) (now (flags .entry)) (now (values .entry)) (now (registers .entry))) r (now (cells .exit)) (now (registers .exit)) (now (path .exit))) ⌝ }
+    ensures outcome { λ r. ⌜ Leaves (host-at (now (inputs .entry)) (now (program .entry)) (now (cells .entry)) (now (path .entry)) (now (report .entry)) (now (rooms .entry)) (now (budgets .entry)) (now (flags .entry)) (now (values .entry)) (now (registers .entry))) r (now (cells .exit)) (now (registers .exit)) (now (path .exit)) (now (report .exit)) ⌝ }
+    ensures reply { λ r. ⌜ (short (now (cells .entry)) (now (report .entry)) ≡ false → Follows (play-at (now (inputs .entry)) (now (program .entry)) (now (path .entry)) (now (rooms .entry)) (now (budgets .entry)) (now (flags .entry)) (now (values .entry)) (now (registers .entry))) r (now (cells .exit)) (now (registers .exit)) (now (path .exit))) ⌝ }
 {
     let n = path.len();
     let first = room_at(rooms, n, 0);
@@ -92,6 +112,7 @@ fn call_all(
         &mut path[..first],
         budget,
         cells,
+        report,
     );
     let mut i = 1;
     while i < budgets.len() {
@@ -105,6 +126,7 @@ fn call_all(
             &mut path[..room],
             budget,
             cells,
+            report,
             supplied,
         );
         i += 1;
@@ -127,11 +149,12 @@ pub fn make_and_call(
     flags: &[u8],
     values: &[f64],
     cells: &mut [u64],
+    report: &mut [u64],
 ) -> usize
-    ensures written { λ r. ⌜ (now (tree .exit) ≡ tree-left (now (formula .entry)) (now (names .entry)) (wanted-of wanted) (length (now (path .entry))) (now (tree .entry)) (length (now (program .entry)))) × (now (program .exit) ≡ program-left (now (formula .entry)) (now (names .entry)) (wanted-of wanted) (length (now (path .entry))) (length (now (tree .entry))) (now (program .entry))) ⌝ }
-    ensures demand { λ r. ⌜ Owes (make (now (formula .entry)) (now (names .entry)) (wanted-of wanted) (length (now (path .entry))) (length (now (tree .entry))) (length (now (program .entry)))) (now (program .exit)) (now (inputs .entry)) (now (rooms .entry)) (now (budgets .entry)) (now (flags .entry)) (now (values .entry)) (now (registers .entry)) (now (registers .exit)) (now (path .entry)) (now (path .exit)) (now (cells .entry)) (now (cells .exit)) r ⌝ }
+    ensures written { λ r. ⌜ (now (tree .exit) ≡ with-room (report-short (now (report .entry))) (now (tree .entry)) (tree-left (now (formula .entry)) (now (names .entry)) (wanted-of wanted) (length (now (path .entry))) (now (tree .entry)) (length (now (program .entry))))) × (now (program .exit) ≡ with-room (report-short (now (report .entry))) (now (program .entry)) (program-left (now (formula .entry)) (now (names .entry)) (wanted-of wanted) (length (now (path .entry))) (length (now (tree .entry))) (now (program .entry)))) ⌝ }
+    ensures demand { λ r. ⌜ Owes (asked (now (report .entry)) (make (now (formula .entry)) (now (names .entry)) (wanted-of wanted) (length (now (path .entry))) (length (now (tree .entry))) (length (now (program .entry))))) (now (program .exit)) (now (inputs .entry)) (now (rooms .entry)) (now (budgets .entry)) (now (flags .entry)) (now (values .entry)) (now (registers .entry)) (now (registers .exit)) (now (path .entry)) (now (path .exit)) (now (cells .entry)) (now (cells .exit)) (now (report .entry)) (now (report .exit)) r ⌝ }
 {
-    let refusal = write_program(formula, names, wanted, path, tree, program);
+    let refusal = write_program(formula, names, wanted, path, tree, program, report);
     if refusal != 0 {
         return refusal;
     }
@@ -145,5 +168,6 @@ pub fn make_and_call(
         flags,
         values,
         cells,
+        report,
     )
 }

@@ -171,10 +171,19 @@ fn made(
     fill(path);
     fill(tree);
     fill(program);
+    let mut report = [0u64; 8];
     if symbol < 4294967296 {
-        return vebrostin::vebrostin_derive(formula, names, symbol as u32, path, tree, program);
+        return vebrostin::vebrostin_derive(
+            formula,
+            names,
+            symbol as u32,
+            path,
+            tree,
+            program,
+            &mut report,
+        );
     }
-    vebrostin::vebrostin_compile(formula, names, path, program)
+    vebrostin::vebrostin_compile(formula, names, path, program, &mut report)
 }
 
 // A call as recorded, on cells and registers that hold what the record has before it.
@@ -189,14 +198,40 @@ fn called(
     fill(path);
     let budget = size(b, 2);
     let kind = number(b, 0);
+    let mut report = [0u64; 8];
     if kind == 0 {
-        return vebrostin::vebrostin_run(program, inputs, registers, path, budget, cells);
+        return vebrostin::vebrostin_run(
+            program,
+            inputs,
+            registers,
+            path,
+            budget,
+            cells,
+            &mut report,
+        );
     }
     if kind == 1 {
-        return vebrostin::vebrostin_resume(program, inputs, registers, path, budget, cells);
+        return vebrostin::vebrostin_resume(
+            program,
+            inputs,
+            registers,
+            path,
+            budget,
+            cells,
+            &mut report,
+        );
     }
     let value = of_bits(number(b, 3));
-    vebrostin::vebrostin_answer(program, inputs, registers, path, budget, cells, value)
+    vebrostin::vebrostin_answer(
+        program,
+        inputs,
+        registers,
+        path,
+        budget,
+        cells,
+        &mut report,
+        value,
+    )
 }
 
 // A call with its record read, and whether all is as recorded; the registers before are in `before`, those after in `after`.

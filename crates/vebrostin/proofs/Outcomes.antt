@@ -1,17 +1,24 @@
 -- What a call leaves, from what run and resume promise.
 use mathlib.Core.Path.{_≡_, refl, sym, ap, _∙_, subst}
-use mathlib.Core.Bool.{Bool, true, false, cond, true≢false}
+use mathlib.Core.Bool.{Bool, true, false, true≢false}
 use mathlib.Core.List.{List, [], _∷_, _++_}
 use mathlib.Core.Option.{Option}
 use Prim.Native.Nat.{ℕ, _<_, _≤_}
-use native.Mathlib.Omega.{arith}
 use lib.ListN.{length, drop}
 use lib.Ieee.{Float}
-use borrow.Author.Tests.{le-ltb, lt-ltb}
+use borrow.Author.Tests.{le-ltb, lt-ltb, ltb-false}
 use Rattle.refusals.specs.Numbers.{slice-too-short}
 use Rattle.formula.specs.Path.{placed}
+use Rattle.formula.proofs.Tests.{or-none}
 use Rattle.machine.specs.Machine.{place-of}
 use Rattle.machine.specs.Machine as Machine
+use Rattle.machine.specs.Compile.{Compiled, compile}
+use Rattle.machine.specs.Compile as Compile
+use Rattle.layout.specs.Image.{image}
+use Rattle.compile.specs.Entry as Entry
+use Rattle.derivative.specs.Derive.{Derived, derive}
+use Rattle.derivative.specs.Derive as Derive
+use Rattle.derive.specs.Outcome as Entered
 use Rattle.run.specs.declared.Answer.{Answer}
 use Rattle.run.specs.declared.Answer.the-variants as Answer
 use Rattle.run.specs.declared.Reply.{Reply}
@@ -19,7 +26,7 @@ use Rattle.run.specs.declared.State.{State}
 use Rattle.run.specs.Views.{Hands-back, answer-of, pending-of, reply-of, state-of}
 use Rattle.run.specs.Calls.{resume-at, run-at}
 use Rattle.vebrostin.specs.Cells.{Askable, number-of, state-cells, state-in, value-cell}
-use Rattle.vebrostin.specs.Calls.{Carries, Leaves, Outcome, after, is-refused, resume-outcome, run-outcome, told, with-room, written}
+use Rattle.vebrostin.specs.Calls.{Carries, Compiles, Derives, Leaves, Outcome, after, compile-number, compile-outcome, derive-number, derive-outcome, is-refused, report-length, report-short, resume-outcome, run-outcome, short, state-length, told, untouched, with-room, written}
 use Rattle.vebrostin.proofs.Asking.{resume-asks, run-asks}
 
 -- ---- the numbers of an answer don't go by the program
@@ -59,11 +66,11 @@ handed r (Answer.Refused n) st e t h = h n e
 
 -- ---- one reply
 
-module _ (b : List ℕ) (r : Reply) (regs′ : List Float) (path cells′ path′ : List ℕ) (n : ℕ)
+module _ (b : List ℕ) (r : Reply) (regs′ : List Float) (path cells′ path′ report : List ℕ) (n : ℕ)
     (hn : n ≡ number-of (answer-of [] (r .answer)))
     (hp : path′ ≡ placed (place-of (answer-of b (r .answer))) path) where
-  leaves : Leaves (told (reply-of b r regs′) cells′ path) n cells′ regs′ path′
-  leaves = (hn ∙ same-number b (r .answer), refl, refl, hp)
+  leaves : Leaves (told (reply-of b r regs′) cells′ path report) n cells′ regs′ path′ report
+  leaves = (hn ∙ same-number b (r .answer), refl, refl, hp, refl)
 
 -- the sixteen cells are those of the machine's reply
 shown : (b : List ℕ) (r : Reply) (regs′ : List Float) (cells cells′ : List ℕ)
@@ -72,53 +79,91 @@ shown : (b : List ℕ) (r : Reply) (regs′ : List Float) (cells cells′ : List
 shown b r regs′ cells cells′ h =
     h ∙ ap (λ (v : ℕ). (state-cells (state-of (r .state)) ++ (r .count ∷ v ∷ [])) ++ drop 16 cells) (same-value b (r .answer))
 
-roomy : (cells : List ℕ) (regs : List Float) (path : List ℕ) (o : Outcome) → 16 ≤ length cells → o ≡ with-room cells regs path o
-roomy cells regs path o h = rw (le-ltb (length cells) 16 h)
+pub enough : (cells report : List ℕ) → short cells report ≡ false → state-length ≤ length cells
+enough cells report h = ltb-false (length cells) state-length (or-none (report-short report) _ h .1)
 
-short : (cells : List ℕ) (regs : List Float) (path : List ℕ) (o : Outcome) → length cells < 16
-    → Leaves (with-room cells regs path o) slice-too-short cells regs path
-short cells regs path o h =
-    subst (λ (x : Bool). Leaves (cond x (record { number = slice-too-short; cells = cells; registers = regs; path = path }) o) slice-too-short cells regs path)
-    (sym (lt-ltb (length cells) 16 h)) (refl, refl, refl, refl)
+-- with room a call is what it is, and else nothing of it is looked at
+pub roomy : {A : Type 0} (few : Bool) (refusal o : A) → few ≡ false → o ≡ with-room few refusal o
+roomy few refusal o h = ap (λ (x : Bool). with-room x refusal o) (sym h)
+
+pub no-room : {A : Type 0} (few : Bool) (refusal o : A) → few ≡ true → refusal ≡ with-room few refusal o
+no-room few refusal o h = ap (λ (x : Bool). with-room x refusal o) (sym h)
+
+nothing-left : (cells : List ℕ) (regs : List Float) (path report : List ℕ) (o : Outcome) → short cells report ≡ true
+    → Leaves (with-room (short cells report) (untouched cells regs path report) o) slice-too-short cells regs path report
+nothing-left cells regs path report o h =
+    subst (λ (x : Outcome). Leaves x slice-too-short cells regs path report)
+    (no-room (short cells report) (untouched cells regs path report) o h) (refl, refl, refl, refl, refl)
+
+-- ---- compile and derive
+
+module _ (b l q p report : List ℕ) where
+  pub compile-short : length report < report-length → Compiles (compile-outcome b l (length q) (length p) report) slice-too-short q q p p report report
+  compile-short h =
+      subst (λ (X : Compiled). Compiles X slice-too-short q q p p report report)
+      (no-room (report-short report) _ _ (lt-ltb (length report) report-length h)) (refl, refl, refl, refl)
+
+  pub compile-leaves : report-length ≤ length report → (n : ℕ) (q′ p′ : List ℕ)
+      → (let X = compile b l (length q) (length p) in
+      n ≡ compile-number (Entry.answer X) → q′ ≡ Compile.path-after X q → p′ ≡ Compile.program-after image X p
+      → Compiles (compile-outcome b l (length q) (length p) report) n q q′ p p′ report report)
+  compile-leaves h n q′ p′ en eq ep =
+      subst (λ (X : Compiled). Compiles X n q q′ p p′ report report)
+      (roomy (report-short report) _ _ (le-ltb (length report) report-length h)) (en, eq, ep, refl)
+
+module _ (b l : List ℕ) (s : ℕ) (q t p report : List ℕ) where
+  pub derive-short : length report < report-length
+      → Derives (derive-outcome b l s (length q) (length t) (length p) report) slice-too-short q q t t p p report report
+  derive-short h =
+      subst (λ (X : Derived). Derives X slice-too-short q q t t p p report report)
+      (no-room (report-short report) _ _ (lt-ltb (length report) report-length h)) (refl, refl, refl, refl, refl)
+
+  pub derive-leaves : report-length ≤ length report → (n : ℕ) (q′ t′ p′ : List ℕ)
+      → (let X = derive b l s (length q) (length t) (length p) in
+      n ≡ derive-number (Entered.answer X) → q′ ≡ Derive.path-after X q → t′ ≡ Derive.tree-after X t → p′ ≡ Derive.program-after image X p
+      → Derives (derive-outcome b l s (length q) (length t) (length p) report) n q q′ t t′ p p′ report report)
+  derive-leaves h n q′ t′ p′ en eq et ep =
+      subst (λ (X : Derived). Derives X n q q′ t t′ p p′ report report)
+      (roomy (report-short report) _ _ (le-ltb (length report) report-length h)) (en, eq, et, ep, refl)
 
 -- ---- run
 
-module _ (inputs : List Float) (b : List ℕ) (budget : ℕ) (regs : List Float) (cells path : List ℕ) where
-  pub run-short : length cells < 16
-      → Leaves (run-outcome inputs b budget regs cells path) slice-too-short cells regs path × Carries cells (run-at inputs b (length path) budget regs)
+module _ (inputs : List Float) (b : List ℕ) (budget : ℕ) (regs : List Float) (cells path report : List ℕ) where
+  pub run-short : short cells report ≡ true
+      → Leaves (run-outcome inputs b budget regs cells path report) slice-too-short cells regs path report × Carries cells report (run-at inputs b (length path) budget regs)
   unfolding run-outcome
-  run-short h = (short cells regs path _ h, λ l. absurd (omega arith))
+  run-short h = (nothing-left cells regs path report _ h, λ l. absurd (true≢false (sym h ∙ l)))
 
   module _ (r : Reply) (regs′ : List Float) (cells′ path′ : List ℕ) (n : ℕ)
-      (h : 16 ≤ length cells)
+      (h : short cells report ≡ false)
       (hr : reply-of b r regs′ ≡ run-at inputs b (length path) budget regs)
       (hp : path′ ≡ placed (place-of (answer-of b (r .answer))) path)
       (hc : cells′ ≡ (state-cells (state-of (r .state)) ++ (r .count ∷ value-cell (answer-of [] (r .answer)) ∷ [])) ++ drop 16 cells)
       (hs : Askable (pending-of (r .state .pending)) → state-in cells′ ≡ state-of (r .state))
       (hn : n ≡ number-of (answer-of [] (r .answer))) where
-    pub run-leaves : Leaves (run-outcome inputs b budget regs cells path) n cells′ regs′ path′ × Carries cells′ (run-at inputs b (length path) budget regs)
+    pub run-leaves : Leaves (run-outcome inputs b budget regs cells path report) n cells′ regs′ path′ report × Carries cells′ report (run-at inputs b (length path) budget regs)
     unfolding run-outcome
     run-leaves = (
-      subst (λ (o : Outcome). Leaves o n cells′ regs′ path′)
-          (ap (λ (x : List ℕ). told (reply-of b r regs′) x path) (shown b r regs′ cells cells′ hc)
-          ∙ ap (λ (x : Machine.Reply). told x (written x cells) path) hr ∙ roomy cells regs path _ h)
-          (leaves b r regs′ path cells′ path′ n hn hp),
+      subst (λ (o : Outcome). Leaves o n cells′ regs′ path′ report)
+          (ap (λ (x : List ℕ). told (reply-of b r regs′) x path report) (shown b r regs′ cells cells′ hc)
+          ∙ ap (λ (x : Machine.Reply). told x (written x cells) path report) hr ∙ roomy (short cells report) _ _ h)
+          (leaves b r regs′ path cells′ path′ report n hn hp),
       λ l. hs (subst (λ (x : Machine.Reply). Askable (x .state .pending)) (sym hr) (run-asks inputs b (length path) budget regs .0)) ∙ ap (λ (x : Machine.Reply). x .state) hr,
     )
 
 -- ---- resume
 
-module _ (inputs : List Float) (b : List ℕ) (budget : ℕ) (given : Option Float) (regs : List Float) (cells path : List ℕ) where
+module _ (inputs : List Float) (b : List ℕ) (budget : ℕ) (given : Option Float) (regs : List Float) (cells path report : List ℕ) where
   abbrev answered : Machine.Reply
   answered = resume-at inputs b (length path) budget given (state-in cells) regs
 
-  pub resume-short : length cells < 16
-      → Leaves (resume-outcome inputs b budget given regs cells path) slice-too-short cells regs path × Carries cells answered
+  pub resume-short : short cells report ≡ true
+      → Leaves (resume-outcome inputs b budget given regs cells path report) slice-too-short cells regs path report × Carries cells report answered
   unfolding resume-outcome
-  resume-short h = (short cells regs path _ h, λ l. absurd (omega arith))
+  resume-short h = (nothing-left cells regs path report _ h, λ l. absurd (true≢false (sym h ∙ l)))
 
   module _ (r : Reply) (regs′ : List Float) (cells′ path′ : List ℕ) (n : ℕ)
-      (h : 16 ≤ length cells)
+      (h : short cells report ≡ false)
       (st : State)
       (hs : state-of st ≡ state-in cells)
       (hr : reply-of b r regs′ ≡ resume-at inputs b (length path) budget given (state-of st) regs)
@@ -127,17 +172,17 @@ module _ (inputs : List Float) (b : List ℕ) (budget : ℕ) (given : Option Flo
     is-answered : reply-of b r regs′ ≡ answered
     is-answered = hr ∙ ap (λ (x : Machine.State). resume-at inputs b (length path) budget given x regs) hs
 
-    resume-leaves : cells′ ≡ after (reply-of b r regs′) cells → Leaves (resume-outcome inputs b budget given regs cells path) n cells′ regs′ path′
+    resume-leaves : cells′ ≡ after (reply-of b r regs′) cells → Leaves (resume-outcome inputs b budget given regs cells path report) n cells′ regs′ path′ report
     unfolding resume-outcome
     resume-leaves e =
-        subst (λ (o : Outcome). Leaves o n cells′ regs′ path′)
-        (ap (λ (x : List ℕ). told (reply-of b r regs′) x path) e
-        ∙ ap (λ (x : Machine.Reply). told x (after x cells) path) is-answered
-        ∙ roomy cells regs path _ h)
-        (leaves b r regs′ path cells′ path′ n hn hp)
+        subst (λ (o : Outcome). Leaves o n cells′ regs′ path′ report)
+        (ap (λ (x : List ℕ). told (reply-of b r regs′) x path report) e
+        ∙ ap (λ (x : Machine.Reply). told x (after x cells) path report) is-answered
+        ∙ roomy (short cells report) _ _ h)
+        (leaves b r regs′ path cells′ path′ report n hn hp)
 
     pub resume-refused : is-refused (answer-of [] (r .answer)) ≡ true → Hands-back st r → cells′ ≡ cells
-        → Leaves (resume-outcome inputs b budget given regs cells path) n cells′ regs′ path′ × Carries cells′ answered
+        → Leaves (resume-outcome inputs b budget given regs cells path report) n cells′ regs′ path′ report × Carries cells′ report answered
     resume-refused t hb hc = (
       resume-leaves (hc ∙ rw (sym (same-refusal b (r .answer)), t)),
       λ l. ap state-in hc ∙ sym hs ∙ ap state-of (sym (handed r (r .answer) st refl t hb)) ∙ ap (λ (x : Machine.Reply). x .state) is-answered,
@@ -146,7 +191,7 @@ module _ (inputs : List Float) (b : List ℕ) (budget : ℕ) (given : Option Flo
     pub resume-goes-on : is-refused (answer-of [] (r .answer)) ≡ false
         → cells′ ≡ (state-cells (state-of (r .state)) ++ (r .count ∷ value-cell (answer-of [] (r .answer)) ∷ [])) ++ drop 16 cells
         → (Askable (pending-of (r .state .pending)) → state-in cells′ ≡ state-of (r .state))
-        → Leaves (resume-outcome inputs b budget given regs cells path) n cells′ regs′ path′ × Carries cells′ answered
+        → Leaves (resume-outcome inputs b budget given regs cells path report) n cells′ regs′ path′ report × Carries cells′ report answered
     resume-goes-on t hc ha =
         let f : is-refused (answer-of b (r .answer)) ≡ false = sym (same-refusal b (r .answer)) ∙ t in
         let a : Askable (answered .state .pending) = resume-asks inputs b (length path) budget given (state-in cells) regs (ap (λ (x : Machine.Reply). is-refused (x .answer)) (sym is-answered) ∙ f) .0 in (

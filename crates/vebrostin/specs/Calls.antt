@@ -1,9 +1,9 @@
 -- What the exported functions answer and leave.
 use mathlib.Core.Path.{_≡_}
-use mathlib.Core.Bool.{Bool, true, false, cond}
+use mathlib.Core.Bool.{Bool, true, false, cond, _||_}
 use mathlib.Core.List.{List, _++_}
-use mathlib.Core.Option.{Option}
-use Prim.Native.Nat.{ℕ, _≤_}
+use mathlib.Core.Option.{Option, none}
+use Prim.Native.Nat.{ℕ}
 use lib.ListN.{length, drop}
 use lib.Dec.{ltb}
 use lib.Ieee.{Float}
@@ -22,6 +22,28 @@ use Rattle.derive.specs.declared.Answer.the-variants as Derived
 use Rattle.run.specs.Calls.{resume-at, run-at}
 use Rattle.vebrostin.specs.Cells.{number-of, outcome-cells, state-cells, state-in}
 
+-- ---- numbers that cross in slices
+
+-- the numbers of a report, in which a call hands out numbers beside its answer: a place for each, 0 where there is none. No place is taken yet, so that
+-- every call leaves the report as it was.
+abbrev pub report-length : ℕ
+report-length = 8
+
+-- a state's numbers, with a run's count and value
+abbrev pub state-length : ℕ
+state-length = 16
+
+abbrev pub report-short : List ℕ → Bool
+report-short report = ltb (length report) report-length
+
+-- for a run
+abbrev pub short : List ℕ → List ℕ → Bool
+short cells report = report-short report || ltb (length cells) state-length
+
+-- "1" before anything else is looked at, where such a slice is too short: `refusal` says so, and no slice changes
+abbrev pub with-room : {A : Type 0} → Bool → A → A → A
+with-room few refusal o = cond few refusal o
+
 -- ---- compile and derive
 
 -- 0 for a program, else the refusal
@@ -29,42 +51,54 @@ abbrev pub compile-number : CompileAnswer.Answer → ℕ
 compile-number Compiled.Program = 0
 compile-number (Compiled.Refused n) = n
 
--- the number answered, and the path and program slices before and after
-abbrev pub Compiles : Compile.Compiled → ℕ → List ℕ → List ℕ → List ℕ → List ℕ → Type 0
-Compiles X n q q′ p p′ = (n ≡ compile-number (Entry.answer X)) × (q′ ≡ Compile.path-after X q) × (p′ ≡ Compile.program-after image X p)
+-- of formula bytes and a name line, with path and program slices of these lengths and this report
+abbrev pub compile-outcome : List ℕ → List ℕ → ℕ → ℕ → List ℕ → Compile.Compiled
+compile-outcome b l q p report = with-room (report-short report) (Compile.refused slice-too-short none) (Compile.compile b l q p)
+
+-- the number answered, and the path, program and report slices before and after
+abbrev pub Compiles : Compile.Compiled → ℕ → List ℕ → List ℕ → List ℕ → List ℕ → List ℕ → List ℕ → Type 0
+Compiles X n q q′ p p′ t t′ =
+    (n ≡ compile-number (Entry.answer X)) × (q′ ≡ Compile.path-after X q) × (p′ ≡ Compile.program-after image X p) × (t′ ≡ t)
 
 -- 0 for a tree and its program, else the refusal
 abbrev pub derive-number : DeriveAnswer.Answer → ℕ
 derive-number (Derived.Derived n) = 0
 derive-number (Derived.Refused n) = n
 
--- the number answered, and the path, tree and program slices before and after
-abbrev pub Derives : Derive.Derived → ℕ → List ℕ → List ℕ → List ℕ → List ℕ → List ℕ → List ℕ → Type 0
-Derives X n q q′ t t′ p p′ =
-    (n ≡ derive-number (Entered.answer X)) × (q′ ≡ Derive.path-after X q) × (t′ ≡ Derive.tree-after X t) × (p′ ≡ Derive.program-after image X p)
+-- of formula bytes, a name line and a symbol, with path, tree and program slices of these lengths and this report
+abbrev pub derive-outcome : List ℕ → List ℕ → ℕ → ℕ → ℕ → ℕ → List ℕ → Derive.Derived
+derive-outcome b l s q t p report = with-room (report-short report) (Derive.formula-refused slice-too-short none) (Derive.derive b l s q t p)
+
+-- the number answered, and the path, tree, program and report slices before and after
+abbrev pub Derives : Derive.Derived → ℕ → List ℕ → List ℕ → List ℕ → List ℕ → List ℕ → List ℕ → List ℕ → List ℕ → Type 0
+Derives X n q q′ t t′ p p′ u u′ =
+    (n ≡ derive-number (Entered.answer X))
+    × (q′ ≡ Derive.path-after X q) × (t′ ≡ Derive.tree-after X t) × (p′ ≡ Derive.program-after image X p) × (u′ ≡ u)
 
 -- ---- run and resume
 
--- the number answered, and the cells, registers and path slice after
+-- the number answered, and the cells, registers, path slice and report after
 pub record Outcome : Type 0 where
   pub number : ℕ
   pub cells : List ℕ
   pub registers : List Float
   pub path : List ℕ
+  pub report : List ℕ
 
-abbrev pub told : Reply → List ℕ → List ℕ → Outcome
-told r cells path =
+-- such a 1 of a run
+abbrev pub untouched : List ℕ → List Float → List ℕ → List ℕ → Outcome
+untouched cells regs path report =
+    record { number = slice-too-short; cells = cells; registers = regs; path = path; report = report }
+
+abbrev pub told : Reply → List ℕ → List ℕ → List ℕ → Outcome
+told r cells path report =
     record {
       number = number-of (r .answer);
       cells = cells;
       registers = r .registers;
       path = placed (place-of (r .answer)) path;
+      report = report;
     }
-
--- "1": fewer than sixteen cells
-abbrev pub with-room : List ℕ → List Float → List ℕ → Outcome → Outcome
-with-room cells regs path o =
-    cond (ltb (length cells) 16) (record { number = slice-too-short; cells = cells; registers = regs; path = path }) o
 
 abbrev pub is-refused : Answer → Bool
 is-refused (gives v) = false
@@ -81,19 +115,19 @@ written r cells = (state-cells (r .state) ++ outcome-cells r) ++ drop 16 cells
 abbrev pub after : Reply → List ℕ → List ℕ
 after r cells = cond (is-refused (r .answer)) cells (written r cells)
 
-unfoldable pub run-outcome : List Float → List ℕ → ℕ → List Float → List ℕ → List ℕ → Outcome
-run-outcome inputs b budget regs cells path =
+unfoldable pub run-outcome : List Float → List ℕ → ℕ → List Float → List ℕ → List ℕ → List ℕ → Outcome
+run-outcome inputs b budget regs cells path report =
     let r = run-at inputs b (length path) budget regs in
-    with-room cells regs path (told r (written r cells) path)
+    with-room (short cells report) (untouched cells regs path report) (told r (written r cells) path report)
 
-unfoldable pub resume-outcome : List Float → List ℕ → ℕ → Option Float → List Float → List ℕ → List ℕ → Outcome
-resume-outcome inputs b budget given regs cells path =
+unfoldable pub resume-outcome : List Float → List ℕ → ℕ → Option Float → List Float → List ℕ → List ℕ → List ℕ → Outcome
+resume-outcome inputs b budget given regs cells path report =
     let r = resume-at inputs b (length path) budget given (state-in cells) regs in
-    with-room cells regs path (told r (after r cells) path)
+    with-room (short cells report) (untouched cells regs path report) (told r (after r cells) path report)
 
 -- "Run state: made by the run, read by the next call": what the next call reads from the cells is the state of the reply
-abbrev pub Carries : List ℕ → Reply → Type 0
-Carries cells r = 16 ≤ length cells → state-in cells ≡ r .state
+abbrev pub Carries : List ℕ → List ℕ → Reply → Type 0
+Carries cells report r = short cells report ≡ false → state-in cells ≡ r .state
 
-abbrev pub Leaves : Outcome → ℕ → List ℕ → List Float → List ℕ → Type 0
-Leaves o n c r p = (n ≡ o .number) × (c ≡ o .cells) × (r ≡ o .registers) × (p ≡ o .path)
+abbrev pub Leaves : Outcome → ℕ → List ℕ → List Float → List ℕ → List ℕ → Type 0
+Leaves o n c r p t = (n ≡ o .number) × (c ≡ o .cells) × (r ≡ o .registers) × (p ≡ o .path) × (t ≡ o .report)

@@ -9,14 +9,12 @@ ghost use lib.ListN.{drop, getD, length};
 ghost use lib.Dec.{ltb};
 ghost use Rattle.formula.specs.Text.{word-at};
 ghost use Rattle.machine.specs.Program.{valid};
-ghost use Rattle.machine.specs.Compile.{compile};
-ghost use Rattle.derivative.specs.Derive.{derive};
 ghost use Rattle.layout.specs.Decode.{program-at};
 ghost use Rattle.work.specs.View.{kept-values};
 ghost use Rattle.run.specs.Views.{answer-of, pending-of, state-of, supplied-of};
 ghost use Rattle.run.specs.Calls.{resume-at, run-at};
 ghost use Rattle.vebrostin.specs.Cells.{Arguments-back, Askable, Comes-back, bits, kept-in, number-of, question-cells, question-in, state-cells, state-in, value-at, value-cell};
-ghost use Rattle.vebrostin.specs.Calls.{Carries, Compiles, Derives, Leaves, compile-number, derive-number, is-refused, resume-outcome, run-outcome};
+ghost use Rattle.vebrostin.specs.Calls.{Carries, Compiles, Derives, Leaves, compile-number, compile-outcome, derive-number, derive-outcome, is-refused, resume-outcome, run-outcome, short};
 use floats::value::bits_of;
 use floats::value::of_bits;
 use layout::CODE_AT;
@@ -31,6 +29,11 @@ use run::State;
 use run::Supplied;
 use work::Kept;
 
+// Numbers that a report needs, and the cells of a state.
+pub const REPORT_LENGTH: usize = 8;
+
+pub const STATE_LENGTH: usize = 16;
+
 // ---- programs
 
 fn compile_number(given: compile::Answer) -> usize
@@ -42,16 +45,20 @@ fn compile_number(given: compile::Answer) -> usize
     }
 }
 
-// 0 and a program, or the refusal.
+// 0 and a program, or the refusal. The report is where numbers beside an answer go: none yet.
 #[no_mangle]
 pub extern "C" fn vebrostin_compile(
     formula: &[u8],
     names: &[u8],
     path: &mut [u8],
     program: &mut [u8],
+    report: &mut [u64],
 ) -> usize
-    ensures { λ r. ⌜ Compiles (compile (now (formula .entry)) (now (names .entry)) (length (now (path .entry))) (length (now (program .entry)))) r (now (path .entry)) (now (path .exit)) (now (program .entry)) (now (program .exit)) ⌝ }
+    ensures { λ r. ⌜ Compiles (compile-outcome (now (formula .entry)) (now (names .entry)) (length (now (path .entry))) (length (now (program .entry))) (now (report .entry))) r (now (path .entry)) (now (path .exit)) (now (program .entry)) (now (program .exit)) (now (report .entry)) (now (report .exit)) ⌝ }
 {
+    if report.len() < REPORT_LENGTH {
+        return SLICE_TOO_SHORT as usize;
+    }
     let given = compile::compile(formula, names, path, program);
     compile_number(given)
 }
@@ -74,9 +81,13 @@ pub extern "C" fn vebrostin_derive(
     path: &mut [u8],
     tree: &mut [u8],
     program: &mut [u8],
+    report: &mut [u64],
 ) -> usize
-    ensures { λ r. ⌜ Derives (derive (now (formula .entry)) (now (names .entry)) symbol (length (now (path .entry))) (length (now (tree .entry))) (length (now (program .entry)))) r (now (path .entry)) (now (path .exit)) (now (tree .entry)) (now (tree .exit)) (now (program .entry)) (now (program .exit)) ⌝ }
+    ensures { λ r. ⌜ Derives (derive-outcome (now (formula .entry)) (now (names .entry)) symbol (length (now (path .entry))) (length (now (tree .entry))) (length (now (program .entry))) (now (report .entry))) r (now (path .entry)) (now (path .exit)) (now (tree .entry)) (now (tree .exit)) (now (program .entry)) (now (program .exit)) (now (report .entry)) (now (report .exit)) ⌝ }
 {
+    if report.len() < REPORT_LENGTH {
+        return SLICE_TOO_SHORT as usize;
+    }
     let given = derive::derive(formula, names, symbol as usize, path, tree, program);
     derive_number(given)
 }
@@ -312,6 +323,13 @@ fn is_refused(given: Answer) -> bool
 
 // ---- runs
 
+// Whether the cells or the report have fewer numbers than a run needs.
+fn is_short(cells: &[u64], report: &[u64]) -> bool
+    ensures { λ r. ⌜ r ≡ short (now (cells .entry)) (now (report .entry)) ⌝ }
+{
+    report.len() < REPORT_LENGTH || cells.len() < STATE_LENGTH
+}
+
 // 0 and a value, 100 and a question, 101 for spent, or the refusal; the state, the count and the value stand in the cells.
 #[no_mangle]
 pub extern "C" fn vebrostin_run(
@@ -321,11 +339,13 @@ pub extern "C" fn vebrostin_run(
     path: &mut [u8],
     budget: usize,
     cells: &mut [u64],
+    report: &mut [u64],
 ) -> usize
-    ensures outcome { λ r. ⌜ Leaves (run-outcome (now (inputs .entry)) (now (program .entry)) budget (now (registers .entry)) (now (cells .entry)) (now (path .entry))) r (now (cells .exit)) (now (registers .exit)) (now (path .exit)) ⌝ }
-    ensures state { λ r. ⌜ Carries (now (cells .exit)) (run-at (now (inputs .entry)) (now (program .entry)) (length (now (path .entry))) budget (now (registers .entry))) ⌝ }
+    ensures outcome { λ r. ⌜ Leaves (run-outcome (now (inputs .entry)) (now (program .entry)) budget (now (registers .entry)) (now (cells .entry)) (now (path .entry)) (now (report .entry))) r (now (cells .exit)) (now (registers .exit)) (now (path .exit)) (now (report .exit)) ⌝ }
+    ensures state { λ r. ⌜ Carries (now (cells .exit)) (now (report .exit)) (run-at (now (inputs .entry)) (now (program .entry)) (length (now (path .entry))) budget (now (registers .entry))) ⌝ }
 {
-    if cells.len() < 16 {
+    let few = is_short(cells, report);
+    if few {
         return SLICE_TOO_SHORT as usize;
     }
     let r = run::run(program, inputs, registers, path, budget);
@@ -342,12 +362,14 @@ fn resumed(
     path: &mut [u8],
     budget: usize,
     cells: &mut [u64],
+    report: &mut [u64],
     supplied: Supplied,
 ) -> usize
-    ensures outcome { λ r. ⌜ Leaves (resume-outcome (now (inputs .entry)) (now (program .entry)) budget (supplied-of supplied) (now (registers .entry)) (now (cells .entry)) (now (path .entry))) r (now (cells .exit)) (now (registers .exit)) (now (path .exit)) ⌝ }
-    ensures state { λ r. ⌜ Carries (now (cells .exit)) (resume-at (now (inputs .entry)) (now (program .entry)) (length (now (path .entry))) budget (supplied-of supplied) (state-in (now (cells .entry))) (now (registers .entry))) ⌝ }
+    ensures outcome { λ r. ⌜ Leaves (resume-outcome (now (inputs .entry)) (now (program .entry)) budget (supplied-of supplied) (now (registers .entry)) (now (cells .entry)) (now (path .entry)) (now (report .entry))) r (now (cells .exit)) (now (registers .exit)) (now (path .exit)) (now (report .exit)) ⌝ }
+    ensures state { λ r. ⌜ Carries (now (cells .exit)) (now (report .exit)) (resume-at (now (inputs .entry)) (now (program .entry)) (length (now (path .entry))) budget (supplied-of supplied) (state-in (now (cells .entry))) (now (registers .entry))) ⌝ }
 {
-    if cells.len() < 16 {
+    let few = is_short(cells, report);
+    if few {
         return SLICE_TOO_SHORT as usize;
     }
     let before = state_in(cells);
@@ -371,9 +393,10 @@ pub extern "C" fn vebrostin_resume(
     path: &mut [u8],
     budget: usize,
     cells: &mut [u64],
+    report: &mut [u64],
 ) -> usize
-    ensures outcome { λ r. ⌜ Leaves (resume-outcome (now (inputs .entry)) (now (program .entry)) budget none (now (registers .entry)) (now (cells .entry)) (now (path .entry))) r (now (cells .exit)) (now (registers .exit)) (now (path .exit)) ⌝ }
-    ensures state { λ r. ⌜ Carries (now (cells .exit)) (resume-at (now (inputs .entry)) (now (program .entry)) (length (now (path .entry))) budget none (state-in (now (cells .entry))) (now (registers .entry))) ⌝ }
+    ensures outcome { λ r. ⌜ Leaves (resume-outcome (now (inputs .entry)) (now (program .entry)) budget none (now (registers .entry)) (now (cells .entry)) (now (path .entry)) (now (report .entry))) r (now (cells .exit)) (now (registers .exit)) (now (path .exit)) (now (report .exit)) ⌝ }
+    ensures state { λ r. ⌜ Carries (now (cells .exit)) (now (report .exit)) (resume-at (now (inputs .entry)) (now (program .entry)) (length (now (path .entry))) budget none (state-in (now (cells .entry))) (now (registers .entry))) ⌝ }
 {
     resumed(
         program,
@@ -382,6 +405,7 @@ pub extern "C" fn vebrostin_resume(
         path,
         budget,
         cells,
+        report,
         Supplied::Nothing,
     )
 }
@@ -395,10 +419,11 @@ pub extern "C" fn vebrostin_answer(
     path: &mut [u8],
     budget: usize,
     cells: &mut [u64],
+    report: &mut [u64],
     value: f64,
 ) -> usize
-    ensures outcome { λ r. ⌜ Leaves (resume-outcome (now (inputs .entry)) (now (program .entry)) budget (some value) (now (registers .entry)) (now (cells .entry)) (now (path .entry))) r (now (cells .exit)) (now (registers .exit)) (now (path .exit)) ⌝ }
-    ensures state { λ r. ⌜ Carries (now (cells .exit)) (resume-at (now (inputs .entry)) (now (program .entry)) (length (now (path .entry))) budget (some value) (state-in (now (cells .entry))) (now (registers .entry))) ⌝ }
+    ensures outcome { λ r. ⌜ Leaves (resume-outcome (now (inputs .entry)) (now (program .entry)) budget (some value) (now (registers .entry)) (now (cells .entry)) (now (path .entry)) (now (report .entry))) r (now (cells .exit)) (now (registers .exit)) (now (path .exit)) (now (report .exit)) ⌝ }
+    ensures state { λ r. ⌜ Carries (now (cells .exit)) (now (report .exit)) (resume-at (now (inputs .entry)) (now (program .entry)) (length (now (path .entry))) budget (some value) (state-in (now (cells .entry))) (now (registers .entry))) ⌝ }
 {
     resumed(
         program,
@@ -407,6 +432,7 @@ pub extern "C" fn vebrostin_answer(
         path,
         budget,
         cells,
+        report,
         Supplied::Value(value),
     )
 }

@@ -34,7 +34,7 @@ same-length-3 : tie.Need-same-length-3
 same-length-3 c = search needs
 
 same-length-4 : tie.Need-same-length-4
-same-length-4 c = c .before .before .before .before .before .before .before .before .before .before .make-and-call .kept .1 .1 .1 .1 .1 .1 .1 .0 ∙ c .before .before .before .before .before .before .before .before .before .before .before .before .before .before .before .before .before .before .before .before .before .before .before .before .before .before .before .before .before .before .before .before .before .fill .kept .0
+same-length-4 c = @make-and-call .kept .1 .1 .1 .1 .1 .1 .1 .0 ∙ @fill .kept .0
 
 same-length-5 : tie.Need-same-length-5
 same-length-5 c = search needs

@@ -22,15 +22,16 @@ same-length c = search needs
 same-length-2 : tie.Need-same-length-2
 same-length-2 c = search needs
 
-returns : tie.Need-returns
-returns c =
-    let a = c .before .before .before .before .before .before .before .before .before .before .before .before .before .before .args in
-    let r = c .before .before .before .before .vebrostin-compile in
-    formula-done (a .formula .now) (a .names .now) (a .path .now) (r .last .1 .1 .0) (a .tree .now) (a .tree .now) (a .program .now) (r .last .1 .1 .1 .0) (r .result)
-    (a .wanted) (c .before .before .before .before .before .before .before .enum-told .given .1) refl (r .ensures)
-
 same-length-3 : tie.Need-same-length-3
 same-length-3 c = search needs
+
+returns : tie.Need-returns
+returns c =
+    let a = c .before .before .before .before .before .before .before .before .before .before .before .before .before .before .before .before .before .before .args in
+    let r = c .before .before .before .before .before .before .vebrostin-compile in
+    formula-done (a .formula .now) (a .names .now) (a .path .now) (r .last .1 .1 .0) (a .tree .now) (a .tree .now) (a .program .now) (r .last .1 .1 .1 .0)
+    (a .report .now) (r .last .1 .1 .1 .1 .0) (r .result)
+    (a .wanted) (c .before .before .before .before .before .before .before .before .before .before .enum-told .given .1) refl (r .ensures)
 
 same-length-4 : tie.Need-same-length-4
 same-length-4 c = search needs
@@ -38,12 +39,18 @@ same-length-4 c = search needs
 same-length-5 : tie.Need-same-length-5
 same-length-5 c = search needs
 
+same-length-6 : tie.Need-same-length-6
+same-length-6 c = search needs
+
+same-length-7 : tie.Need-same-length-7
+same-length-7 c = search needs
+
 returns-2 : tie.Need-returns-2
 returns-2 c =
-    let a = c .before .before .before .before .before .before .before .before .before .before .before .before .before .before .before .before .before .before .args in
-    let r = c .before .before .before .before .before .before .vebrostin-derive in
+    let a = c .before .before .before .before .before .before .before .before .before .before .before .before .before .before .before .before .before .before .before .before .before .before .args in
+    let r = c .before .before .before .before .before .before .before .before .vebrostin-derive in
     derivative-done (a .formula .now) (a .names .now) (a .path .now) (r .last .1 .1 .1 .0) (a .tree .now) (r .last .1 .1 .1 .1 .0) (a .program .now) (r .last .1 .1 .1 .1 .1 .0)
-    (r .result) (a .wanted) (c .before .before .before .before .before .before .before .before .before .before .before .wanted .given .0 .0) (c .before .before .before .before .before .before .before .before .before .before .before .wanted .given .1) (r .ensures)
+    (a .report .now) (r .last .1 .1 .1 .1 .1 .1 .0) (r .result) (a .wanted) (c .before .before .before .before .before .before .before .before .before .before .before .before .before .before .wanted .given .0 .0) (c .before .before .before .before .before .before .before .before .before .before .before .before .before .before .wanted .given .1) (r .ensures)
 
 pub write-program-spec : {M : Type 1} → statement M
 write-program-spec =
@@ -55,8 +62,10 @@ write-program-spec =
     vebrostin-derive-requires
     same-length
     same-length-2
-    returns
     same-length-3
+    returns
     same-length-4
     same-length-5
+    same-length-6
+    same-length-7
     returns-2)

@@ -1,17 +1,26 @@
 use mathlib.Core.Path.{refl, sym, _∙_}
 use Rattle.run.specs.Views.{supplied-of}
-use Rattle.vebrostin.proofs.Outcomes.{resume-goes-on, resume-refused, resume-short}
+use Rattle.vebrostin.proofs.Outcomes.{enough, resume-goes-on, resume-refused, resume-short}
 use borrow.Author.Needs.{needs}
 use Rattle.vebrostin.proofs.resumed.Statement.{statement}
 use Rattle.vebrostin.proofs.resumed.Tie as tie
 
+is-short-requires : tie.Need-is-short-requires
+is-short-requires c κs = search needs
+
 cast-result : tie.Need-cast-result
 cast-result c = search needs
 
+same-length : tie.Need-same-length
+same-length c = search needs
+
+same-length-2 : tie.Need-same-length-2
+same-length-2 c = search needs
+
 returns : tie.Need-returns
 returns c =
-    let a = c .before .before .before .before .before .before .args in
-    resume-short (a .inputs .now) (a .program .now) (a .budget) (supplied-of (a .supplied)) (a .registers .now) (a .cells .now) (a .path .now) (c .if1 .taken)
+    let a = c .before .before .before .before .before .before .before .before .before .before .args in
+    resume-short (a .inputs .now) (a .program .now) (a .budget) (supplied-of (a .supplied)) (a .registers .now) (a .cells .now) (a .path .now) (a .report .now) (sym (c .before .is-short .ensures) ∙ c .if1 .taken)
 
 state-in-requires : tie.Need-state-in-requires
 state-in-requires c κs = search needs
@@ -25,31 +34,8 @@ is-refused-requires c κs = search needs
 number-of-requires : tie.Need-number-of-requires
 number-of-requires c κs = search needs
 
-same-length : tie.Need-same-length
-same-length c = search needs
-
-same-length-2 : tie.Need-same-length-2
-same-length-2 c = search needs
-
 same-length-3 : tie.Need-same-length-3
 same-length-3 c = search needs
-
-returns-2 : tie.Need-returns-2
-returns-2 c =
-    let a = c .before .before .before .before .before .before .before .before .before .before .before .before .before .before .before .before .before .before .before .args in
-    let if1 = c .before .before .before .before .before .before .before .before .before .before .before .before .before .if1 in
-    let state-in = c .before .before .before .before .before .before .before .before .before .before .before .state-in in
-    let r = c .before .before .before .before .before .before .before .before .resume in
-    let is-refused = c .before .before .is-refused in
-    resume-refused (a .inputs .now) (a .program .now) (a .budget) (supplied-of (a .supplied)) (a .registers .now) (a .cells .now) (a .path .now)
-    (r .result) _ _ _ _ (if1 .left) (state-in .result) (state-in .ensures) (r .ensures .0) (r .ensures .1 .0) (c .number-of .ensures)
-    (sym (is-refused .ensures) ∙ c .before .if2 .taken) (r .ensures .1 .1) refl
-
-put-reply-requires : tie.Need-put-reply-requires
-put-reply-requires c κs = search needs
-
-number-of-requires-2 : tie.Need-number-of-requires-2
-number-of-requires-2 c κs = search needs
 
 same-length-4 : tie.Need-same-length-4
 same-length-4 c = search needs
@@ -60,36 +46,70 @@ same-length-5 c = search needs
 same-length-6 : tie.Need-same-length-6
 same-length-6 c = search needs
 
+returns-2 : tie.Need-returns-2
+returns-2 c =
+    let a = c .before .before .before .before .before .before .before .before .before .before .before .before .before .before .before .before .before .before .before .before .before .before .before .args in
+    let if1 = c .before .before .before .before .before .before .before .before .before .before .before .before .before .if1 in
+    let state-in = c .before .before .before .before .before .before .before .before .before .before .before .state-in in
+    let r = c .before .before .before .before .before .before .before .before .resume in
+    let is-refused = c .before .before .is-refused in
+    resume-refused (a .inputs .now) (a .program .now) (a .budget) (supplied-of (a .supplied)) (a .registers .now) (a .cells .now) (a .path .now) (a .report .now)
+    (r .result) _ _ _ _ (sym (c .before .before .before .before .before .before .before .before .before .before .before .before .before .before .is-short .ensures) ∙ if1 .left) (state-in .result) (state-in .ensures) (r .ensures .0) (r .ensures .1 .0) (c .number-of .ensures)
+    (sym (is-refused .ensures) ∙ c .before .if2 .taken) (r .ensures .1 .1 .0) refl
+
+put-reply-requires : tie.Need-put-reply-requires
+put-reply-requires c κs = enough (c .before .before .before .before .before .before .before .before .before .before .before .before .before .before .before .before .before .before .before .before .before .before .before .args .cells .now) (c .before .before .before .before .before .before .before .before .before .before .before .before .before .before .before .before .before .before .before .before .before .before .before .args .report .now) (sym (c .before .before .before .before .before .before .before .before .before .before .before .before .before .before .is-short .ensures) ∙ c .before .before .before .before .before .before .before .before .before .before .before .before .before .if1 .left)
+
+number-of-requires-2 : tie.Need-number-of-requires-2
+number-of-requires-2 c κs = search needs
+
+same-length-7 : tie.Need-same-length-7
+same-length-7 c = search needs
+
+same-length-8 : tie.Need-same-length-8
+same-length-8 c = search needs
+
+same-length-9 : tie.Need-same-length-9
+same-length-9 c = search needs
+
+same-length-10 : tie.Need-same-length-10
+same-length-10 c = search needs
+
 returns-3 : tie.Need-returns-3
 returns-3 c =
-    let a = c .before .before .before .before .before .before .before .before .before .before .before .before .before .before .before .before .before .before .before .before .before .before .before .args in
+    let a = c .before .before .before .before .before .before .before .before .before .before .before .before .before .before .before .before .before .before .before .before .before .before .before .before .before .before .before .args in
     let if1 = c .before .before .before .before .before .before .before .before .before .before .before .before .before .before .before .before .before .if1 in
     let state-in = c .before .before .before .before .before .before .before .before .before .before .before .before .before .before .before .state-in in
     let r = c .before .before .before .before .before .before .before .before .before .before .before .before .resume in
     let is-refused = c .before .before .before .before .before .before .is-refused in
     let if2 = c .before .before .before .before .before .if2 in
     let put-reply = c .before .before .before .put-reply in
-    resume-goes-on (a .inputs .now) (a .program .now) (a .budget) (supplied-of (a .supplied)) (a .registers .now) (a .cells .now) (a .path .now)
-    (r .result) _ _ _ _ (if1 .left) (state-in .result) (state-in .ensures) (r .ensures .0) (r .ensures .1 .0) (c .number-of2 .ensures)
+    resume-goes-on (a .inputs .now) (a .program .now) (a .budget) (supplied-of (a .supplied)) (a .registers .now) (a .cells .now) (a .path .now) (a .report .now)
+    (r .result) _ _ _ _ (sym (c .before .before .before .before .before .before .before .before .before .before .before .before .before .before .before .before .before .before .is-short .ensures) ∙ if1 .left) (state-in .result) (state-in .ensures) (r .ensures .0) (r .ensures .1 .0) (c .number-of2 .ensures)
     (sym (is-refused .ensures) ∙ if2 .left) (put-reply .ensures .0) (put-reply .ensures .1)
 
 pub resumed-spec : {M : Type 1} → statement M
 resumed-spec =
     tie.close
     (tie.spec
+    is-short-requires
     cast-result
+    same-length
+    same-length-2
     returns
     state-in-requires
     resume-requires
     is-refused-requires
     number-of-requires
-    same-length
-    same-length-2
     same-length-3
-    returns-2
-    put-reply-requires
-    number-of-requires-2
     same-length-4
     same-length-5
     same-length-6
+    returns-2
+    put-reply-requires
+    number-of-requires-2
+    same-length-7
+    same-length-8
+    same-length-9
+    same-length-10
     returns-3)

@@ -1,44 +1,49 @@
 use mathlib.Core.Path.{ap, _∙_}
 use Rattle.vebrostin.specs.Calls.{derive-number}
+use Rattle.vebrostin.proofs.Outcomes.{derive-leaves, derive-short}
 use borrow.Author.Needs.{needs}
 use Rattle.vebrostin.proofs.vebrostin_derive.Statement.{statement}
 use Rattle.vebrostin.proofs.vebrostin_derive.Tie as tie
-use Rattle.vebrostin.proofs.vebrostin_derive.Reads as reads
-use Rattle.vebrostin.proofs.vebrostin_derive.Lts as lts
-use Rattle.derive.proofs.derive.Reads as derive-reads
-use Rattle.vebrostin.proofs.derive_number.Reads as derive-number-reads
 
--- src/lib.rt:76:9
+cast-result : tie.Need-cast-result
+cast-result c = search needs
+
+returns : tie.Need-returns
+returns c =
+    let a = c .before .before .before .before .before .before .before .args in
+    derive-short (a .formula .now) (a .names .now) (a .symbol) (a .path .now) (a .tree .now) (a .program .now) (a .report .now) (c .if1 .taken)
+
 derive-requires : tie.Need-derive-requires
 derive-requires c κs = search needs
 
--- src/lib.rt:77:5
 derive-number-requires : tie.Need-derive-number-requires
 derive-number-requires c κs = search needs
 
--- src/lib.rt:65:1
 same-length : tie.Need-same-length
 same-length c = search needs
 
--- src/lib.rt:65:1
 same-length-2 : tie.Need-same-length-2
 same-length-2 c = search needs
 
--- src/lib.rt:65:1
 same-length-3 : tie.Need-same-length-3
 same-length-3 c = search needs
 
--- src/lib.rt:65:1
-returns : tie.Need-returns
-returns c = (c .derive-number .ensures ∙ ap derive-number (c .before .before .before .before .before .before .before .derive .ensures .0), c .before .before .before .before .before .before .before .derive .ensures .1, c .before .before .before .before .before .before .before .derive .ensures .2, c .before .before .before .before .before .before .before .derive .ensures .3)
+returns-2 : tie.Need-returns-2
+returns-2 c =
+    let a = c .before .before .before .before .before .before .before .before .before .before .before .before .before .before .before .before .before .before .args in
+    let r = c .before .before .before .before .before .before .before .derive in
+    derive-leaves (a .formula .now) (a .names .now) (a .symbol) (a .path .now) (a .tree .now) (a .program .now) (a .report .now) (c .before .before .before .before .before .before .before .before .before .before .before .if1 .left) _ _ _ _
+    (c .derive-number .ensures ∙ ap derive-number (r .ensures .0)) (r .ensures .1) (r .ensures .2) (r .ensures .3)
 
 pub vebrostin-derive-spec : {M : Type 1} → statement M
 vebrostin-derive-spec =
     tie.close
     (tie.spec
+    cast-result
+    returns
     derive-requires
     derive-number-requires
     same-length
     same-length-2
     same-length-3
-    returns)
+    returns-2)
