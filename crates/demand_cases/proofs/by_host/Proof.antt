@@ -18,8 +18,11 @@ of-bits-requires c κs = search needs
 fill-values-requires : tie.Need-fill-values-requires
 fill-values-requires c κs = search needs
 
-cast-t27 : tie.Need-cast-t27
-cast-t27 c = search needs
+cast-t28 : tie.Need-cast-t28
+cast-t28 c = search needs
+
+slice-aggregate-make-and-call : tie.Need-slice-aggregate-make-and-call
+slice-aggregate-make-and-call c = search needs
 
 make-and-call-requires : tie.Need-make-and-call-requires
 make-and-call-requires c κs = search needs
@@ -34,7 +37,7 @@ same-length-3 : tie.Need-same-length-3
 same-length-3 c = search needs
 
 same-length-4 : tie.Need-same-length-4
-same-length-4 c = @make-and-call .kept .1 .1 .1 .1 .1 .1 .1 .0 ∙ @fill .kept .0
+same-length-4 c = c .before .before .before .before .before .before .before .before .before .before .before .make-and-call .kept .1 .1 .1 .1 .1 .1 .1 .0 ∙ c .before .before .before .before .before .before .before .before .before .before .before .before .before .before .before .before .before .before .before .before .before .before .before .before .before .before .before .before .before .before .before .before .before .before .before .fill .kept .0
 
 same-length-5 : tie.Need-same-length-5
 same-length-5 c = search needs
@@ -51,7 +54,8 @@ by-host-spec =
     fill-requires-3
     of-bits-requires
     fill-values-requires
-    cast-t27
+    cast-t28
+    slice-aggregate-make-and-call
     make-and-call-requires
     same-length
     same-length-2
