@@ -28,7 +28,7 @@ make-and-call-requires : tie.Need-make-and-call-requires
 make-and-call-requires c κs = search needs
 
 same-length : tie.Need-same-length
-same-length c = search needs
+same-length c = c .before .before .before .before .before .before .before .before .before .before .before .make-and-call .kept .1 .1 .1 .0 ∙ c .before .before .before .before .before .before .before .before .before .before .before .before .before .before .before .before .before .before .before .before .before .before .before .before .before .before .before .before .before .before .before .fill2 .kept .0
 
 same-length-2 : tie.Need-same-length-2
 same-length-2 c = search needs
