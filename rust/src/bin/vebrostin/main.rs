@@ -43,7 +43,7 @@ Exit status: 0 done, 1 a formula is refused or a line has no value, 2 wrong use 
 ";
 
 /// Stack that the deepest formula text needs, with room to spare.
-const STACK: usize = 64 << 20;
+const STACK: usize = 1 << 30;
 
 fn main() -> ExitCode {
     let words: Vec<String> = std::env::args_os().skip(1).map(|word| word.to_string_lossy().into_owned()).collect();

@@ -10,7 +10,7 @@ use crate::words::{words, Word};
 const SIGN: u64 = 1 << 63;
 
 /// Parentheses and signs within each other; a tree of `LEVELS` levels needs at most two of these a level.
-const NESTED: usize = 2 * LEVELS + 100;
+pub const NESTED: usize = 2 * LEVELS + 100;
 
 type Parsed = Result<Tree, Problem>;
 

@@ -6,7 +6,7 @@ mod random;
 use crate::bytes::{decode, encode, NODE};
 use crate::explain;
 use crate::names::Names;
-use crate::parse::parse;
+use crate::parse::{parse, NESTED};
 use crate::place::locate;
 use crate::print::print;
 use crate::text::{write, Formula};
@@ -159,9 +159,9 @@ fn depth() {
     deep(|| {
         let names = names();
         for part in ["(", "-", "not ", "min(", "1+", "1*(", "a or (", "if(1,(", "2^(", "-(", "1 and not -("] {
-            assert!(parse(&part.repeat(200_000), 0, &names).is_err());
+            assert!(parse(&part.repeat(2 * NESTED), 0, &names).is_err());
             let close = part.matches('(').count();
-            let text = format!("{}1{}", part.repeat(100_000), ")".repeat(100_000 * close));
+            let text = format!("{}1{}", part.repeat(NESTED + 1), ")".repeat((NESTED + 1) * close));
             assert!(parse(&text, 0, &names).is_err(), "{part}");
         }
         for head in [Head::Unary(1), Head::Unary(2), Head::Unary(0), Head::Call(0), Head::Boolean(0)] {

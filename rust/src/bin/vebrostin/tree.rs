@@ -28,9 +28,9 @@ pub struct Tree {
     pub levels: usize,
 }
 
-/// Levels and children that a tree has at most here, so that no walk over one runs out of stack. A formula has at most 32 levels, a
-/// derivative 128.
-pub const LEVELS: usize = 1000;
+/// Levels and children that a tree has at most here: as many as a file of `files::LARGEST` bytes can hold, and the command's stack is
+/// large enough for a walk over these. A formula that compiles has at most 32 levels, a derivative 128.
+pub const LEVELS: usize = 65_536;
 pub const CHILDREN: usize = u16::MAX as usize;
 
 /// Operators in the order of their numbers, as a text writes them.
