@@ -1,4 +1,6 @@
 // One instruction of a program's bytes (docs/PROGRAM.md): reads and stores are total, so nothing is asked of the bytes.
+pub mod common;
+
 ghost use mathlib.Core.Path.{_≡_};
 ghost use Prim.Native.Nat.{_<_};
 ghost use lib.ListN.{getD, set};
