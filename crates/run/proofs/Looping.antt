@@ -168,13 +168,6 @@ module _ (inputs : List Float) (b : List ℕ) where
               ∙ ap (after (budget - left)) (S .rest) ∙ R .rest;
         }
 
-  -- an instruction, then others with nothing kept
-  pub reaches-more : {budget position left at left′ at′ : ℕ} {kept regs kept′ regs′ after′ regs″ : List Float} → Reaches inputs b budget position kept regs left at kept′ regs′
-      → (code m : ℕ) (empty : Kept) {t : Progress} → kept-values empty ≡ [] → 0 < left → at < code → code ≡ code-count b → t ≡ P.Next m
-      → Progressed b at (machine-effect inputs b at kept′ regs′) t regs′ after′ → Reaches inputs b (left - 1) m [] after′ left′ at′ [] regs″
-      → Reaches inputs b budget position kept regs left′ at′ (kept-values empty) regs″
-  reaches-more R code m empty i l h e f T S = rw i (reaches-on (reaches-next R code m l h e f T) S)
-
   -- where nothing is kept
   pub reaches-bare : {budget position left at : ℕ} {regs regs′ : List Float} (k : Kept) → k .count ≡ 0 → Reaches inputs b budget position [] regs left at [] regs′
       → Reaches inputs b budget position (kept-values k) regs left at (kept-values k) regs′

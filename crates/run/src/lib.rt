@@ -185,7 +185,7 @@ pub fn steps(
         let Progress::Next(to) = t else {
             return stopped(t, code, budget - left, at, k, none);
         };
-        k = none;
+        k.count = 0;
         let s = straight(p, inputs, regs, code, left - 1, to);
         at = s.at;
         left = s.left;

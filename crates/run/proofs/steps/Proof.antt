@@ -8,7 +8,7 @@ use Rattle.layout.specs.Decode.{code-count}
 use Rattle.work.specs.View.{kept-values}
 use Rattle.run.specs.Calls.{Reaches}
 use Rattle.run.proofs.Tags.{not-next}
-use Rattle.run.proofs.Looping.{end-reply, finished-place, reaches-all, reaches-bare, reaches-more, reaches-on, reaches-same, reaches-start, spent-place, spent-reply, stop-place, stop-reply}
+use Rattle.run.proofs.Looping.{end-reply, finished-place, reaches-all, reaches-bare, reaches-next, reaches-on, reaches-same, reaches-start, spent-place, spent-reply, stop-place, stop-reply}
 use Rattle.run.proofs.steps.Statement.{statement}
 use Rattle.run.proofs.steps.Tie as tie
 
@@ -132,7 +132,6 @@ unfolding code-count
 loop-again c =
     let args = c .before .before .before .before .before .before .before .before .before .before .before .before .before .before .before .before .before .before .before .before .before .before .args in
     let word = c .before .before .before .before .before .before .before .before .before .before .before .before .before .before .before .before .before .before .word in
-    let fresh = c .before .before .before .before .before .before .before .before .before .before .before .before .before .before .before .before .before .fresh in
     let loop = c .before .before .before .before .before .before .before .before .before .before .before .before .before .before .loop in
     let loop-test = c .before .before .before .before .before .before .before .before .before .before .before .before .before .loop-test in
     let if2 = c .before .before .before .before .before .before .before .before .before .before .before .before .if2 in
@@ -140,8 +139,10 @@ loop-again c =
     let t = c .before .before .before .before .before .before .t in
     let straight2 = c .before .before .straight2 in (
       straight2 .kept .1 .1 .0 ∙ step .kept .1 .1 .1 .0 ∙ loop .inv .0,
-      reaches-more (args .inputs .now) (args .p .now) (loop .inv .1) (word .result) (t .given .0 .0) (fresh .result) (fresh .ensures) (loop-test .taken)
-          (if2 .left) (word .ensures .0) (t .given .1) (step .ensures) (straight2 .ensures),
+      reaches-on (args .inputs .now) (args .p .now)
+          (reaches-next (args .inputs .now) (args .p .now) (loop .inv .1) (word .result) (t .given .0 .0) (loop-test .taken) (if2 .left) (word .ensures .0)
+          (t .given .1) (step .ensures))
+          (straight2 .ensures),
     )
 
 finished-requires-2 : tie.Need-finished-requires-2 Inv-loop μ-loop
