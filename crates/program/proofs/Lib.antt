@@ -1,6 +1,5 @@
 pub mod Tests
 pub mod Body
-pub mod Head
 pub mod Ops
 pub mod Records
 pub mod Pass

@@ -1,90 +1,216 @@
--- What an operation may read, by its opcode.
-use mathlib.Core.Path.{_≡_, refl, sym, ap, _∙_}
-use mathlib.Core.Bool.{Bool, true, _&&_}
+-- What is asked of an instruction's operands, by its opcode.
+use mathlib.Core.Path.{_≡_, refl, sym, ap, ap₂, _∙_}
+use mathlib.Core.Bool.{Bool, true, false, _&&_}
 use mathlib.Core.List.{List}
-use Prim.Native.Nat.{ℕ, zero, suc, _+_, _-_, _*_, _≤_, _<_}
+use Prim.Native.Nat.{ℕ, zero, suc, _+_, _-_, _*_, _/_, _%_, _≤_, _<_}
 use native.Mathlib.Omega.{arith}
+use borrow.Author.Tests.{eq-eqb, le-leb, lt-ltb, ltb-true, ne-eqb}
 use lib.ListN.{getD}
-use lib.Dec.{ltb}
+use lib.Dec.{eqb, eqb→eq, leb, ltb}
 use Rattle.formula.specs.Text.{byte-at, half-at, long-at, word-at}
 use Rattle.machine.specs.Program.{Op, all-below, jump, op-allowed}
-use Rattle.layout.specs.Decode.{entries-from, entry-at, op-at, ops, raw-program, register-total, slot-at}
+use Rattle.machine.proofs.Laws.{and-l, and-r}
+use Rattle.layout.specs.Decode.{code-count, entries-from, entry-at, entry-total, input-count, list-ok, op-at, ops, path-number, path-total, raw-program, register-total, slot-at, slot-ok, uses-a, uses-b, uses-c, uses-list, zero-unless}
 use Rattle.program.specs.declared.Header.{Header}
-use Rattle.program.specs.declared.Slot.{Slot}
-use Rattle.program.specs.Fields.{header-of, slot-of}
-use Rattle.program.specs.Check.{first-ops-ok}
-use Rattle.program.proofs.Tests.{and-one, one-of}
+use Rattle.program.specs.Check.{Numbers, Row, operands-ok}
+use Rattle.program.proofs.Tests.{and-assoc, and-one, one-of, refused, under}
 use Rattle.program.proofs.Body.{code-length}
 
-module _ (b : List ℕ) (n : ℕ) where
-  -- the operation of an opcode with the fields of the instruction n
-  unfoldable pub op-of : ℕ → Op
-  op-of o =
+-- the operation of an opcode with the fields of the instruction n
+unfoldable pub op-of : List ℕ → ℕ → ℕ → Op
+op-of b n o =
+    let at = slot-at n in
+    getD (ops b (long-at b (at + 8)) (half-at b (at + 2)) (word-at b (at + 8)) (word-at b (at + 12)) (word-at b (at + 16))) o (jump 0)
+
+-- what is asked of an opcode without a list: unused fields zero, and what the operation reads is there
+unfoldable plain : List ℕ → ℕ → ℕ → Bool
+plain b n o =
+    let at = slot-at n in
+    zero-unless (uses-a o) (word-at b (at + 8))
+    && (zero-unless (uses-b o) (word-at b (at + 12)) && (zero-unless (uses-c o) (word-at b (at + 16)) && op-allowed (raw-program b) n (op-of b n o)))
+
+nest : (x y w o : Bool) → ((x && y && w && true) && o) ≡ (x && (y && (w && o)))
+nest false y w o = refl
+nest true false w o = refl
+nest true true false o = refl
+nest true true true o = refl
+
+arranged : (a z l x y w p o : Bool) → a ≡ true → z ≡ true → l ≡ true → p ≡ true → ((a && z && l && x && y && w && p) && o) ≡ (x && (y && (w && o)))
+arranged a z l x y w p o ea ez el ep = rw (ea, ez, el, ep) (nest x y w o)
+
+module _ (b : List ℕ) (h : Header) (n row head next : ℕ) (r : Row b h n row head next) where
+  -- the opcode, the zero after it and the count, as the first four bytes have them
+  parts : (head ≡ half-at b (slot-at n) + 65536 * half-at b (slot-at n + 2)) × (half-at b (slot-at n) ≡ byte-at b (slot-at n) + 256 * byte-at b (slot-at n + 1)) × (half-at b (slot-at n) < 65536)
+  unfolding word-at half-at
+  parts = (r .read .is ∙ ap (word-at b) (r .place), refl, rw (r .place) at (r .read .low))
+
+  -- unused fields, in their order, then the rest
+  slot-row : byte-at b (slot-at n) < 35 → byte-at b (slot-at n + 1) ≡ 0 → zero-unless (uses-list (byte-at b (slot-at n))) (half-at b (slot-at n + 2)) ≡ true → (x : Bool)
+      → (slot-ok b n && x)
+      ≡ (zero-unless (uses-a (byte-at b (slot-at n))) (word-at b (slot-at n + 8))
+      && (zero-unless (uses-b (byte-at b (slot-at n))) (word-at b (slot-at n + 12)) && (zero-unless (uses-c (byte-at b (slot-at n))) (word-at b (slot-at n + 16)) && x)))
+  unfolding slot-ok
+  slot-row l z u x =
+      let o = byte-at b (slot-at n) in
+      arranged (ltb o 35) (eqb (byte-at b (slot-at n + 1)) 0) (zero-unless (uses-list o) (half-at b (slot-at n + 2))) (zero-unless (uses-a o) (word-at b (slot-at n + 8)))
+      (zero-unless (uses-b o) (word-at b (slot-at n + 12))) (zero-unless (uses-c o) (word-at b (slot-at n + 16))) (ltb (path-number b n) (path-total b)) x
+      (lt-ltb o 35 l) (eq-eqb (byte-at b (slot-at n + 1)) 0 z) u (lt-ltb (path-number b n) (path-total b) (r .path))
+
+  -- ---- opcodes without a list
+
+  plain-row : head < 35 → (head ≡ 31 → ⊥) → (head ≡ 32 → ⊥) → plain b n head ≡ operands-ok b n next
+  unfolding operands-ok list-ok plain op-of op-at
+  plain-row l f g =
+      let e = parts in
       let at = slot-at n in
-      getD (ops b (long-at b (at + 8)) (half-at b (at + 2)) (word-at b (at + 8)) (word-at b (at + 12)) (word-at b (at + 16))) o (jump 0)
+      let o : byte-at b (slot-at n) ≡ head = omega arith in
+      let c : half-at b (slot-at n + 2) ≡ 0 = omega arith in
+      let z : byte-at b (slot-at n + 1) ≡ 0 = omega arith in
+      let i : byte-at b (slot-at n) < 35 = omega arith in
+      let u : uses-list (byte-at b (slot-at n)) ≡ false =
+      rw (ne-eqb (byte-at b (slot-at n)) 31 (λ q. f (sym o ∙ q)), ne-eqb (byte-at b (slot-at n)) 32 (λ q. g (sym o ∙ q))) in
+      let s : zero-unless (uses-list (byte-at b (slot-at n))) (half-at b (slot-at n + 2)) ≡ true = rw (u, eq-eqb (half-at b (slot-at n + 2)) 0 c) in
+      let k : leb (next + half-at b (slot-at n + 2)) (entry-total b) ≡ true = le-leb (next + half-at b (slot-at n + 2)) (entry-total b) (omega (arith, r .whole .numbers .entries, r .fits)) in
+      ap (plain b n) (sym o)
+      ∙ sym (slot-row i z s (list-ok b n next && (leb (next + half-at b (slot-at n + 2)) (entry-total b) && op-allowed (raw-program b) n (op-at b n)))
+      ∙ rw (u, k))
 
-  pub op-is : (r : Slot) → r ≡ slot-of b n → op-of (r .op) ≡ op-at b n
-  unfolding op-of op-at slot-of
-  op-is r e = ap (λ (x : Slot). op-of (x .op)) e
+  pub constant-row : head ≡ 0 → eqb (word-at b (row + 16)) 0 ≡ operands-ok b n next
+  unfolding plain op-of raw-program
+  constant-row e =
+      rw (r .place)
+      (sym (and-one (eqb (word-at b (slot-at n + 16)) 0)) ∙ ap (plain b n) (sym e) ∙ plain-row (omega arith) (λ q. omega arith) (λ q. omega arith))
 
-  first : (o : ℕ) → o < 8 → first-ops-ok (header-of b) n (record { op = o; zero = 0; count = 0; destination = 0; a = word-at b (slot-at n + 8); b = 0; c = word-at b (slot-at n + 16); path = 0 }) ≡ op-allowed (raw-program b) n (op-of o)
-  unfolding op-of raw-program header-of
-  first o h =
-      one-of (λ (m : ℕ). first-ops-ok (header-of b) n (record { op = m; zero = 0; count = 0; destination = 0; a = word-at b (slot-at n + 8); b = 0; c = word-at b (slot-at n + 16); path = 0 }) ≡ op-allowed (raw-program b) n (op-of m))
-      8 0 o (omega arith) h
-      (refl, (refl, (refl, (rw (code-length b), (rw (code-length b), (sym (and-one _), (sym (and-one _), (sym (and-one _), tt))))))))
+  pub load-row : head ≡ 1
+      → (eqb (word-at b (row + 12)) 0 && (eqb (word-at b (row + 16)) 0 && ltb (word-at b (row + 8)) (h .inputs))) ≡ operands-ok b n next
+  unfolding plain op-of raw-program
+  load-row e =
+      rw (r .place, r .whole .numbers .inputs)
+      (ap (plain b n) (sym e) ∙ plain-row (omega arith) (λ q. omega arith) (λ q. omega arith))
 
-  pub first-is : (h : Header) (r : Slot) → h ≡ header-of b → r ≡ slot-of b n → r .op < 8 → first-ops-ok h n r ≡ op-allowed (raw-program b) n (op-at b n)
-  unfolding slot-of
-  first-is h r eh er l =
-      ap (λ (x : Header). first-ops-ok x n r) eh ∙ ap (λ (x : Slot). first-ops-ok (header-of b) n x) er
-      ∙ first (byte-at b (slot-at n)) (omega (arith, ap (λ (x : Slot). x .op) er))
-      ∙ ap (op-allowed (raw-program b) n) (op-is (slot-of b n) refl)
+  pub jump-if-row : head ≡ 3
+      → (eqb (word-at b (row + 12)) 0 && (ltb (word-at b (row + 8)) (h .registers) && (ltb n (word-at b (row + 16)) && leb (word-at b (row + 16)) (h .code)))) ≡ operands-ok b n next
+  unfolding plain op-of raw-program
+  jump-if-row e =
+      rw (r .place, r .whole .numbers .registers, r .whole .numbers .code)
+      (ap (λ (x : ℕ). eqb (word-at b (slot-at n + 12)) 0 && (ltb (word-at b (slot-at n + 8)) (register-total b) && (ltb n (word-at b (slot-at n + 16)) && leb (word-at b (slot-at n + 16)) x))) (sym (code-length b))
+      ∙ ap (plain b n) (sym e) ∙ plain-row (omega arith) (λ q. omega arith) (λ q. omega arith))
 
-  -- two registers
-  pub pair-is : (h : Header) (r : Slot) → h ≡ header-of b → r ≡ slot-of b n → 8 ≤ r .op → r .op < 20
-      → (ltb (r .a) (h .registers) && ltb (r .b) (h .registers)) ≡ op-allowed (raw-program b) n (op-at b n)
-  unfolding op-of raw-program header-of slot-of
-  pair-is h r eh er k l =
-      let p = ap (λ x. ltb (word-at b (slot-at n + 8)) (register-total b) && x) (sym (and-one (ltb (word-at b (slot-at n + 12)) (register-total b)))) in
-      rw (eh, er)
-      (one-of (λ (m : ℕ). (ltb (word-at b (slot-at n + 8)) (register-total b) && ltb (word-at b (slot-at n + 12)) (register-total b)) ≡ op-allowed (raw-program b) n (op-of m))
-      12 8 (byte-at b (slot-at n)) (omega (arith, ap (λ (x : Slot). x .op) er)) (omega (arith, ap (λ (x : Slot). x .op) er))
-      (p, (p, (p, (p, (p, (p, (p, (p, (p, (p, (p, (p, tt))))))))))))
-      ∙ ap (op-allowed (raw-program b) n) (op-is (slot-of b n) refl))
+  pub jump-row : head ≡ 4
+      → (eqb (word-at b (row + 8)) 0 && (eqb (word-at b (row + 12)) 0 && (ltb n (word-at b (row + 16)) && leb (word-at b (row + 16)) (h .code)))) ≡ operands-ok b n next
+  unfolding plain op-of raw-program
+  jump-row e =
+      rw (r .place, r .whole .numbers .code)
+      (ap (λ (x : ℕ). eqb (word-at b (slot-at n + 8)) 0 && (eqb (word-at b (slot-at n + 12)) 0 && (ltb n (word-at b (slot-at n + 16)) && leb (word-at b (slot-at n + 16)) x))) (sym (code-length b))
+      ∙ ap (plain b n) (sym e) ∙ plain-row (omega arith) (λ q. omega arith) (λ q. omega arith))
 
-  pub single-is : (h : Header) (r : Slot) → h ≡ header-of b → r ≡ slot-of b n → 20 ≤ r .op → r .op < 31
-      → ltb (r .a) (h .registers) ≡ op-allowed (raw-program b) n (op-at b n)
-  unfolding op-of raw-program header-of slot-of
-  single-is h r eh er k l =
-      let p = sym (and-one (ltb (word-at b (slot-at n + 8)) (register-total b))) in
-      rw (eh, er)
-      (one-of (λ (m : ℕ). ltb (word-at b (slot-at n + 8)) (register-total b) ≡ op-allowed (raw-program b) n (op-of m))
-      11 20 (byte-at b (slot-at n)) (omega (arith, ap (λ (x : Slot). x .op) er)) (omega (arith, ap (λ (x : Slot). x .op) er))
-      (p, (p, (p, (p, (p, (p, (p, (p, (p, (p, (p, tt)))))))))))
-      ∙ ap (op-allowed (raw-program b) n) (op-is (slot-of b n) refl))
+  abbrev One : Bool
+  One = eqb (word-at b (slot-at n + 12)) 0 && (eqb (word-at b (slot-at n + 16)) 0 && ltb (word-at b (slot-at n + 8)) (register-total b))
 
-  pub list-is : (h : Header) (r : Slot) → h ≡ header-of b → r ≡ slot-of b n → 31 ≤ r .op → r .op < 33
-      → all-below (h .registers) (entries-from b (r .count) (r .a)) ≡ op-allowed (raw-program b) n (op-at b n)
-  unfolding op-of raw-program header-of slot-of
-  list-is h r eh er k l =
-      rw (eh, er)
-      (one-of (λ (m : ℕ). all-below (register-total b) (entries-from b (half-at b (slot-at n + 2)) (word-at b (slot-at n + 8))) ≡ op-allowed (raw-program b) n (op-of m))
-      2 31 (byte-at b (slot-at n)) (omega (arith, ap (λ (x : Slot). x .op) er)) (omega (arith, ap (λ (x : Slot). x .op) er)) (refl, (refl, tt))
-      ∙ ap (op-allowed (raw-program b) n) (op-is (slot-of b n) refl))
+  one-last : One ≡ (eqb (word-at b (slot-at n + 12)) 0 && (eqb (word-at b (slot-at n + 16)) 0 && (ltb (word-at b (slot-at n + 8)) (register-total b) && true)))
+  one-last =
+      ap (λ x. eqb (word-at b (slot-at n + 12)) 0 && (eqb (word-at b (slot-at n + 16)) 0 && x)) (sym (and-one (ltb (word-at b (slot-at n + 8)) (register-total b))))
 
-  pub triple-is : (h : Header) (r : Slot) → h ≡ header-of b → r ≡ slot-of b n → 33 ≤ r .op → r .op < 35
-      → (ltb (r .a) (h .registers) && (ltb (r .b) (h .registers) && ltb (r .c) (h .registers))) ≡ op-allowed (raw-program b) n (op-at b n)
-  unfolding op-of raw-program header-of slot-of
-  triple-is h r eh er k l =
+  -- copy, Positive, Negative, Not
+  pub low-single-row : head < 8 → (head ≡ 0 → ⊥) → (head ≡ 1 → ⊥) → (head ≡ 3 → ⊥) → (head ≡ 4 → ⊥)
+      → (eqb (word-at b (row + 12)) 0 && (eqb (word-at b (row + 16)) 0 && ltb (word-at b (row + 8)) (h .registers))) ≡ operands-ok b n next
+  unfolding plain op-of raw-program
+  low-single-row l f0 f1 f3 f4 =
+      rw (r .place, r .whole .numbers .registers)
+      (one-of (λ (m : ℕ). (m ≡ 0 → ⊥) → (m ≡ 1 → ⊥) → (m ≡ 3 → ⊥) → (m ≡ 4 → ⊥) → One ≡ plain b n m) 8 0 head (omega arith) l (
+        (λ g0 g1 g3 g4. absurd (g0 refl)),
+        (
+          (λ g0 g1 g3 g4. absurd (g1 refl)),
+          (
+            (λ g0 g1 g3 g4. refl),
+            (
+              (λ g0 g1 g3 g4. absurd (g3 refl)),
+              (
+                (λ g0 g1 g3 g4. absurd (g4 refl)),
+                ((λ g0 g1 g3 g4. one-last), ((λ g0 g1 g3 g4. one-last), ((λ g0 g1 g3 g4. one-last), tt))),
+              ),
+            ),
+          ),
+        ),
+      ) f0 f1 f3 f4
+      ∙ plain-row (omega arith) (λ q. omega arith) (λ q. omega arith))
+
+  pub single-row : 20 ≤ head → head < 31
+      → (eqb (word-at b (row + 12)) 0 && (eqb (word-at b (row + 16)) 0 && ltb (word-at b (row + 8)) (h .registers))) ≡ operands-ok b n next
+  unfolding plain op-of raw-program
+  single-row k l =
+      let p = one-last in
+      rw (r .place, r .whole .numbers .registers)
+      (one-of (λ (m : ℕ). One ≡ plain b n m) 11 20 head k l (p, (p, (p, (p, (p, (p, (p, (p, (p, (p, (p, tt)))))))))))
+      ∙ plain-row (omega arith) (λ q. omega arith) (λ q. omega arith))
+
+  pub pair-row : 8 ≤ head → head < 20
+      → (eqb (word-at b (row + 16)) 0 && (ltb (word-at b (row + 8)) (h .registers) && ltb (word-at b (row + 12)) (h .registers))) ≡ operands-ok b n next
+  unfolding plain op-of raw-program
+  pair-row k l =
+      let x = eqb (word-at b (slot-at n + 16)) 0 in
+      let y = ltb (word-at b (slot-at n + 8)) (register-total b) in
+      let z = ltb (word-at b (slot-at n + 12)) (register-total b) in
+      let p = ap (λ w. x && (y && w)) (sym (and-one z)) in
+      rw (r .place, r .whole .numbers .registers)
+      (one-of (λ (m : ℕ). (x && (y && z)) ≡ plain b n m) 12 8 head k l (p, (p, (p, (p, (p, (p, (p, (p, (p, (p, (p, (p, tt))))))))))))
+      ∙ plain-row (omega arith) (λ q. omega arith) (λ q. omega arith))
+
+  pub triple-row : 33 ≤ head → head < 35
+      → (ltb (word-at b (row + 8)) (h .registers) && (ltb (word-at b (row + 12)) (h .registers) && ltb (word-at b (row + 16)) (h .registers))) ≡ operands-ok b n next
+  unfolding plain op-of raw-program
+  triple-row k l =
       let x = ltb (word-at b (slot-at n + 8)) (register-total b) in
       let y = ltb (word-at b (slot-at n + 12)) (register-total b) in
       let z = ltb (word-at b (slot-at n + 16)) (register-total b) in
       let p = ap (λ w. x && (y && w)) (sym (and-one z)) in
-      rw (eh, er)
-      (one-of (λ (m : ℕ). (x && (y && z)) ≡ op-allowed (raw-program b) n (op-of m))
-      2 33 (byte-at b (slot-at n)) (omega (arith, ap (λ (x : Slot). x .op) er)) (omega (arith, ap (λ (x : Slot). x .op) er)) (p, (p, tt))
-      ∙ ap (op-allowed (raw-program b) n) (op-is (slot-of b n) refl))
+      rw (r .place, r .whole .numbers .registers)
+      (one-of (λ (m : ℕ). (x && (y && z)) ≡ plain b n m) 2 33 head k l (p, (p, tt)) ∙ plain-row (omega arith) (λ q. omega arith) (λ q. omega arith))
+
+  -- ---- Min and Max
+
+  -- no other opcode has a count
+  pub unlisted-row : 31 ≤ head → (33 ≤ head → 35 ≤ head) → (head % 65536 ≡ 31 → ⊥) → (head % 65536 ≡ 32 → ⊥) → false ≡ operands-ok b n next
+  unfolding operands-ok slot-ok
+  unlisted-row k g f1 f2 =
+      refused (operands-ok b n next)
+      (λ e.
+      let q = parts in
+      let o = byte-at b (slot-at n) in
+      let s : (ltb o 35 && eqb (byte-at b (slot-at n + 1)) 0 && zero-unless (uses-list o) (half-at b (slot-at n + 2)) && zero-unless (uses-a o) (word-at b (slot-at n + 8))
+      && zero-unless (uses-b o) (word-at b (slot-at n + 12)) && zero-unless (uses-c o) (word-at b (slot-at n + 16)) && ltb (path-number b n) (path-total b)) ≡ true = and-l _ _ e in
+      let s3 : (ltb o 35 && eqb (byte-at b (slot-at n + 1)) 0 && zero-unless (uses-list o) (half-at b (slot-at n + 2))) ≡ true = and-l _ _ (and-l _ _ (and-l _ _ (and-l _ _ s))) in
+      let l : o < 35 = ltb-true _ _ (and-l _ _ (and-l _ _ s3)) in
+      let z : byte-at b (slot-at n + 1) ≡ 0 = eqb→eq _ _ (rw (and-r (ltb o 35) _ (and-l _ _ s3)) tt) in
+      let m : head % 65536 ≡ o = omega arith in
+      let u : uses-list o ≡ false = rw (ne-eqb o 31 (λ w. f1 (m ∙ w)), ne-eqb o 32 (λ w. f2 (m ∙ w))) in
+      let c : half-at b (slot-at n + 2) ≡ 0 = eqb→eq _ _ (rw (rw u at (and-r (ltb o 35 && eqb (byte-at b (slot-at n + 1)) 0) _ s3)) tt) in
+      let i : head ≡ o = omega arith in
+      let t : 33 ≤ head = omega arith in
+      let w = g t in
+      omega arith)
+
+  pub list-row : 31 ≤ head % 65536 → head % 65536 < 33
+      → (eqb (word-at b (row + 12)) 0 && (eqb (word-at b (row + 16)) 0 && (eqb (word-at b (row + 8)) next
+      && (leb 2 (head / 65536) && (leb (next + head / 65536) (h .entries) && all-below (h .registers) (entries-from b (head / 65536) next)))))) ≡ operands-ok b n next
+  unfolding operands-ok list-ok op-of op-at raw-program
+  list-row k l =
+      let q = parts in
+      let o = byte-at b (slot-at n) in
+      let m : ℕ = half-at b (slot-at n + 2) in
+      let a : ℕ = word-at b (slot-at n + 8) in
+      let i : byte-at b (slot-at n) < 35 = omega arith in
+      let z : byte-at b (slot-at n + 1) ≡ 0 = omega arith in
+      let c : head / 65536 ≡ m = omega arith in
+      let us = one-of (λ (x : ℕ). (uses-list x ≡ true) × (uses-a x ≡ true) × (uses-b x ≡ false) × (uses-c x ≡ false)) 2 31 o (omega arith) (omega arith)
+      ((refl, refl, refl, refl), ((refl, refl, refl, refl), tt)) in
+      let al = one-of (λ (x : ℕ). op-allowed (raw-program b) n (op-of b n x) ≡ all-below (register-total b) (entries-from b m a)) 2 31 o (omega arith) (omega arith) (refl, (refl, tt)) in
+      let s : zero-unless (uses-list o) m ≡ true = rw (us .0) in
+      rw (r .place, r .whole .numbers .registers, r .whole .numbers .entries, c)
+      (ap (λ x. eqb (word-at b (slot-at n + 12)) 0 && (eqb (word-at b (slot-at n + 16)) 0 && x))
+      (under (eqb a next) (λ e. ap (λ (x : ℕ). leb 2 m && (leb (next + m) (entry-total b) && all-below (register-total b) (entries-from b m x))) (sym (eqb→eq a next (rw e tt))))
+      ∙ sym (and-assoc (eqb a next) (leb 2 m) (leb (next + m) (entry-total b) && all-below (register-total b) (entries-from b m a))))
+      ∙ sym (slot-row i z s (list-ok b n next && (leb (next + m) (entry-total b) && op-allowed (raw-program b) n (op-at b n))) ∙ rw (us .0, us .1, us .2, us .3, al)))
 
 -- ---- the entries of a list
 
@@ -113,6 +239,11 @@ module _ (b : List ℕ) (registers count a : ℕ) where
   below-end i h = let e : count - i ≡ 0 = omega arith in rw e
 
 -- where an entry stands
-pub entry-place : (b : List ℕ) (h : Header) (a i : ℕ) → h ≡ header-of b → 32 + 24 * h .code + 12 * h .paths + 4 * (a + i) ≡ entry-at b (a + i)
-unfolding entry-at header-of
-entry-place b h a i e = omega (arith, ap (λ (x : Header). x .code) e, ap (λ (x : Header). x .paths) e)
+pub entry-place : (b : List ℕ) (h : Header) (a i : ℕ) → Numbers b h → 32 + 24 * h .code + 12 * h .paths + 4 * a + 4 * i ≡ entry-at b (a + i)
+unfolding entry-at
+entry-place b h a i e = omega arith
+
+-- where all parts end
+pub end-place : (b : List ℕ) (h : Header) → Numbers b h → 32 + 24 * h .code + 12 * h .paths + 4 * h .entries ≡ entry-at b (entry-total b)
+unfolding entry-at
+end-place b h e = omega arith

@@ -4,10 +4,10 @@ use mathlib.Core.Bool.{Bool, true, false, cond, _&&_}
 use mathlib.Core.List.{List}
 use mathlib.Core.Logic.{⊎-elim}
 use native.Mathlib.Nat.{eq-or-lt-of-le}
-use Prim.Native.Nat.{ℕ, zero, suc, _+_, _-_, _*_, _≤_, _<_}
+use Prim.Native.Nat.{ℕ, zero, suc, _+_, _-_, _*_, _/_, _≤_, _<_}
 use native.Mathlib.Numerals.{add-one}
 use native.Mathlib.Omega.{arith}
-use borrow.Author.Tests.{le-leb, leb-true, ltb-true}
+use borrow.Author.Tests.{le-leb, le-ltb, leb-true, lt-leb, lt-ltb, ltb-true}
 use lib.ListN.{length}
 use lib.Dec.{eqb, eqb→eq, leb, ltb}
 use Rattle.formula.specs.Text.{byte-at, half-at, word-at}
@@ -18,63 +18,57 @@ use Rattle.layout.specs.Image.{magic}
 use Rattle.layout.specs.Decode.{code-count, destination-at, entry-at, entry-total, instructions, length-at, list-ok, no-program, op-at, path-number, path-of, path-total, program-at, raw-program, records-ok, register-total, result-at, slot-at, slot-ok, slots-ok, uses-a, uses-b, uses-c, uses-list, well-formed, zero-unless}
 use Rattle.paths.specs.Table.{Linked, length-in, path-in-table}
 use Rattle.program.specs.declared.Header.{Header}
-use Rattle.program.specs.declared.Slot.{Slot}
-use Rattle.program.specs.Fields.{header-of, slot-of}
-use Rattle.program.specs.Check.{header-ok, instruction-ok, instructions-ok, list-fields-ok, named-ok, slot-fields-ok, unused-zero}
+use Rattle.program.specs.Check.{Numbers, Read, Whole, header-ok, instruction-ok, instructions-ok, operands-ok, placed-ok}
 use Rattle.program.proofs.Body.{code-length}
-use Rattle.program.proofs.Head.{code-is, entries-is, registers-is}
+use Rattle.program.proofs.Ops.{end-place}
 use Rattle.program.proofs.Records.{all-linked, length-read, length-same, path-same, record-place, records, text-length}
 use Rattle.program.proofs.Tests.{and-assoc, and-one}
 
--- ---- an instruction, by its fields
-
-seven : (a b c d e f g : Bool) → (a && (b && ((c && (d && (e && f))) && g))) ≡ (a && b && c && d && e && f && g)
-seven true true true true true f g = refl
-seven true true true true false f g = refl
-seven true true true false e f g = refl
-seven true true false d e f g = refl
-seven true false c d e f g = refl
-seven false b c d e f g = refl
-
-pub slot-is : (b : List ℕ) (n paths : ℕ) (r : Slot) → r ≡ slot-of b n → paths ≡ path-total b → slot-fields-ok r paths ≡ slot-ok b n
-unfolding slot-fields-ok slot-ok unused-zero slot-of
-slot-is b n paths r e f =
-    let o = byte-at b (slot-at n) in
-    rw (e, f)
-    (seven (ltb o 35) (eqb (byte-at b (slot-at n + 1)) 0) (zero-unless (uses-list o) (half-at b (slot-at n + 2))) (zero-unless (uses-a o) (word-at b (slot-at n + 8)))
-    (zero-unless (uses-b o) (word-at b (slot-at n + 12))) (zero-unless (uses-c o) (word-at b (slot-at n + 16))) (ltb (path-number b n) (path-total b)))
-
-pub slot-op : (r : Slot) (paths : ℕ) → slot-fields-ok r paths ≡ true → r .op < 35
-unfolding slot-fields-ok
-slot-op r paths e = ltb-true _ _ (and-l (ltb (r .op) 35) _ e)
-
-pub list-is : (b : List ℕ) (n next : ℕ) (r : Slot) → r ≡ slot-of b n → list-fields-ok r next ≡ list-ok b n next
-unfolding list-fields-ok list-ok slot-of
-list-is b n next r e = rw e
+-- ---- an instruction
 
 slot-path : (b : List ℕ) (n : ℕ) → slot-ok b n ≡ true → path-number b n < path-total b
-unfolding slot-fields-ok slot-of
+unfolding slot-ok
 slot-path b n e =
+    let o = byte-at b (slot-at n) in
     ltb-true _ _
-    (and-r (unused-zero (slot-of b n)) _ (and-r (eqb (byte-at b (slot-at n + 1)) 0) _ (and-r (ltb (byte-at b (slot-at n)) 35) _ (slot-is b n (path-total b) (slot-of b n) refl refl ∙ e))))
+    (and-r (ltb o 35 && eqb (byte-at b (slot-at n + 1)) 0 && zero-unless (uses-list o) (half-at b (slot-at n + 2)) && zero-unless (uses-a o) (word-at b (slot-at n + 8))
+    && zero-unless (uses-b o) (word-at b (slot-at n + 12)) && zero-unless (uses-c o) (word-at b (slot-at n + 16))) _ e)
 
-module _ (b : List ℕ) (n : ℕ) (h : Header) (r : Slot) (eh : h ≡ header-of b) (er : r ≡ slot-of b n) where
-  pub count-is : r .count ≡ half-at b (slot-at n + 2)
-  unfolding slot-of
-  count-is = ap (λ (x : Slot). x .count) er
+-- the list's length, as the first four bytes have it
+pub count-is : (b : List ℕ) (n row head : ℕ) → row ≡ slot-at n → Read b row head → head / 65536 ≡ half-at b (slot-at n + 2)
+unfolding word-at
+count-is b n row head e r =
+    let w : head ≡ half-at b (slot-at n) + 65536 * half-at b (slot-at n + 2) = r .is ∙ ap (word-at b) e in
+    let l : half-at b (slot-at n) < 65536 = rw e at (r .low) in
+    omega arith
 
-  pub list-fits : (next : ℕ) → leb (next + r .count) (h .entries) ≡ leb (next + half-at b (slot-at n + 2)) (entry-total b)
-  list-fits next = ap₂ (λ (x y : ℕ). leb (next + x) y) count-is (entries-is b h eh)
+-- destination and path, as they are read
+module _ (b : List ℕ) (h : Header) (n row : ℕ) (w : Whole b h) (e : row ≡ slot-at n) {d : ℕ} (rd : Read b (row + 4) d) where
+  destination-is : d ≡ destination-at b n
+  unfolding destination-at
+  destination-is = rd .is ∙ ap (λ (x : ℕ). word-at b (x + 4)) e
 
-  pub destination-fits : ltb (r .destination) (h .registers) ≡ ltb (destination-at b n) (register-total b)
-  unfolding slot-of
-  destination-fits = ap₂ (λ (x y : ℕ). ltb x y) (ap (λ (x : Slot). x .destination) er) (registers-is b h eh)
+  pub no-destination : h .registers ≤ d → false ≡ placed-ok b n
+  unfolding placed-ok
+  no-destination k = rw (le-ltb (destination-at b n) (register-total b) (omega (arith, destination-is, w .numbers .registers)))
 
-  pub path-fits : (x : ℕ) → x ≡ word-at b (32 + 24 * h .code + 12 * r .path + 8) → leb x 8192 ≡ leb (length-at b (path-number b n)) path-room
-  unfolding slot-of
-  path-fits x e =
-      let k : r .path ≡ path-number b n = ap (λ (x : Slot). x .path) er in
-      ap (λ (y : ℕ). leb y 8192) (length-read b (r .path) _ (ap (λ (y : ℕ). y + 8) (record-place b h (r .path) eh)) e ∙ ap (length-at b) k)
+  module _ {k : ℕ} (rk : Read b (row + 20) k) (l : d < h .registers) where
+    path-is : k ≡ path-number b n
+    unfolding path-number
+    path-is = rk .is ∙ ap (λ (x : ℕ). word-at b (x + 20)) e
+
+    there : ltb (destination-at b n) (register-total b) ≡ true
+    there = lt-ltb (destination-at b n) (register-total b) (omega (arith, destination-is, w .numbers .registers))
+
+    pub no-path : h .paths ≤ k → false ≡ placed-ok b n
+    unfolding placed-ok
+    no-path m = rw (there, le-ltb (path-number b n) (path-total b) (omega (arith, path-is, w .numbers .paths)))
+
+    pub placed-is : k < h .paths → {x : ℕ} → Read b (32 + 24 * h .code + 12 * k + 8) x → leb x 8192 ≡ placed-ok b n
+    unfolding placed-ok
+    placed-is m rx =
+        let f = length-read b k _ (ap (λ (y : ℕ). y + 8) (record-place b h k (w .numbers))) (rx .is) ∙ ap (length-at b) path-is in
+        rw (there, lt-ltb (path-number b n) (path-total b) (omega (arith, path-is, w .numbers .paths)), f)
 
 -- ---- all of them
 
@@ -100,22 +94,26 @@ module _ (b : List ℕ) where
 
   -- the entry after an instruction's list is inside
   pub entries-in : (n next c : ℕ) → c ≡ half-at b (slot-at n + 2) → instruction-ok b n next ≡ true → next + c ≤ entry-total b
-  unfolding instruction-ok named-ok
+  unfolding instruction-ok operands-ok
   entries-in n next c e ok =
-      let l = leb-true (next + half-at b (slot-at n + 2)) (entry-total b) (and-l _ _ (and-r (list-ok b n next) _ (and-r (slot-ok b n) _ ok))) in
+      let l = leb-true (next + half-at b (slot-at n + 2)) (entry-total b) (and-l _ _ (and-r (list-ok b n next) _ (and-r (slot-ok b n) _ (and-r (placed-ok b n) _ ok)))) in
       omega arith
 
   -- an instruction's path is one of the records, and its text has at most 8,192 bytes
   abbrev pub Named : ℕ → Type 0
   Named n = (path-number b n < path-total b) × (length-at b (path-number b n) ≤ 8192)
 
+  pub placed-named : (n : ℕ) → placed-ok b n ≡ true → Named n
+  unfolding placed-ok
+  placed-named n ok =
+      let q = and-r (ltb (destination-at b n) (register-total b)) _ ok in (
+        ltb-true _ _ (and-l _ _ q),
+        leb-true (length-at b (path-number b n)) path-room (and-r (ltb (path-number b n) (path-total b)) _ q),
+      )
+
   named : (n next : ℕ) → instruction-ok b n next ≡ true → Named n
-  unfolding instruction-ok named-ok
-  named n next ok = (
-    slot-path b n (and-l _ _ ok),
-    leb-true (length-at b (path-number b n)) path-room
-        (and-l _ _ (and-r (ltb (destination-at b n) (register-total b)) _ (and-r (leb (next + half-at b (slot-at n + 2)) (entry-total b)) _ (and-r (list-ok b n next) _ (and-r (slot-ok b n) _ ok))))),
-  )
+  unfolding instruction-ok
+  named n next ok = placed-named n (and-l _ _ ok)
 
   -- entries only become more
   slots-room : (left n next : ℕ) → slots-ok b left n next ≡ true → next ≤ entry-total b
@@ -124,21 +122,22 @@ module _ (b : List ℕ) where
       let l = slots-room left (suc n) (next + half-at b (slot-at n + 2)) (and-r (slot-ok b n && list-ok b n next) _ e) in
       omega arith
 
-  shuffle : (ro lo fit de le le′ op i q l : Bool) → (ro ≡ true → le ≡ le′) → (q ≡ true → fit ≡ true) → i ≡ (q && l)
-      → ((ro && (lo && (fit && (de && (le && op))))) && i) ≡ ((ro && lo && q) && ((de && le′ && op) && l))
-  shuffle false lo fit de le le′ op i q l f g e = refl
-  shuffle true false fit de le le′ op i q l f g e = refl
-  shuffle true true fit de le le′ op i true l f g e = rw (g refl, f refl, e) (ap (λ x. x && l) (sym (and-assoc de le′ op)))
-  shuffle true true fit de le le′ op i false l f g e = rw e (and-false (fit && (de && (le && op))))
+  shuffle : (de pa le le′ ro lo fit op i q l : Bool) → (ro ≡ true → pa ≡ true) → (ro ≡ true → le ≡ le′) → (q ≡ true → fit ≡ true) → i ≡ (q && l)
+      → (((de && (pa && le)) && (ro && (lo && (fit && op)))) && i) ≡ ((ro && lo && q) && ((de && le′ && op) && l))
+  shuffle de pa le le′ false lo fit op i q l f g k e = rw (and-false (de && (pa && le)))
+  shuffle de pa le le′ true false fit op i q l f g k e = rw (and-false (de && (pa && le)))
+  shuffle de pa le le′ true true fit op i true l f g k e = rw (f refl, g refl, k refl, e)
+  shuffle de pa le le′ true true fit op i false l f g k e = rw e (and-false ((de && (pa && le)) && (fit && op)))
 
   pass : (left n next : ℕ) → records-ok b (path-total b) 0 ≡ true
       → instructions-ok b left n next ≡ (slots-ok b left n next && all-allowed (raw-program b) n (instructions b left n))
-  unfolding instruction-ok named-ok raw-program
+  unfolding instruction-ok placed-ok operands-ok raw-program
   pass zero n next ok = sym (and-one (eqb next (entry-total b)))
   pass (suc left) n next ok =
-      shuffle (slot-ok b n) (list-ok b n next) (leb (next + half-at b (slot-at n + 2)) (entry-total b)) (ltb (destination-at b n) (register-total b))
-      (leb (length-at b (path-number b n)) path-room) (leb (length (text (path-of b (path-number b n)))) path-room) (op-allowed (raw-program b) n (op-at b n))
+      shuffle (ltb (destination-at b n) (register-total b)) (ltb (path-number b n) (path-total b)) (leb (length-at b (path-number b n)) path-room) (leb (length (text (path-of b (path-number b n)))) path-room)
+      (slot-ok b n) (list-ok b n next) (leb (next + half-at b (slot-at n + 2)) (entry-total b)) (op-allowed (raw-program b) n (op-at b n))
       (instructions-ok b left (suc n) (next + half-at b (slot-at n + 2))) (slots-ok b left (suc n) (next + half-at b (slot-at n + 2))) (all-allowed (raw-program b) (suc n) (instructions b left (suc n)))
+      (λ r. lt-ltb (path-number b n) (path-total b) (slot-path b n r))
       (λ r. ap (λ (x : ℕ). leb x path-room) (sym (text-length b ok (path-number b n) (slot-path b n r))))
       (λ r. le-leb (next + half-at b (slot-at n + 2)) (entry-total b) (slots-room left (suc n) (next + half-at b (slot-at n + 2)) r))
       (pass left (suc n) (next + half-at b (slot-at n + 2)) ok)
@@ -199,17 +198,34 @@ module _ (b : List ℕ) where
   pub valid-records : valid (program-at b) ≡ true → records-ok b (path-total b) 0 ≡ true
   valid-records v = and-l _ _ (and-r (header-ok b) _ (valid-is ∙ v))
 
+-- all parts are there
+pub header-room : (b : List ℕ) → header-ok b ≡ true → entry-at b (entry-total b) ≤ length b
+unfolding header-ok
+header-room b e =
+    leb-true _ _ (and-l _ _ (and-r (ltb (word-at b 20) 2) _ (and-r (eqb (word-at b 0) magic) _ (and-r (leb 32 (length b)) _ e))))
+
+pub whole-from : (b : List ℕ) (h : Header) → Numbers b h → header-ok b ≡ true → Whole b h
+whole-from b h w e = record { numbers = w; room = omega (arith, end-place b h w, header-room b e) }
+
+pub short-header : (b : List ℕ) → length b < 32 → false ≡ header-ok b
+unfolding header-ok
+short-header b l = rw (lt-leb 32 (length b) l)
+
+pub valid-size : (b : List ℕ) → valid (program-at b) ≡ true → 32 + 24 * code-count b + 12 * path-total b ≤ length b
+unfolding entry-at
+valid-size b v = let r = header-room b (and-l _ _ (valid-is b ∙ v)) in omega arith
+
 -- ---- the table that the paths' text is written from
 
-module _ (b : List ℕ) (h : Header) (e : h ≡ header-of b) (k : ℕ) where
-  from : 32 + 24 * h .code ≡ records b
-  from = ap (λ (x : ℕ). 32 + 24 * x) (code-is b h e)
+module _ (b : List ℕ) (code k : ℕ) (e : code ≡ code-count b) where
+  from : 32 + 24 * code ≡ records b
+  from = ap (λ (x : ℕ). 32 + 24 * x) e
 
-  pub linked-from : valid (program-at b) ≡ true → k < path-total b → Linked b (32 + 24 * h .code) k
+  pub linked-from : valid (program-at b) ≡ true → k < path-total b → Linked b (32 + 24 * code) k
   linked-from v l = subst (λ (f : ℕ). Linked b f k) (sym from) (all-linked b (valid-records b v) k l)
 
-  pub length-from : length-in b (32 + 24 * h .code) k ≡ length-at b k
+  pub length-from : length-in b (32 + 24 * code) k ≡ length-at b k
   length-from = ap (λ (f : ℕ). length-in b f k) from ∙ length-same b k
 
-  pub path-from : path-in-table b (32 + 24 * h .code) k ≡ path-of b k
+  pub path-from : path-in-table b (32 + 24 * code) k ≡ path-of b k
   path-from = ap (λ (f : ℕ). path-in-table b f k) from ∙ path-same b k

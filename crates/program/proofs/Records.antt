@@ -18,9 +18,8 @@ use Rattle.layout.specs.Decode.{code-count, length-at, parent-at, path-in, path
 use Rattle.paths.specs.Table.{Linked, climbed, length-in, linked, parent-in, path-in-table, step-in}
 use Rattle.paths.proofs.Climb.{path-length}
 use Rattle.program.specs.declared.Header.{Header}
-use Rattle.program.specs.Fields.{header-of}
-use Rattle.program.specs.Check.{root-record-ok}
-use Rattle.program.proofs.Tests.{and-assoc}
+use Rattle.program.specs.Check.{Numbers}
+use Rattle.program.proofs.Tests.{and-assoc, one-of}
 use Rattle.layout.proofs.Frames.{record-is-ok}
 
 module _ (b : List ℕ) where
@@ -28,15 +27,15 @@ module _ (b : List ℕ) where
   abbrev pub records : ℕ
   records = 32 + 24 * code-count b
 
-  pub record-place : (h : Header) (k : ℕ) → h ≡ header-of b → 32 + 24 * h .code + 12 * k ≡ record-at b k
-  unfolding record-at header-of
-  record-place h k e = omega (arith, ap (λ (x : Header). x .code) e)
+  pub record-place : (h : Header) (k : ℕ) → Numbers b h → 32 + 24 * h .code + 12 * k ≡ record-at b k
+  unfolding record-at
+  record-place h k e = omega arith
 
   -- ---- a record's test
 
-  pub root-is : (at k : ℕ) → k ≡ 0 → at ≡ record-at b 0 → root-record-ok b at ≡ record-ok b k
-  unfolding root-record-ok record-ok length-at
-  root-is at k z e = rw (eq-eqb k 0 z, e) (sym (and-assoc (eqb (word-at b (record-at b 0)) 0) (eqb (word-at b (record-at b 0 + 4)) 0) (eqb (word-at b (record-at b 0 + 8)) 4)))
+  pub root-is : (at : ℕ) → at ≡ record-at b 0 → (eqb (word-at b at) 0 && (eqb (word-at b (at + 4)) 0 && eqb (word-at b (at + 8)) 4)) ≡ record-ok b 0
+  unfolding record-ok length-at
+  root-is at e = rw e (sym (and-assoc (eqb (word-at b (record-at b 0)) 0) (eqb (word-at b (record-at b 0 + 4)) 0) (eqb (word-at b (record-at b 0 + 8)) 4)))
 
   pub late-is : (k parent : ℕ) → (k ≡ 0 → ⊥) → parent ≡ parent-at b k → k ≤ parent → false ≡ record-ok b k
   unfolding record-ok
@@ -67,9 +66,12 @@ module _ (b : List ℕ) where
   unfoldable pub records-left : ℕ → Bool
   records-left k = records-ok b (path-total b - k) k
 
-  pub records-start : records-left 0 ≡ records-ok b (path-total b) 0
+  pub records-first : records-left 1 ≡ records-ok b (path-total b - 1) 1
   unfolding records-left
-  records-start = let e : path-total b - 0 ≡ path-total b = omega arith in rw e
+  records-first = refl
+
+  pub records-some : 0 < path-total b → (record-ok b 0 && records-ok b (path-total b - 1) 1) ≡ records-ok b (path-total b) 0
+  records-some h = let e : path-total b ≡ suc (path-total b - 1) = omega arith in sym (ap (λ (x : ℕ). records-ok b x 0) e)
 
   pub records-step : (k : ℕ) → k < path-total b → records-left k ≡ (record-ok b k && records-left (k + 1))
   unfolding records-left
@@ -117,3 +119,8 @@ module _ (b : List ℕ) where
 
   pub text-length : records-ok b (path-total b) 0 ≡ true → (k : ℕ) → k < path-total b → length (text (path-of b k)) ≡ length-at b k
   text-length ok k h = ap (λ (p : Path). length (text p)) (sym (path-same k)) ∙ path-length b records k (all-linked ok k h) ∙ length-same k
+
+-- a step to one of the first ten arguments
+pub short-step : (step : ℕ) → 3 ≤ step → step < 13 → 13 ≡ length (step-text (step-of step))
+short-step step h l =
+    one-of (λ (m : ℕ). 13 ≡ length (step-text (step-of m))) 10 3 step h l (refl, (refl, (refl, (refl, (refl, (refl, (refl, (refl, (refl, (refl, tt))))))))))

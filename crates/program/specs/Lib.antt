@@ -1,3 +1,2 @@
--- What is read of a program's bytes, and the check of it.
-pub mod Fields
+-- The check of a program's bytes.
 pub mod Check

@@ -1,18 +1,19 @@
 // The check of a program's bytes (docs/PROGRAM.md): "10, not a program: bytes that docs/PROGRAM.md doesn't allow, no
 // instruction at all, a register, input, list or target outside its range (a target may be the code's end), a jump not
-// forward, or a path above 8,192 bytes". Each record, instruction and list entry is looked at once.
+// forward, or a path above 8,192 bytes". Each record, instruction and list entry is looked at once. The header tells how
+// long the whole is; after one test of that length every field is known to be there.
 ghost use mathlib.Core.Path.{_≡_};
 ghost use mathlib.Core.Bool.{true, _&&_};
 ghost use mathlib.Core.Option.{some};
-ghost use Prim.Native.Nat.{_<_, _≤_};
-ghost use lib.Dec.{leb, ltb};
+ghost use Prim.Native.Nat.{_+_, _*_, _-_, _<_, _≤_};
+ghost use lib.Dec.{eqb, leb, ltb};
 ghost use lib.ListN.{length};
 ghost use Rattle.formula.specs.Text.{word-at};
-ghost use Rattle.formula.specs.Path.{placed};
-ghost use Rattle.machine.specs.Program.{all-below, op-allowed, valid};
-ghost use Rattle.layout.specs.Decode.{code-count, entries-from, length-at, op-at, path-of, path-total, program-at, raw-program, record-ok, records-ok, uses-b, uses-c, uses-list, zero-unless};
-ghost use Rattle.program.specs.Fields.{header-of, slot-of};
-ghost use Rattle.program.specs.Check.{Fits-header, Fits-slot, header-ok, instruction-ok, instructions-ok, list-fields-ok, named-ok, root-record-ok, slot-fields-ok, unused-zero, first-ops-ok};
+ghost use Rattle.formula.specs.Path.{placed, step-text};
+ghost use Rattle.machine.specs.Program.{all-below, valid};
+ghost use Rattle.layout.specs.Opcode.{step-of};
+ghost use Rattle.layout.specs.Decode.{code-count, entries-from, length-at, path-of, path-total, program-at, record-ok, records-ok};
+ghost use Rattle.program.specs.Check.{Fits-header, Numbers, Read, Row, Whole, header-ok, instruction-ok, instructions-ok, operands-ok, placed-ok};
 use layout::CODE_AT;
 use layout::ENTRIES_AT;
 use layout::ENTRY_SIZE;
@@ -24,8 +25,7 @@ use layout::RECORD_SIZE;
 use layout::REGISTERS_AT;
 use layout::RESULT_AT;
 use layout::SLOT_SIZE;
-use reader::byte;
-use reader::half;
+use reader::wide;
 
 // A number of 4 bytes, as `reader` gives it.
 pub fn word(p: &[u8], at: usize) -> usize
@@ -34,84 +34,105 @@ pub fn word(p: &[u8], at: usize) -> usize
     reader::word(p, at)
 }
 
-// The numbers of the header.
-pub struct Header {
-    pub code: usize,
-    pub registers: usize,
-    pub result: usize,
-    pub inputs: usize,
-    pub paths: usize,
-    pub entries: usize,
+// A number of 4 bytes that are there: one load, without a test.
+fn field(p: &[u8], at: usize) -> usize
+    requires { ⌜ at + 4 ≤ length (now p) ⌝ }
+    ensures { λ r. ⌜ Read (now (p .entry)) at r ⌝ }
+{
+    wide(p[at]) + 256 * wide(p[at + 1]) + 65536 * wide(p[at + 2]) + 16777216 * wide(p[at + 3])
 }
 
-pub fn read_header(p: &[u8]) -> Header
-    ensures { λ r. ⌜ (r ≡ header-of (now (p .entry))) × Fits-header r ⌝ }
+// ---- header
+
+// The numbers of the header.
+struct Header {
+    code: usize,
+    registers: usize,
+    inputs: usize,
+    paths: usize,
+    entries: usize,
+}
+
+fn read_header(p: &[u8]) -> Header
+    requires { ⌜ 32 ≤ length (now p) ⌝ }
+    ensures { λ r. ⌜ Numbers (now (p .entry)) r × Fits-header r ⌝ }
 {
     Header {
-        code: word(p, CODE_AT),
-        registers: word(p, REGISTERS_AT),
-        result: word(p, RESULT_AT),
-        inputs: word(p, INPUTS_AT),
-        paths: word(p, PATHS_AT),
-        entries: word(p, ENTRIES_AT),
+        code: field(p, CODE_AT),
+        registers: field(p, REGISTERS_AT),
+        inputs: field(p, INPUTS_AT),
+        paths: field(p, PATHS_AT),
+        entries: field(p, ENTRIES_AT),
     }
 }
 
 fn header_ok(p: &[u8], h: Header) -> bool
-    requires { ⌜ (h ≡ header-of (now p)) × Fits-header h ⌝ }
+    requires { ⌜ (32 ≤ length (now p)) × Numbers (now p) h × Fits-header h ⌝ }
     ensures { λ r. ⌜ r ≡ header-ok (now (p .entry)) ⌝ }
 {
-    if p.len() < HEADER_SIZE {
+    if field(p, 0) != 0x3152_4256 {
         return false;
     }
-    if word(p, 0) != 0x3152_4256 {
-        return false;
-    }
-    if 1 < word(p, KIND_AT) {
+    if 1 < field(p, KIND_AT) {
         return false;
     }
     if p.len() < HEADER_SIZE + SLOT_SIZE * h.code + RECORD_SIZE * h.paths + ENTRY_SIZE * h.entries {
         return false;
     }
-    0 < h.code && h.result < h.registers
+    0 < h.code && field(p, RESULT_AT) < h.registers
 }
 
 // ---- path records
 
-fn root_ok(p: &[u8], at: usize) -> bool
-    requires { ⌜ at < 1099511627776 ⌝ }
-    ensures { λ r. ⌜ r ≡ root-record-ok (now (p .entry)) at ⌝ }
+// How many bytes the text of a step has; most steps are one of the first ten arguments.
+fn step_length(step: usize) -> usize
+    requires { ⌜ step < 4294967296 ⌝ }
+    ensures { λ r. ⌜ (r ≡ length (step-text (step-of step))) × (r ≤ 8589934592) ⌝ }
 {
-    word(p, at) == 0 && (word(p, at + 4) == 0 && word(p, at + 8) == 4)
+    if 3 <= step {
+        if step < 13 {
+            return 13;
+        }
+    }
+    paths::step_length(step)
 }
 
-fn record_ok(p: &[u8], h: Header, k: usize) -> bool
-    requires { ⌜ (h ≡ header-of (now p)) × Fits-header h × (k < 4294967296) ⌝ }
+fn root_ok(p: &[u8], h: Header) -> bool
+    requires { ⌜ Whole (now p) h × (0 < h .paths) ⌝ }
+    ensures { λ r. ⌜ r ≡ record-ok (now (p .entry)) 0 ⌝ }
+{
+    let at = HEADER_SIZE + SLOT_SIZE * h.code;
+    field(p, at) == 0 && (field(p, at + 4) == 0 && field(p, at + 8) == 4)
+}
+
+// Record k, which begins at a byte, is not the root's.
+fn record_ok(p: &[u8], h: Header, k: usize, at: usize) -> bool
+    requires { ⌜ Whole (now p) h × (0 < k) × (k < h .paths) × (at ≡ 32 + 24 * h .code + 12 * k) ⌝ }
     ensures { λ r. ⌜ r ≡ record-ok (now (p .entry)) k ⌝ }
 {
-    let first = HEADER_SIZE + SLOT_SIZE * h.code;
-    if k == 0 {
-        return root_ok(p, first);
-    }
-    let parent = word(p, first + RECORD_SIZE * k);
+    let parent = field(p, at);
     if k <= parent {
         return false;
     }
-    let before = word(p, first + RECORD_SIZE * parent + 8);
-    let step = paths::step_length(word(p, first + RECORD_SIZE * k + 4));
-    word(p, first + RECORD_SIZE * k + 8) == before + step
+    let before = field(
+        p,
+        HEADER_SIZE + SLOT_SIZE * h.code + RECORD_SIZE * parent + 8,
+    );
+    field(p, at + 8) == before + step_length(field(p, at + 4))
 }
 
-fn all_records_ok(p: &[u8], h: Header) -> bool
-    requires { ⌜ (h ≡ header-of (now p)) × Fits-header h ⌝ }
-    ensures { λ r. ⌜ r ≡ records-ok (now (p .entry)) (path-total (now (p .entry))) 0 ⌝ }
+fn later_records_ok(p: &[u8], h: Header) -> bool
+    requires { ⌜ Whole (now p) h × (0 < h .paths) ⌝ }
+    ensures { λ r. ⌜ r ≡ records-ok (now (p .entry)) (path-total (now (p .entry)) - 1) 1 ⌝ }
 {
     let paths = h.paths;
-    let mut k = 0;
+    let mut k = 1;
+    let mut at = HEADER_SIZE + SLOT_SIZE * h.code + RECORD_SIZE;
     while k < paths {
-        let ok = record_ok(p, h, k);
+        let ok = record_ok(p, h, k, at);
         if ok {
             k += 1;
+            at += RECORD_SIZE;
         } else {
             return false;
         }
@@ -119,107 +140,95 @@ fn all_records_ok(p: &[u8], h: Header) -> bool
     true
 }
 
-// ---- instructions
-
-// The fields of an instruction.
-pub struct Slot {
-    pub op: u8,
-    pub zero: u8,
-    pub count: usize,
-    pub destination: usize,
-    pub a: usize,
-    pub b: usize,
-    pub c: usize,
-    pub path: usize,
-}
-
-pub fn read_slot(p: &[u8], n: usize) -> Slot
-    requires { ⌜ n < 4294967296 ⌝ }
-    ensures { λ r. ⌜ (r ≡ slot-of (now (p .entry)) n) × Fits-slot r ⌝ }
+fn all_records_ok(p: &[u8], h: Header) -> bool
+    requires { ⌜ Whole (now p) h ⌝ }
+    ensures { λ r. ⌜ r ≡ records-ok (now (p .entry)) (path-total (now (p .entry))) 0 ⌝ }
 {
-    let at = HEADER_SIZE + SLOT_SIZE * n;
-    Slot {
-        op: byte(p, at),
-        zero: byte(p, at + 1),
-        count: half(p, at + 2),
-        destination: word(p, at + 4),
-        a: word(p, at + 8),
-        b: word(p, at + 12),
-        c: word(p, at + 16),
-        path: word(p, at + 20),
-    }
-}
-
-fn lists(op: u8) -> bool
-    ensures { λ r. ⌜ r ≡ uses-list op ⌝ }
-{
-    op == 31 || op == 32
-}
-
-fn reads_b(op: u8) -> bool
-    ensures { λ r. ⌜ r ≡ uses-b op ⌝ }
-{
-    if op == 0 {
+    if h.paths == 0 {
         return true;
     }
-    if op < 8 {
+    root_ok(p, h) && later_records_ok(p, h)
+}
+
+// ---- instructions
+
+// The destination and the path of instruction n, which begins at the byte `row`, are there.
+fn placed_ok(p: &[u8], h: Header, n: usize, row: usize) -> bool
+    requires { ⌜ Whole (now p) h × (n < h .code) × (row ≡ 32 + 24 * n) ⌝ }
+    ensures { λ r. ⌜ r ≡ placed-ok (now (p .entry)) n ⌝ }
+{
+    if h.registers <= field(p, row + 4) {
         return false;
     }
-    op <= 19 || 33 <= op
-}
-
-fn reads_c(op: u8) -> bool
-    ensures { λ r. ⌜ r ≡ uses-c op ⌝ }
-{
-    op == 3 || (op == 4 || 33 <= op)
-}
-
-fn zero_unless(used: bool, n: usize) -> bool
-    ensures { λ r. ⌜ r ≡ zero-unless used n ⌝ }
-{
-    used || n == 0
-}
-
-// "unused fields zero"
-fn unused_zero(r: Slot) -> bool
-    ensures { λ x. ⌜ x ≡ unused-zero r ⌝ }
-{
-    let op = r.op;
-    zero_unless(lists(op), r.count)
-        && (zero_unless(op != 4, r.a)
-            && (zero_unless(reads_b(op), r.b) && zero_unless(reads_c(op), r.c)))
-}
-
-// The opcode, the zero after it, unused fields, and a path number that there is.
-fn slot_ok(r: Slot, paths: usize) -> bool
-    ensures { λ x. ⌜ x ≡ slot-fields-ok r paths ⌝ }
-{
-    r.op < 35 && (r.zero == 0 && (unused_zero(r) && r.path < paths))
-}
-
-// The list of a Min or Max begins where the last one ended, and has two entries at least.
-fn list_ok(r: Slot, next: usize) -> bool
-    ensures { λ x. ⌜ x ≡ list-fields-ok r next ⌝ }
-{
-    let listed = lists(r.op);
-    if listed {
-        return r.a == next && 2 <= r.count;
+    let path = field(p, row + 20);
+    if h.paths <= path {
+        return false;
     }
-    true
+    field(p, HEADER_SIZE + SLOT_SIZE * h.code + RECORD_SIZE * path + 8) <= 8192
 }
 
-// All registers of the list are there.
-fn list_below(p: &[u8], h: Header, r: Slot) -> bool
-    requires { ⌜ (h ≡ header-of (now p)) × Fits-header h × Fits-slot r ⌝ }
-    ensures { λ x. ⌜ x ≡ all-below (h .registers) (entries-from (now (p .entry)) (r .count) (r .a)) ⌝ }
+// One operand, two or three below a limit; those unused are zero.
+fn single_ok(p: &[u8], row: usize, limit: usize) -> bool
+    requires { ⌜ row + 24 ≤ length (now p) ⌝ }
+    ensures { λ r. ⌜ r ≡ (eqb (word-at (now (p .entry)) (row + 12)) 0 && (eqb (word-at (now (p .entry)) (row + 16)) 0 && ltb (word-at (now (p .entry)) (row + 8)) limit)) ⌝ }
 {
-    let first = HEADER_SIZE + SLOT_SIZE * h.code + RECORD_SIZE * h.paths;
+    field(p, row + 12) == 0 && (field(p, row + 16) == 0 && field(p, row + 8) < limit)
+}
+
+fn pair_ok(p: &[u8], row: usize, limit: usize) -> bool
+    requires { ⌜ row + 24 ≤ length (now p) ⌝ }
+    ensures { λ r. ⌜ r ≡ (eqb (word-at (now (p .entry)) (row + 16)) 0 && (ltb (word-at (now (p .entry)) (row + 8)) limit && ltb (word-at (now (p .entry)) (row + 12)) limit)) ⌝ }
+{
+    field(p, row + 16) == 0 && (field(p, row + 8) < limit && field(p, row + 12) < limit)
+}
+
+fn triple_ok(p: &[u8], row: usize, limit: usize) -> bool
+    requires { ⌜ row + 24 ≤ length (now p) ⌝ }
+    ensures { λ r. ⌜ r ≡ (ltb (word-at (now (p .entry)) (row + 8)) limit && (ltb (word-at (now (p .entry)) (row + 12)) limit && ltb (word-at (now (p .entry)) (row + 16)) limit)) ⌝ }
+{
+    field(p, row + 8) < limit && (field(p, row + 12) < limit && field(p, row + 16) < limit)
+}
+
+// A jump of instruction n goes forward, to the code's end at most.
+fn forward(p: &[u8], n: usize, row: usize, code: usize) -> bool
+    requires { ⌜ row + 24 ≤ length (now p) ⌝ }
+    ensures { λ r. ⌜ r ≡ (ltb n (word-at (now (p .entry)) (row + 16)) && leb (word-at (now (p .entry)) (row + 16)) code) ⌝ }
+{
+    let target = field(p, row + 16);
+    n < target && target <= code
+}
+
+// Opcodes below 8: constant, load, copy, the jumps, and the operations of one register.
+fn first_ok(p: &[u8], h: Header, n: usize, row: usize, head: usize, next: usize) -> bool
+    requires { ⌜ Row (now p) h n row head next × (head < 8) ⌝ }
+    ensures { λ r. ⌜ r ≡ operands-ok (now (p .entry)) n next ⌝ }
+{
+    if head == 1 {
+        return single_ok(p, row, h.inputs);
+    }
+    if head == 0 {
+        return field(p, row + 16) == 0;
+    }
+    if head == 3 {
+        return field(p, row + 12) == 0
+            && (field(p, row + 8) < h.registers && forward(p, n, row, h.code));
+    }
+    if head == 4 {
+        return field(p, row + 8) == 0 && (field(p, row + 12) == 0 && forward(p, n, row, h.code));
+    }
+    single_ok(p, row, h.registers)
+}
+
+// All registers of the list from entry `next` on are there.
+fn list_below(p: &[u8], h: Header, next: usize, count: usize) -> bool
+    requires { ⌜ Whole (now p) h × (next + count ≤ h .entries) ⌝ }
+    ensures { λ r. ⌜ r ≡ all-below (h .registers) (entries-from (now (p .entry)) count next) ⌝ }
+{
+    let first = HEADER_SIZE + SLOT_SIZE * h.code + RECORD_SIZE * h.paths + ENTRY_SIZE * next;
     let registers = h.registers;
-    let a = r.a;
-    let count = r.count;
     let mut i = 0;
     while i < count {
-        if word(p, first + ENTRY_SIZE * (a + i)) < registers {
+        if field(p, first + ENTRY_SIZE * i) < registers {
             i += 1;
         } else {
             return false;
@@ -228,83 +237,78 @@ fn list_below(p: &[u8], h: Header, r: Slot) -> bool
     true
 }
 
-fn forward(n: usize, target: usize, code: usize) -> bool
-    ensures { λ r. ⌜ r ≡ (ltb n target && leb target code) ⌝ }
+// Min and Max: the list begins where the last one ended, and has two entries at least. No other opcode has a count.
+fn list_ok(p: &[u8], h: Header, n: usize, row: usize, head: usize, next: usize) -> bool
+    requires { ⌜ Row (now p) h n row head next × (31 ≤ head) × (33 ≤ head → 35 ≤ head) ⌝ }
+    ensures { λ r. ⌜ r ≡ operands-ok (now (p .entry)) n next ⌝ }
 {
-    n < target && target <= code
-}
-
-// Opcodes below 8: constant, load, copy, the jumps, and the operations of one register.
-fn first_ops_ok(h: Header, n: usize, r: Slot) -> bool
-    requires { ⌜ r .op < 8 ⌝ }
-    ensures { λ x. ⌜ x ≡ first-ops-ok h n r ⌝ }
-{
-    let op = r.op;
-    match op {
-        0 => true,
-        1 => r.a < h.inputs,
-        3 => r.a < h.registers && forward(n, r.c, h.code),
-        4 => forward(n, r.c, h.code),
-        _ => r.a < h.registers,
-    }
-}
-
-// What the operation reads is there, and a jump goes forward.
-fn op_ok(p: &[u8], h: Header, n: usize, r: Slot) -> bool
-    requires { ⌜ (h ≡ header-of (now p)) × Fits-header h × (r ≡ slot-of (now p) n) × Fits-slot r × (r .op < 35) ⌝ }
-    ensures { λ x. ⌜ x ≡ op-allowed (raw-program (now (p .entry))) n (op-at (now (p .entry)) n) ⌝ }
-{
-    let op = r.op;
-    if op < 8 {
-        return first_ops_ok(h, n, r);
-    }
-    if op < 20 {
-        return r.a < h.registers && r.b < h.registers;
-    }
+    let op = head % 65536;
     if op < 31 {
-        return r.a < h.registers;
+        return false;
     }
-    if op < 33 {
-        return list_below(p, h, r);
+    if 32 < op {
+        return false;
     }
-    r.a < h.registers && (r.b < h.registers && r.c < h.registers)
+    let count = head / 65536;
+    field(p, row + 12) == 0
+        && (field(p, row + 16) == 0
+            && (field(p, row + 8) == next
+                && (2 <= count && (next + count <= h.entries && list_below(p, h, next, count)))))
 }
 
-// What an instruction names is inside the program: list, destination, path, operands.
-fn named_ok(p: &[u8], h: Header, n: usize, r: Slot, next: usize) -> bool
-    requires { ⌜ (h ≡ header-of (now p)) × Fits-header h × (r ≡ slot-of (now p) n) × Fits-slot r × (r .op < 35) × (next < 4294967296) ⌝ }
-    ensures { λ x. ⌜ x ≡ named-ok (now (p .entry)) n next ⌝ }
+// Opcodes from 20 on: the calls of one register, of a list, of three registers.
+fn last_ok(p: &[u8], h: Header, n: usize, row: usize, head: usize, next: usize) -> bool
+    requires { ⌜ Row (now p) h n row head next × (20 ≤ head) ⌝ }
+    ensures { λ r. ⌜ r ≡ operands-ok (now (p .entry)) n next ⌝ }
 {
-    next + r.count <= h.entries
-        && (r.destination < h.registers
-            && (word(
-                p,
-                HEADER_SIZE + SLOT_SIZE * h.code + RECORD_SIZE * r.path + 8,
-            )
-                <= 8192
-                && op_ok(p, h, n, r)))
+    if head < 31 {
+        return single_ok(p, row, h.registers);
+    }
+    if 33 <= head {
+        if head < 35 {
+            return triple_ok(p, row, h.registers);
+        }
+    }
+    list_ok(p, h, n, row, head, next)
 }
 
-fn instruction_ok(p: &[u8], h: Header, n: usize, r: Slot, next: usize) -> bool
-    requires { ⌜ (h ≡ header-of (now p)) × Fits-header h × (r ≡ slot-of (now p) n) × Fits-slot r × (next < 4294967296) ⌝ }
-    ensures { λ x. ⌜ x ≡ instruction-ok (now (p .entry)) n next ⌝ }
+// What the operation reads is there, and a jump goes forward. The first four bytes tell the opcode: a zero and the count
+// of a list come after it.
+fn operands_ok(p: &[u8], h: Header, n: usize, row: usize, head: usize, next: usize) -> bool
+    requires { ⌜ Row (now p) h n row head next ⌝ }
+    ensures { λ r. ⌜ r ≡ operands-ok (now (p .entry)) n next ⌝ }
 {
-    slot_ok(r, h.paths) && (list_ok(r, next) && named_ok(p, h, n, r, next))
+    if head < 8 {
+        return first_ok(p, h, n, row, head, next);
+    }
+    if head < 20 {
+        return pair_ok(p, row, h.registers);
+    }
+    last_ok(p, h, n, row, head, next)
+}
+
+fn instruction_ok(p: &[u8], h: Header, n: usize, row: usize, head: usize, next: usize) -> bool
+    requires { ⌜ Whole (now p) h × (n < h .code) × (row ≡ 32 + 24 * n) × Read (now p) row head × (next ≤ h .entries) ⌝ }
+    ensures { λ r. ⌜ r ≡ instruction-ok (now (p .entry)) n next ⌝ }
+{
+    placed_ok(p, h, n, row) && operands_ok(p, h, n, row, head, next)
 }
 
 fn all_instructions_ok(p: &[u8], h: Header) -> bool
-    requires { ⌜ (h ≡ header-of (now p)) × Fits-header h ⌝ }
+    requires { ⌜ Whole (now p) h ⌝ }
     ensures { λ r. ⌜ r ≡ instructions-ok (now (p .entry)) (code-count (now (p .entry))) 0 0 ⌝ }
 {
     let code = h.code;
     let mut n = 0;
+    let mut row = HEADER_SIZE;
     let mut next = 0;
     while n < code {
-        let r = read_slot(p, n);
-        let ok = instruction_ok(p, h, n, r, next);
+        let head = field(p, row);
+        let ok = instruction_ok(p, h, n, row, head, next);
         if ok {
-            next += r.count;
+            next += head / 65536;
             n += 1;
+            row += SLOT_SIZE;
         } else {
             return false;
         }
@@ -316,6 +320,9 @@ fn all_instructions_ok(p: &[u8], h: Header) -> bool
 pub fn is_program(p: &[u8]) -> bool
     ensures { λ r. ⌜ r ≡ valid (program-at (now (p .entry))) ⌝ }
 {
+    if p.len() < HEADER_SIZE {
+        return false;
+    }
     let h = read_header(p);
     header_ok(p, h) && (all_records_ok(p, h) && all_instructions_ok(p, h))
 }
@@ -325,6 +332,6 @@ pub fn write_place(p: &[u8], k: usize, out: &mut [u8])
     requires { ⌜ (valid (program-at (now p)) ≡ true) × (k < path-total (now p)) × (length-at (now p) k ≤ length (now out)) ⌝ }
     ensures { λ r. ⌜ now (out .exit) ≡ placed (some (path-of (now (p .entry)) k)) (now (out .entry)) ⌝ }
 {
-    let h = read_header(p);
-    paths::write_path(p, HEADER_SIZE + SLOT_SIZE * h.code, k, out);
+    let code = reader::word(p, CODE_AT);
+    paths::write_path(p, HEADER_SIZE + SLOT_SIZE * code, k, out);
 }

@@ -1,67 +1,36 @@
-use mathlib.Core.Path.{_≡_, sym, _∙_}
-use Prim.Native.Nat.{_-_, _≤_}
+use mathlib.Core.Path.{_∙_}
 use native.Mathlib.Omega.{arith}
-use Rattle.layout.specs.Decode.{path-total, records-ok}
-use Rattle.program.proofs.Head.{paths-is}
-use Rattle.program.proofs.Records.{records-end, records-left, records-start, records-step}
+use Rattle.program.proofs.Tests.{both, stop}
+use Rattle.program.proofs.Records.{records-some}
+use borrow.Author.Needs.{needs}
 use Rattle.program.proofs.all_records_ok.Statement.{statement}
 use Rattle.program.proofs.all_records_ok.Tie as tie
 
-abbrev Inv-loop : tie.InvT-loop
-Inv-loop p h paths k₀ k = (k ≤ paths) × (records-ok p (path-total p) 0 ≡ records-left p k)
+returns : tie.Need-returns
+returns c = search needs
 
-abbrev μ-loop : tie.MeasureT-loop
-μ-loop p h paths k₀ k = paths - k
+root-ok-requires : tie.Need-root-ok-requires
+root-ok-requires c κs = search needs
 
-loop-holds : tie.Need-loop-holds Inv-loop μ-loop
-loop-holds c = (omega arith, sym (records-start (c .before .args .p .now)))
+later-records-ok-requires : tie.Need-later-records-ok-requires
+later-records-ok-requires c κs = search needs
 
-record-ok-requires : tie.Need-record-ok-requires Inv-loop μ-loop
-record-ok-requires c κs = (c .before .before .before .pre .0, c .before .before .before .pre .1, omega (arith, c .before .before .before .pre .1 .paths))
-
-add-k : tie.Need-add-k Inv-loop μ-loop
-add-k c = omega (arith, c .before .before .before .before .before .pre .1 .paths)
-
-loop-less : tie.Need-loop-less Inv-loop μ-loop
-loop-less c = omega arith
-
-loop-again : tie.Need-loop-again Inv-loop μ-loop
-loop-again c =
-    let args = c .before .before .before .before .before .args in
-    let pre = c .before .before .before .before .before .pre in
-    let loop = c .before .before .before .loop in (
-      omega arith,
-      loop .inv .1
-          ∙ records-step (args .p .now) (loop .k) (omega (arith, paths-is (args .p .now) (args .h) (pre .0)))
-          ∙ rw (sym (c .before .record-ok .ensures) ∙ c .if1 .taken),
-    )
-
-returns : tie.Need-returns Inv-loop μ-loop
-returns c =
-    let args = c .before .before .before .before .before .args in
-    let pre = c .before .before .before .before .before .pre in
-    let loop = c .before .before .before .loop in
-    sym (loop .inv .1
-    ∙ records-step (args .p .now) (loop .k) (omega (arith, paths-is (args .p .now) (args .h) (pre .0)))
-    ∙ rw (sym (c .before .record-ok .ensures) ∙ c .if1 .left))
-
-returns-2 : tie.Need-returns-2 Inv-loop μ-loop
+returns-2 : tie.Need-returns-2
 returns-2 c =
-    let args = c .before .before .before .args in
-    let pre = c .before .before .before .pre in
-    let loop = c .before .loop in
-    sym (loop .inv .1 ∙ records-end (args .p .now) (loop .k) (omega (arith, paths-is (args .p .now) (args .h) (pre .0))))
+    let args = c .before .before .before .before .before .before .args in
+    let pre = c .before .before .before .before .before .before .pre in
+    let if1 = c .before .before .before .if1 in
+    let root-ok = c .before .before .root-ok in
+    both (root-ok .ensures) (c .before .if2 .taken) (c .later-records-ok .ensures)
+    ∙ records-some (args .p .now) (omega (arith, if1 .left, pre .numbers .paths))
+
+returns-3 : tie.Need-returns-3
+returns-3 c =
+    let args = c .before .before .before .before .before .args in
+    let pre = c .before .before .before .before .before .pre in
+    let if1 = c .before .before .if1 in
+    stop _ (c .before .root-ok .ensures) (c .if2 .left) ∙ records-some (args .p .now) (omega (arith, if1 .left, pre .numbers .paths))
 
 pub all-records-ok-spec : {M : Type 1} → statement M
 all-records-ok-spec =
-    tie.close
-    (tie.spec
-    Inv-loop
-    μ-loop
-    loop-holds
-    record-ok-requires
-    add-k
-    loop-less
-    loop-again
-    returns
-    returns-2)
+    tie.close (tie.spec returns root-ok-requires later-records-ok-requires returns-2 returns-3)

@@ -1,142 +1,127 @@
 use mathlib.Core.Path.{_≡_, sym, _∙_}
 use mathlib.Core.Bool.{true, false}
-use Prim.Native.Nat.{_-_}
 use native.Mathlib.Omega.{arith}
-use borrow.Author.Tests.{eq-eqb, ne-eqb, lt-ltb, le-ltb, le-leb, lt-leb}
+use borrow.Author.Tests.{eq-eqb, le-leb, le-ltb, lt-leb, lt-ltb, ne-eqb}
 use lib.ListN.{length}
-use lib.Dec.{leb, ltb}
+use lib.Dec.{eqb, leb, ltb}
 use Rattle.formula.specs.Text.{word-at}
 use Rattle.layout.specs.Image.{magic}
-use Rattle.layout.specs.Decode.{code-count, entry-at, entry-total}
+use Rattle.layout.specs.Decode.{code-count, entry-at, entry-total, result-at}
 use Rattle.program.specs.Check.{header-ok}
-use Rattle.program.proofs.Head.{code-is, end-is, registers-is, result-is}
+use Rattle.program.proofs.Ops.{end-place}
 use borrow.Author.Needs.{needs}
 use Rattle.program.proofs.header_ok.Statement.{statement}
 use Rattle.program.proofs.header_ok.Tie as tie
 
+field-requires : tie.Need-field-requires
+field-requires c κs = search needs
+
 returns : tie.Need-returns
 unfolding header-ok
-returns c = rw (lt-leb 32 (length (c .before .before .args .p .now)) (c .if1 .taken))
+returns c =
+    let b = c .before .before .before .args .p .now in
+    let l : leb 32 (length b) ≡ true = le-leb 32 (length b) (c .before .before .before .pre .0) in
+    rw (l, ne-eqb (word-at b 0) magic (λ z. c .if1 .taken (c .before .field .ensures .is ∙ z)))
 
-word-requires : tie.Need-word-requires
-word-requires c κs = search needs
+field-requires-2 : tie.Need-field-requires-2
+field-requires-2 c κs = search needs
 
 returns-2 : tie.Need-returns-2
 unfolding header-ok
 returns-2 c =
-    let args = c .before .before .before .before .args in
-    let if1 = c .before .before .if1 in
-    rw (le-leb 32 (length (args .p .now)) (if1 .left), ne-eqb (word-at (args .p .now) 0) magic (λ z. c .if2 .taken (c .before .word .ensures .0 ∙ z)))
+    let b = c .before .before .before .before .before .args .p .now in
+    let l : leb 32 (length b) ≡ true = le-leb 32 (length b) (c .before .before .before .before .before .pre .0) in
+    let m : eqb (word-at b 0) magic ≡ true = eq-eqb (word-at b 0) magic (sym (c .before .before .before .field .ensures .is) ∙ c .before .before .if1 .left) in
+    rw (l, m, le-ltb (word-at b 20) 2 (omega (arith, c .before .field2 .ensures .is, c .if2 .taken)))
 
-word-requires-2 : tie.Need-word-requires-2
-word-requires-2 c κs = search needs
+mul-if3 : tie.Need-mul-if3
+mul-if3 c = search needs
+
+add-if3 : tie.Need-add-if3
+add-if3 c = search needs
+
+mul-if3-2 : tie.Need-mul-if3-2
+mul-if3-2 c = search needs
+
+add-if3-2 : tie.Need-add-if3-2
+add-if3-2 c = search needs
+
+mul-if3-3 : tie.Need-mul-if3-3
+mul-if3-3 c = search needs
+
+add-if3-3 : tie.Need-add-if3-3
+add-if3-3 c = search needs
 
 returns-3 : tie.Need-returns-3
 unfolding header-ok
 returns-3 c =
-    let args = c .before .before .before .before .before .before .args in
-    let if1 = c .before .before .before .before .if1 in
-    let word = c .before .before .before .word in
-    let if2 = c .before .before .if2 in
-    let k : ltb (word-at (args .p .now) 20) 2 ≡ false = le-ltb (word-at (args .p .now) 20) 2 (omega (arith, c .before .word2 .ensures .0)) in
-    rw (le-leb 32 (length (args .p .now)) (if1 .left), eq-eqb (word-at (args .p .now) 0) magic (sym (word .ensures .0) ∙ if2 .left), k)
-
-mul-if4 : tie.Need-mul-if4
-mul-if4 c = omega (arith, c .before .before .before .before .before .before .before .pre .1 .code)
-
-add-if4 : tie.Need-add-if4
-add-if4 c = omega (arith, c .before .before .before .before .before .before .before .pre .1 .code)
-
-mul-if4-2 : tie.Need-mul-if4-2
-mul-if4-2 c = omega (arith, c .before .before .before .before .before .before .before .before .pre .1 .code, c .before .before .before .before .before .before .before .before .pre .1 .paths)
-
-add-if4-2 : tie.Need-add-if4-2
-add-if4-2 c = omega (arith, c .before .before .before .before .before .before .before .before .pre .1 .code, c .before .before .before .before .before .before .before .before .pre .1 .paths)
-
-mul-if4-3 : tie.Need-mul-if4-3
-mul-if4-3 c =
+    let args = c .before .before .before .before .before .before .before .before .before .args in
     let pre = c .before .before .before .before .before .before .before .before .before .pre in
-    omega (arith, pre .1 .code, pre .1 .paths, pre .1 .entries)
+    let field = c .before .before .before .before .before .before .before .field in
+    let if1 = c .before .before .before .before .before .before .if1 in
+    let field2 = c .before .before .before .before .before .field2 in
+    let if2 = c .before .before .before .before .if2 in
+    let b = args .p .now in
+    let l : leb 32 (length b) ≡ true = le-leb 32 (length b) (pre .0) in
+    let m : eqb (word-at b 0) magic ≡ true = eq-eqb (word-at b 0) magic (sym (field .ensures .is) ∙ if1 .left) in
+    let k : ltb (word-at b 20) 2 ≡ true = lt-ltb (word-at b 20) 2 (omega (arith, field2 .ensures .is, if2 .left)) in
+    rw (l, m, k, lt-leb (entry-at b (entry-total b)) (length b) (omega (arith, c .if3 .taken, end-place b (args .h) (pre .1))))
 
-add-if4-3 : tie.Need-add-if4-3
-add-if4-3 c =
-    let pre = c .before .before .before .before .before .before .before .before .before .pre in
-    omega (arith, pre .1 .code, pre .1 .paths, pre .1 .entries)
+field-requires-3 : tie.Need-field-requires-3
+field-requires-3 c κs = search needs
 
 returns-4 : tie.Need-returns-4
-unfolding header-ok
+unfolding header-ok result-at
 returns-4 c =
-    let args = c .before .before .before .before .before .before .before .before .before .before .args in
-    let pre = c .before .before .before .before .before .before .before .before .before .before .pre in
-    let if1 = c .before .before .before .before .before .before .before .before .if1 in
-    let word = c .before .before .before .before .before .before .before .word in
-    let if2 = c .before .before .before .before .before .before .if2 in
-    let word2 = c .before .before .before .before .before .word2 in
-    let the-entry-at = entry-at (args .p .now) (entry-total (args .p .now)) in
-    let k : ltb (word-at (args .p .now) 20) 2 ≡ true = lt-ltb (word-at (args .p .now) 20) 2 (omega (arith, word2 .ensures .0)) in
-    let l : leb the-entry-at (length (args .p .now)) ≡ false = lt-leb the-entry-at (length (args .p .now)) (omega (arith, end-is (args .p .now) (args .h) (pre .0))) in
-    rw (le-leb 32 (length (args .p .now)) (if1 .left), eq-eqb (word-at (args .p .now) 0) magic (sym (word .ensures .0) ∙ if2 .left), k, l)
+    let args = c .before .before .before .before .before .before .before .before .before .before .before .before .before .args in
+    let pre = c .before .before .before .before .before .before .before .before .before .before .before .before .before .pre in
+    let field = c .before .before .before .before .before .before .before .before .before .before .before .field in
+    let if1 = c .before .before .before .before .before .before .before .before .before .before .if1 in
+    let field2 = c .before .before .before .before .before .before .before .before .before .field2 in
+    let if2 = c .before .before .before .before .before .before .before .before .if2 in
+    let if3 = c .before .before .before .before .if3 in
+    let if4 = c .before .before .if4 in
+    let b = args .p .now in
+    let l : leb 32 (length b) ≡ true = le-leb 32 (length b) (pre .0) in
+    let m : eqb (word-at b 0) magic ≡ true = eq-eqb (word-at b 0) magic (sym (field .ensures .is) ∙ if1 .left) in
+    let k : ltb (word-at b 20) 2 ≡ true = lt-ltb (word-at b 20) 2 (omega (arith, field2 .ensures .is, if2 .left)) in
+    let e : leb (entry-at b (entry-total b)) (length b) ≡ true = le-leb (entry-at b (entry-total b)) (length b) (omega (arith, if3 .left, end-place b (args .h) (pre .1))) in
+    let o : ltb 0 (code-count b) ≡ true = lt-ltb 0 (code-count b) (omega (arith, if4 .taken, pre .1 .code)) in
+    rw (l, m, k, e, o, c .before .field3 .ensures .is, pre .1 .registers)
 
 returns-5 : tie.Need-returns-5
 unfolding header-ok
 returns-5 c =
-    let args = c .before .before .before .before .before .before .before .before .before .before .before .before .before .args in
-    let pre = c .before .before .before .before .before .before .before .before .before .before .before .before .before .pre in
-    let if1 = c .before .before .before .before .before .before .before .before .before .before .before .if1 in
-    let word = c .before .before .before .before .before .before .before .before .before .before .word in
-    let if2 = c .before .before .before .before .before .before .before .before .before .if2 in
-    let word2 = c .before .before .before .before .before .before .before .before .word2 in
-    let the-entry-at = entry-at (args .p .now) (entry-total (args .p .now)) in
-    let k : ltb (word-at (args .p .now) 20) 2 ≡ true = lt-ltb (word-at (args .p .now) 20) 2 (omega (arith, word2 .ensures .0)) in
-    let l : leb the-entry-at (length (args .p .now)) ≡ true = le-leb the-entry-at (length (args .p .now)) (omega (arith, end-is (args .p .now) (args .h) (pre .0))) in
-    let m : ltb 0 (code-count (args .p .now)) ≡ true = lt-ltb 0 (code-count (args .p .now)) (omega (arith, code-is (args .p .now) (args .h) (pre .0))) in
-    rw (
-      le-leb 32 (length (args .p .now)) (if1 .left),
-      eq-eqb (word-at (args .p .now) 0) magic (sym (word .ensures .0) ∙ if2 .left),
-      k,
-      l,
-      m,
-      registers-is (args .p .now) (args .h) (pre .0),
-      result-is (args .p .now) (args .h) (pre .0),
-    )
-
-returns-6 : tie.Need-returns-6
-unfolding header-ok
-returns-6 c =
-    let args = c .before .before .before .before .before .before .before .before .before .before .before .before .args in
-    let pre = c .before .before .before .before .before .before .before .before .before .before .before .before .pre in
-    let if1 = c .before .before .before .before .before .before .before .before .before .before .if1 in
-    let word = c .before .before .before .before .before .before .before .before .before .word in
-    let if2 = c .before .before .before .before .before .before .before .before .if2 in
-    let word2 = c .before .before .before .before .before .before .before .word2 in
-    let the-entry-at = entry-at (args .p .now) (entry-total (args .p .now)) in
-    let k : ltb (word-at (args .p .now) 20) 2 ≡ true = lt-ltb (word-at (args .p .now) 20) 2 (omega (arith, word2 .ensures .0)) in
-    let l : leb the-entry-at (length (args .p .now)) ≡ true = le-leb the-entry-at (length (args .p .now)) (omega (arith, end-is (args .p .now) (args .h) (pre .0))) in
-    let m : ltb 0 (code-count (args .p .now)) ≡ false = le-ltb 0 (code-count (args .p .now)) (omega (arith, code-is (args .p .now) (args .h) (pre .0))) in
-    rw (
-      le-leb 32 (length (args .p .now)) (if1 .left),
-      eq-eqb (word-at (args .p .now) 0) magic (sym (word .ensures .0) ∙ if2 .left),
-      k,
-      l,
-      m,
-      le-ltb 0 (args .h .code) (c .if5 .left),
-    )
+    let args = c .before .before .before .before .before .before .before .before .before .before .before .args in
+    let pre = c .before .before .before .before .before .before .before .before .before .before .before .pre in
+    let field = c .before .before .before .before .before .before .before .before .before .field in
+    let if1 = c .before .before .before .before .before .before .before .before .if1 in
+    let field2 = c .before .before .before .before .before .before .before .field2 in
+    let if2 = c .before .before .before .before .before .before .if2 in
+    let if3 = c .before .before .if3 in
+    let b = args .p .now in
+    let l : leb 32 (length b) ≡ true = le-leb 32 (length b) (pre .0) in
+    let m : eqb (word-at b 0) magic ≡ true = eq-eqb (word-at b 0) magic (sym (field .ensures .is) ∙ if1 .left) in
+    let k : ltb (word-at b 20) 2 ≡ true = lt-ltb (word-at b 20) 2 (omega (arith, field2 .ensures .is, if2 .left)) in
+    let e : leb (entry-at b (entry-total b)) (length b) ≡ true = le-leb (entry-at b (entry-total b)) (length b) (omega (arith, if3 .left, end-place b (args .h) (pre .1))) in
+    let o : ltb 0 (code-count b) ≡ false = le-ltb 0 (code-count b) (omega (arith, c .if4 .left, pre .1 .code)) in
+    rw (l, m, k, e, o, le-ltb 0 (args .h .code) (c .if4 .left))
 
 pub header-ok-spec : {M : Type 1} → statement M
 header-ok-spec =
     tie.close
     (tie.spec
+    field-requires
     returns
-    word-requires
+    field-requires-2
     returns-2
-    word-requires-2
+    mul-if3
+    add-if3
+    mul-if3-2
+    add-if3-2
+    mul-if3-3
+    add-if3-3
     returns-3
-    mul-if4
-    add-if4
-    mul-if4-2
-    add-if4-2
-    mul-if4-3
-    add-if4-3
+    field-requires-3
     returns-4
-    returns-5
-    returns-6)
+    returns-5)
