@@ -2,6 +2,7 @@
 use mathlib.Core.Path.{_≡_, refl, ap, sym, _∙_, subst}
 use mathlib.Core.Bool.{true, false}
 use mathlib.Core.List.{List, []}
+use mathlib.Core.Logic.{⊎-elim}
 use mathlib.Core.Option.{Option}
 use Prim.Native.Nat.{ℕ, _≤_, _<_}
 use native.Mathlib.Omega.{arith}
@@ -14,7 +15,7 @@ use Rattle.machine.specs.Machine.{fresh, place-of, refuse}
 use Rattle.layout.specs.Decode.{length-at, path-number, program-at}
 use Rattle.program.proofs.Pass.{valid-at, valid-raw}
 use Rattle.run.specs.Views.{Hands-back, Writable, answer-of, reply-of, state-of}
-use Rattle.run.specs.Calls.{Known-place, refusing, resume-at, run-at, stale-at, steps-at, supplying, unfit-at}
+use Rattle.run.specs.Calls.{Known-place, Settled, refusing, resume-at, run-at, stale-at, steps-at, supplying, unfit-at}
 use Rattle.run.specs.declared.Answer.{Answer}
 use Rattle.run.specs.declared.Answer.the-variants as A
 use Rattle.run.specs.declared.Reply.{Reply}
@@ -34,6 +35,10 @@ refused-plain b room n {r} s e f = subst (λ (a : Answer). Writable b room a) (s
 
 pub refused-unplaced : (b : List ℕ) (n : ℕ) {r : Reply} (s : State) (slice : List ℕ) → r ≡ refusing n s → (n ≡ 5 → ⊥) → slice ≡ placed (place-of (answer-of b (r .answer))) slice
 refused-unplaced b n s slice e f = rw (e, ne-eqb n 5 f)
+
+-- with a path slice that is long enough a call is settled by the bytes
+pub settled-valid : (b : List ℕ) (room : ℕ) → 8192 ≤ room → Settled b room → valid (program-at b) ≡ true
+settled-valid b room l s = ⊎-elim (λ v. v) (λ h. absurd (omega arith)) s
 
 pub steps-back : (inputs : List Float) (b : List ℕ) (budget at : ℕ) (kept regs regs′ : List Float) (r : Reply) (s : State) → reply-of b r regs′ ≡ steps-at inputs b budget at kept regs → Hands-back s r
 steps-back inputs b budget at kept regs regs′ r s e = λ n f. absurd (not-refused inputs b budget at kept regs regs′ r e n f)

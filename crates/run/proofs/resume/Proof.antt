@@ -1,4 +1,5 @@
 use mathlib.Core.Path.{refl, sym, _∙_}
+use mathlib.Core.Logic.{inl}
 use native.Mathlib.Omega.{arith}
 use lib.ListN.{length}
 use Rattle.run.specs.Views.{state-of, supplied-of}
@@ -24,8 +25,8 @@ returns c =
 is-program-requires : tie.Need-is-program-requires
 is-program-requires c κs = search needs
 
-resume-checked-requires : tie.Need-resume-checked-requires
-resume-checked-requires c κs = sym (c .before .before .before .is-program .ensures) ∙ c .before .before .if2 .taken
+resume-unchecked-requires : tie.Need-resume-unchecked-requires
+resume-unchecked-requires c κs = search needs
 
 same-length : tie.Need-same-length
 same-length c = search needs
@@ -34,7 +35,10 @@ same-length-2 : tie.Need-same-length-2
 same-length-2 c = search needs
 
 returns-2 : tie.Need-returns-2
-returns-2 c = search needs
+returns-2 c =
+    let e = @resume-unchecked .ensures in
+    let v = inl (sym (@is-program .ensures) ∙ @if2 .taken) in
+    (e .0 v, (e .1 .0 v, (e .1 .1 .0, (e .1 .1 .1 .0 v, e .1 .1 .1 .1 v))))
 
 refusal-requires-2 : tie.Need-refusal-requires-2
 refusal-requires-2 c κs = search needs
@@ -56,7 +60,7 @@ resume-spec =
     refusal-requires
     returns
     is-program-requires
-    resume-checked-requires
+    resume-unchecked-requires
     same-length
     same-length-2
     returns-2

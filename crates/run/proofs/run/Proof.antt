@@ -1,4 +1,5 @@
 use mathlib.Core.Path.{sym, _∙_}
+use mathlib.Core.Logic.{inl}
 use native.Mathlib.Omega.{arith}
 use lib.ListN.{length}
 use Rattle.machine.specs.Machine.{fresh}
@@ -25,8 +26,8 @@ returns c =
 is-program-requires : tie.Need-is-program-requires
 is-program-requires c κs = search needs
 
-run-checked-requires : tie.Need-run-checked-requires
-run-checked-requires c κs = sym (c .before .before .before .is-program .ensures) ∙ c .before .before .if2 .taken
+run-unchecked-requires : tie.Need-run-unchecked-requires
+run-unchecked-requires c κs = search needs
 
 same-length : tie.Need-same-length
 same-length c = search needs
@@ -35,7 +36,10 @@ same-length-2 : tie.Need-same-length-2
 same-length-2 c = search needs
 
 returns-2 : tie.Need-returns-2
-returns-2 c = search needs
+returns-2 c =
+    let run-unchecked = @run-unchecked in
+    let v = inl (sym (@is-program .ensures) ∙ @if2 .taken) in
+    (run-unchecked .ensures .0 v, (run-unchecked .ensures .1 .0 v, (run-unchecked .ensures .1 .1 .0 v, run-unchecked .ensures .1 .1 .1 v)))
 
 fresh-state-requires-2 : tie.Need-fresh-state-requires-2
 fresh-state-requires-2 c κs = search needs
@@ -59,7 +63,7 @@ run-spec =
     refusal-requires
     returns
     is-program-requires
-    run-checked-requires
+    run-unchecked-requires
     same-length
     same-length-2
     returns-2
