@@ -36,8 +36,8 @@ same-length-2 c = search needs
 
 returns-2 : tie.Need-returns-2
 returns-2 c =
-    let e = @resume-unchecked .ensures in
-    let v = inl (sym (@is-program .ensures) ∙ @if2 .taken) in
+    let e = c .before .before .before .before .resume-unchecked .ensures in
+    let v = inl (sym (c .before .before .before .before .before .before .before .before .is-program .ensures) ∙ c .before .before .before .before .before .before .before .if2 .taken) in
     (e .0 v, (e .1 .0 v, (e .1 .1 .0, (e .1 .1 .1 .0 v, e .1 .1 .1 .1 v))))
 
 refusal-requires-2 : tie.Need-refusal-requires-2

@@ -18,12 +18,12 @@ same-length c = search needs
 
 returns : tie.Need-returns
 returns c =
-    let args = @args in
-    let unfit = @unfit in
-    let refusal = @refusal in (
+    let args = c .before .before .before .before .before .before .before .args in
+    let unfit = c .before .before .unfit in
+    let refusal = c .refusal in (
       λ v room l. refused-is (args .p .now) 5 (args .state) (state-of (args .state)) (args .regs .now) (refusal .ensures) refl
           ∙ resume-5 (args .inputs .now) (args .p .now) room (args .budget) (args .regs .now) (supplied-of (args .supplied)) (state-of (args .state))
-          l v (sym (unfit .ensures) ∙ @if1 .taken),
+          l v (sym (unfit .ensures) ∙ c .before .if1 .taken),
       (
         λ v. refused-plain (args .p .now) 8192 5 (args .state) (refusal .ensures) (λ z. omega arith),
         refused-back 5 (args .state) (refusal .ensures),
@@ -41,14 +41,14 @@ same-length-2 c = search needs
 
 returns-2 : tie.Need-returns-2
 returns-2 c =
-    let args = @args in
-    let unfit = @unfit in
-    let if1 = @if1 in
-    let stale = @stale in
-    let refusal2 = @refusal2 in (
+    let args = c .before .before .before .before .before .before .before .before .before .before .args in
+    let unfit = c .before .before .before .before .before .unfit in
+    let if1 = c .before .before .before .before .if1 in
+    let stale = c .before .before .stale in
+    let refusal2 = c .refusal2 in (
       λ v room l. refused-is (args .p .now) 11 (args .state) (state-of (args .state)) (args .regs .now) (refusal2 .ensures) refl
           ∙ resume-11 (args .inputs .now) (args .p .now) room (args .budget) (args .regs .now) (supplied-of (args .supplied)) (state-of (args .state))
-          l v (sym (unfit .ensures) ∙ if1 .left) (sym (stale .ensures) ∙ @if2 .taken),
+          l v (sym (unfit .ensures) ∙ if1 .left) (sym (stale .ensures) ∙ c .before .if2 .taken),
       (
         λ v. refused-plain (args .p .now) 8192 11 (args .state) (refusal2 .ensures) (λ z. omega arith),
         refused-back 11 (args .state) (refusal2 .ensures),
@@ -66,13 +66,13 @@ same-length-3 c = search needs
 
 returns-3 : tie.Need-returns-3
 returns-3 c =
-    let args = @args in
-    let unfit = @unfit in
-    let if1 = @if1 in
-    let stale = @stale in
-    let if2 = @if2 in
-    let supply = @supply in
-    let steps = @steps in
+    let args = c .before .before .before .before .before .before .before .before .before .before .before .before .before .before .before .args in
+    let unfit = c .before .before .before .before .before .before .before .before .before .before .unfit in
+    let if1 = c .before .before .before .before .before .before .before .before .before .if1 in
+    let stale = c .before .before .before .before .before .before .before .stale in
+    let if2 = c .before .before .before .before .before .before .if2 in
+    let supply = c .before .before .before .before .supply in
+    let steps = c .before .before .steps in
     let the-kept-values = kept-values (supply .result) in (
       λ v room l. steps .ensures .0
           ∙ resume-goes (args .inputs .now) (args .p .now) room (args .budget) (args .regs .now) (supplied-of (args .supplied)) (state-of (args .state))

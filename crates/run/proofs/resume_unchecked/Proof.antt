@@ -13,9 +13,9 @@ refusal-requires c κs = search needs
 
 returns : tie.Need-returns
 returns c =
-    let a = @args in
-    let refusal = @refusal in
-    let if1 = @if1 in
+    let a = c .before .before .before .before .before .before .args in
+    let refusal = c .refusal in
+    let if1 = c .before .if1 in
     let g = supplied-of (a .supplied) in
     let s = a .state in
     resume-where (a .inputs .now) (a .p .now) (length (a .path .now)) (a .budget) (a .regs .now) g (state-of s) (refusal .result) (a .regs .now)
@@ -38,10 +38,10 @@ same-length-2 c = search needs
 
 returns-2 : tie.Need-returns-2
 returns-2 c =
-    let a = @args in
-    let if1 = @if1 in
-    let resume-reply = @resume-reply in
-    let write-place = @write-place in
+    let a = c .before .before .before .before .before .before .before .before .before .before .before .before .before .args in
+    let if1 = c .before .before .before .before .before .before .before .before .if1 in
+    let resume-reply = c .before .before .before .before .before .before .resume-reply in
+    let write-place = c .before .before .write-place in
     let v = settled-valid (a .p .now) (length (a .path .now)) (if1 .left) in
     resume-where (a .inputs .now) (a .p .now) (length (a .path .now)) (a .budget) (a .regs .now) (supplied-of (a .supplied)) (state-of (a .state))
     (resume-reply .result) _ (a .path .now) _ (a .state)

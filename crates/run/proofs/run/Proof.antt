@@ -37,8 +37,8 @@ same-length-2 c = search needs
 
 returns-2 : tie.Need-returns-2
 returns-2 c =
-    let run-unchecked = @run-unchecked in
-    let v = inl (sym (@is-program .ensures) ∙ @if2 .taken) in
+    let run-unchecked = c .before .before .before .before .run-unchecked in
+    let v = inl (sym (c .before .before .before .before .before .before .before .before .is-program .ensures) ∙ c .before .before .before .before .before .before .before .if2 .taken) in
     (run-unchecked .ensures .0 v, (run-unchecked .ensures .1 .0 v, (run-unchecked .ensures .1 .1 .0 v, run-unchecked .ensures .1 .1 .1 v)))
 
 fresh-state-requires-2 : tie.Need-fresh-state-requires-2

@@ -19,11 +19,11 @@ same-length c = search needs
 
 returns : tie.Need-returns
 returns c =
-    let args = @args in
-    let unfit = @unfit in
-    let refusal = @refusal in (
-      λ v room l. refused-is (args .p .now) 5 (args .state) fresh (args .regs .now) (refusal .ensures) (@pre)
-          ∙ run-5 (args .inputs .now) (args .p .now) room (args .budget) (args .regs .now) l v (sym (unfit .ensures) ∙ @if1 .taken),
+    let args = c .before .before .before .before .before .before .before .args in
+    let unfit = c .before .before .unfit in
+    let refusal = c .refusal in (
+      λ v room l. refused-is (args .p .now) 5 (args .state) fresh (args .regs .now) (refusal .ensures) (c .before .before .before .before .before .before .before .pre)
+          ∙ run-5 (args .inputs .now) (args .p .now) room (args .budget) (args .regs .now) l v (sym (unfit .ensures) ∙ c .before .if1 .taken),
       (
         λ v. refused-plain (args .p .now) 8192 5 (args .state) (refusal .ensures) (λ z. omega arith),
         refused-back 5 (args .state) (refusal .ensures),
@@ -38,11 +38,11 @@ same-length-2 c = search needs
 
 returns-2 : tie.Need-returns-2
 returns-2 c =
-    let args = @args in
-    let pre = @pre in
-    let unfit = @unfit in
-    let if1 = @if1 in
-    let steps = @steps in (
+    let args = c .before .before .before .before .before .before .before .before .before .before .before .args in
+    let pre = c .before .before .before .before .before .before .before .before .before .before .before .pre in
+    let unfit = c .before .before .before .before .before .before .unfit in
+    let if1 = c .before .before .before .before .before .if1 in
+    let steps = c .before .before .steps in (
       λ v room l. steps .ensures .0
           ∙ run-goes (args .inputs .now) (args .p .now) room (args .budget) (args .regs .now) (kept-values (args .state .kept))
           (ap (λ (x : Machine.State). x .kept) pre) l v (sym (unfit .ensures) ∙ if1 .left),

@@ -16,10 +16,10 @@ refusal-requires c κs = search needs
 
 returns : tie.Need-returns
 returns c =
-    let a = @args in
-    let fresh-state = @fresh-state in
-    let refusal = @refusal in
-    let if1 = @if1 in
+    let a = c .before .before .before .before .before .before .before .args in
+    let fresh-state = c .before .fresh-state in
+    let refusal = c .refusal in
+    let if1 = c .before .before .if1 in
     run-where (a .inputs .now) (a .p .now) (length (a .path .now)) (a .budget) (a .regs .now) (refusal .result) (a .regs .now) (a .path .now) (a .path .now)
     (λ s. refused-is (a .p .now) 1 (fresh-state .result) fresh (a .regs .now) (refusal .ensures) (fresh-state .ensures)
     ∙ run-1 (a .inputs .now) (a .p .now) (length (a .path .now)) (a .budget) (a .regs .now) (if1 .taken))
@@ -42,10 +42,10 @@ same-length-2 c = search needs
 
 returns-2 : tie.Need-returns-2
 returns-2 c =
-    let a = @args in
-    let if1 = @if1 in
-    let run-reply = @run-reply in
-    let write-place = @write-place in
+    let a = c .before .before .before .before .before .before .before .before .before .before .before .before .before .before .args in
+    let if1 = c .before .before .before .before .before .before .before .before .before .if1 in
+    let run-reply = c .before .before .before .before .before .before .run-reply in
+    let write-place = c .before .before .write-place in
     let v = settled-valid (a .p .now) (length (a .path .now)) (if1 .left) in
     run-where (a .inputs .now) (a .p .now) (length (a .path .now)) (a .budget) (a .regs .now) (run-reply .result) _ (a .path .now) _
     (λ s. run-reply .ensures .0 (v s) (length (a .path .now)) (if1 .left))
