@@ -1,9 +1,10 @@
 // Run and resume of a program's bytes (reference `evaluate_into`).
 ghost use mathlib.Core.Path.{_≡_};
-ghost use mathlib.Core.Bool.{true, not};
+ghost use mathlib.Core.Bool.{true, not, _||_};
 ghost use mathlib.Core.Option.{none};
 ghost use Prim.Native.Nat.{_≤_};
 ghost use lib.ListN.{length};
+ghost use lib.Dec.{ltb};
 ghost use lib.Ieee.{binary64};
 ghost use Rattle.arithmetic.specs.Value.{finite};
 ghost use Rattle.formula.specs.Text.{all};
@@ -410,6 +411,13 @@ pub fn resume_unchecked(
     r
 }
 
+// Whether the bytes needn't be refused by 10: 1 comes before it, or they are a program.
+fn goes_on(p: &[u8], room: usize) -> bool
+    ensures { λ r. ⌜ r ≡ (ltb room 8192 || valid (program-at (now (p .entry)))) ⌝ }
+{
+    room < 8192 || program::is_program(p)
+}
+
 // "In order: 1, path slice too short; 10, not a program; 5 at `root` ..; 11 (resume) .. Otherwise: a value, a question,
 // spent, or 9 at the instruction's path."
 pub fn run(p: &[u8], inputs: &[f64], regs: &mut [f64], path: &mut [u8], budget: usize) -> Reply
@@ -418,10 +426,7 @@ pub fn run(p: &[u8], inputs: &[f64], regs: &mut [f64], path: &mut [u8], budget: 
     ensures number { λ r. ⌜ refusal-number (r .answer) ≡ number-of (run-at (now (inputs .entry)) (now (p .entry)) (length (now (path .entry))) budget (now (regs .entry)) .answer) ⌝ }
     ensures lawful { λ r. ⌜ Lawful binary64 (now (inputs .entry)) (program-at (now (p .entry))) budget none fresh (now (regs .entry)) (reply-of (now (p .entry)) r (now (regs .exit))) ⌝ }
 {
-    if path.len() < 8192 {
-        return refusal(SLICE_TOO_SHORT, fresh_state());
-    }
-    let ok = program::is_program(p);
+    let ok = goes_on(p, path.len());
     if ok {
         return run_unchecked(p, inputs, regs, path, budget);
     }
@@ -443,10 +448,7 @@ pub fn resume(
     ensures number { λ r. ⌜ refusal-number (r .answer) ≡ number-of (resume-at (now (inputs .entry)) (now (p .entry)) (length (now (path .entry))) budget (supplied-of supplied) (state-of state) (now (regs .entry)) .answer) ⌝ }
     ensures lawful { λ r. ⌜ Lawful binary64 (now (inputs .entry)) (program-at (now (p .entry))) budget (supplied-of supplied) (state-of state) (now (regs .entry)) (reply-of (now (p .entry)) r (now (regs .exit))) ⌝ }
 {
-    if path.len() < 8192 {
-        return refusal(SLICE_TOO_SHORT, state);
-    }
-    let ok = program::is_program(p);
+    let ok = goes_on(p, path.len());
     if ok {
         return resume_unchecked(p, inputs, regs, path, budget, state, supplied);
     }
