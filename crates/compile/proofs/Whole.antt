@@ -20,7 +20,7 @@ use Rattle.layout.specs.Opcode.{kind-number}
 use Rattle.layout.specs.Image.{below, entry-count, header, image, lists, magic, path-count, slots}
 use Rattle.layout.proofs.Lengths.{bounds, image-room, length-below, length-image, length-lists, length-slots}
 use Rattle.writer.specs.Over.{over, zeroed}
-use Rattle.paths.specs.Table.{Linked, length-in, linked, path-in-table}
+use Rattle.paths.specs.Table.{Fits-path, Linked, length-in, linked, path-in-table}
 use Rattle.writer.proofs.Over.{over-before, over-length, over-over, text-zeroed}
 use Rattle.paths.proofs.Climb.{path-length, path-root}
 use Rattle.reader.proofs.Past.{word-past}
@@ -146,11 +146,10 @@ module _ (b : List ℕ) (d m : ℕ) (p ks : List ℕ) (g : Bool) (code records e
         is-near : Near (R .x) 8192
         is-near = near C t root 8192 (narrow f (omega (arith, F .few))) (omega (arith, F .short)) (R .x) is-fault
 
-        pub writes : 8192 ≤ m → length p₂ < 2 ^ 63 → (table + 12 * k + 12 < 2 ^ 64) × Linked p₂ table k × (length-in p₂ table k ≤ m)
+        pub writes : 8192 ≤ m → length p₂ < 2 ^ 63 → (table + 12 * k + 12 < 2 ^ 64) × Fits-path p₂ table k m
         writes h w = (
           omega (arith, record-inside p₂ table k (R .linked)),
-          R .linked,
-          omega (arith, path-length p₂ table k (R .linked), ap (λ (y : Path). length (text y)) (R .place), is-near .short),
+          (R .linked, omega (arith, path-length p₂ table k (R .linked), ap (λ (y : Path). length (text y)) (R .place), is-near .short)),
         )
 
         pub fault-answers : (p₃ q q′ : List ℕ) → length p₂ ≡ length p → p₃ ≡ zeroed p₂ 0 → q′ ≡ placed (some (path-in-table p₂ table k)) q

@@ -43,7 +43,7 @@ fn run_values(p: &[u8], inputs: &[f64], regs: &mut [f64]) -> Outcome
     let n = program::word(p, REGISTERS_AT);
     zero_registers(regs, n);
     let state = run::fresh_state();
-    let r = run::run_reply(p, inputs, &mut regs[..n], 8192, budget, state);
+    let r = run::run_reply(p, inputs, &mut regs[..n], budget, state);
     let answer = r.answer;
     Outcome {
         answer: answer,

@@ -36,3 +36,7 @@ linked b base k =
 -- every record to k is so
 abbrev pub Linked : List ℕ → ℕ → ℕ → Type 0
 Linked b base k = (j : ℕ) → j ≤ k → linked b base j ≡ true
+
+-- and the text of record k has room
+abbrev pub Fits-path : List ℕ → ℕ → ℕ → ℕ → Type 0
+Fits-path b base k room = Linked b base k × (length-in b base k ≤ room)

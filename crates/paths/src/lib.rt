@@ -7,7 +7,7 @@ ghost use Rattle.formula.specs.Text.{decimal};
 ghost use Rattle.formula.specs.Path.{root, step-text, placed};
 ghost use Rattle.layout.specs.Opcode.{step-of};
 ghost use Rattle.writer.specs.Over.{over};
-ghost use Rattle.paths.specs.Table.{path-in-table, length-in, Linked};
+ghost use Rattle.paths.specs.Table.{Fits-path, path-in-table};
 use layout::RECORD_SIZE;
 use writer::put_bytes;
 use writer::zero_from;
@@ -83,17 +83,33 @@ fn step_before(out: &mut [u8], end: usize, step: usize) -> usize
 }
 
 // "A refusal with a place writes the text, then zeros to the slice's end." The records lie in `b` from `base` on; the
-// steps are written from the last one back to `root`.
+// steps are written from the last one back to `root`. It stops where a parent's number isn't smaller or the text
+// doesn't fit, as in bytes that nobody checked; what the slice then holds is free.
 pub fn write_path(b: &[u8], base: usize, k: usize, out: &mut [u8])
-    requires { ⌜ (base + 12 * k + 12 < 2 ^ 64) × Linked (now b) base k × (length-in (now b) base k ≤ length (now out)) ⌝ }
-    ensures { λ r. ⌜ now (out .exit) ≡ placed (some (path-in-table (now (b .entry)) base k)) (now (out .entry)) ⌝ }
+    requires { ⌜ base + 12 * k + 12 < 2 ^ 64 ⌝ }
+    ensures { λ r. ⌜ (Fits-path (now (b .entry)) base k (length (now (out .entry))) → now (out .exit) ≡ placed (some (path-in-table (now (b .entry)) base k)) (now (out .entry))) ⌝ }
 {
     let end = reader::word(b, base + RECORD_SIZE * k + 8);
+    if out.len() < end {
+        return;
+    }
     let mut at = k;
     let mut begin = end;
     while 0 < at {
-        begin = step_before(out, begin, reader::word(b, base + RECORD_SIZE * at + 4));
-        at = reader::word(b, base + RECORD_SIZE * at);
+        let step = reader::word(b, base + RECORD_SIZE * at + 4);
+        let parent = reader::word(b, base + RECORD_SIZE * at);
+        let length = step_length(step);
+        if begin < length {
+            return;
+        }
+        if at <= parent {
+            return;
+        }
+        begin = step_before(out, begin, step);
+        at = parent;
+    }
+    if begin < 4 {
+        return;
     }
     copy_before(out, begin, b"root");
     zero_from(out, end);

@@ -327,11 +327,15 @@ pub fn is_program(p: &[u8]) -> bool
     header_ok(p, h) && (all_records_ok(p, h) && all_instructions_ok(p, h))
 }
 
-// The text of the path whose record is k, then zeros to the slice's end.
+// The text of the path whose record is k, then zeros to the slice's end. Where the bytes are no program, or the slice is
+// too short, what it holds after is free.
 pub fn write_place(p: &[u8], k: usize, out: &mut [u8])
-    requires { ⌜ (valid (program-at (now p)) ≡ true) × (k < path-total (now p)) × (length-at (now p) k ≤ length (now out)) ⌝ }
-    ensures { λ r. ⌜ now (out .exit) ≡ placed (some (path-of (now (p .entry)) k)) (now (out .entry)) ⌝ }
+    ensures { λ r. ⌜ ((valid (program-at (now (p .entry))) ≡ true) × (k < path-total (now (p .entry))) × (length-at (now (p .entry)) k ≤ length (now (out .entry))) → now (out .exit) ≡ placed (some (path-of (now (p .entry)) k)) (now (out .entry))) ⌝ }
 {
     let code = reader::word(p, CODE_AT);
+    let records = reader::word(p, PATHS_AT);
+    if records <= k {
+        return;
+    }
     paths::write_path(p, HEADER_SIZE + SLOT_SIZE * code, k, out);
 }

@@ -41,6 +41,14 @@ module _ (inputs : List Float) (b : List ℕ) (room budget : ℕ) (regs : List F
   run-promises r regs′ path path′ e f =
       (e, (f, (reply-number b r regs′ _ e, subst (λ x. Lawful binary64 inputs (program-at b) budget none fresh regs x) (sym e) run-at-lawful)))
 
+  -- and where they rest on a condition
+  pub run-where : {S : Type 0} (r : Reply) (regs′ : List Float) (path path′ : List ℕ) → (S → reply-of b r regs′ ≡ run-at inputs b room budget regs)
+      → (S → path′ ≡ placed (place-of (answer-of b (r .answer))) path)
+      → (S → reply-of b r regs′ ≡ run-at inputs b room budget regs) × ((S → path′ ≡ placed (place-of (answer-of b (r .answer))) path)
+      × ((S → refusal-number (r .answer) ≡ number-of (run-at inputs b room budget regs .answer)) × (S → Lawful binary64 inputs (program-at b) budget none fresh regs (reply-of b r regs′))))
+  run-where r regs′ path path′ f g =
+      (f, (g, (λ s. run-promises r regs′ path path′ (f s) (g s) .1 .1 .0, λ s. run-promises r regs′ path path′ (f s) (g s) .1 .1 .1)))
+
   module _ (given : Option Float) (st : Machine.State) where
     pub resume-at-lawful : Lawful binary64 inputs (program-at b) budget given st regs (resume-at inputs b room budget given st regs)
     unfolding resume-at
@@ -54,3 +62,11 @@ module _ (inputs : List Float) (b : List ℕ) (room budget : ℕ) (regs : List F
         × Lawful binary64 inputs (program-at b) budget given st regs (reply-of b r regs′))))
     resume-promises r regs′ path path′ s e f h =
         (e, (f, (h, (reply-number b r regs′ _ e, subst (λ x. Lawful binary64 inputs (program-at b) budget given st regs x) (sym e) resume-at-lawful))))
+
+    pub resume-where : {S : Type 0} (r : Reply) (regs′ : List Float) (path path′ : List ℕ) (s : State) → (S → reply-of b r regs′ ≡ resume-at inputs b room budget given st regs)
+        → (S → path′ ≡ placed (place-of (answer-of b (r .answer))) path) → Hands-back s r
+        → (S → reply-of b r regs′ ≡ resume-at inputs b room budget given st regs) × ((S → path′ ≡ placed (place-of (answer-of b (r .answer))) path) × (Hands-back s r
+        × ((S → refusal-number (r .answer) ≡ number-of (resume-at inputs b room budget given st regs .answer))
+        × (S → Lawful binary64 inputs (program-at b) budget given st regs (reply-of b r regs′)))))
+    resume-where r regs′ path path′ s f g h =
+        (f, (g, (h, (λ x. resume-promises r regs′ path path′ s (f x) (g x) h .1 .1 .1 .0, λ x. resume-promises r regs′ path path′ s (f x) (g x) h .1 .1 .1 .1))))

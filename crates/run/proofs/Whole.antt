@@ -1,20 +1,23 @@
 -- The two calls, by their tests.
 use mathlib.Core.Path.{_≡_, refl, ap, sym, _∙_, subst}
-use mathlib.Core.Bool.{true, false}
+use mathlib.Core.Bool.{Bool, true, false, _||_}
 use mathlib.Core.List.{List, []}
+use mathlib.Core.Logic.{inl, inr, ⊎-elim}
 use mathlib.Core.Option.{Option}
 use Prim.Native.Nat.{ℕ, _≤_, _<_}
 use native.Mathlib.Omega.{arith}
-use borrow.Author.Tests.{lt-ltb, le-ltb, ne-eqb}
+use borrow.Author.Tests.{lt-ltb, le-ltb, ltb-false, ltb-true, ne-eqb}
+use lib.Dec.{ltb}
 use lib.Ieee.{Float}
 use Rattle.formula.specs.Path.{placed}
+use Rattle.formula.proofs.Tests.{or-none}
 use Rattle.machine.specs.Program.{valid}
 use Rattle.machine.specs.Machine as Machine
 use Rattle.machine.specs.Machine.{fresh, place-of, refuse}
 use Rattle.layout.specs.Decode.{length-at, path-number, program-at}
 use Rattle.program.proofs.Pass.{valid-at, valid-raw}
 use Rattle.run.specs.Views.{Hands-back, Writable, answer-of, reply-of, state-of}
-use Rattle.run.specs.Calls.{Known-place, refusing, resume-at, run-at, stale-at, steps-at, supplying, unfit-at}
+use Rattle.run.specs.Calls.{Known-place, Settled, refusing, resume-at, run-at, stale-at, steps-at, supplying, unfit-at}
 use Rattle.run.specs.declared.Answer.{Answer}
 use Rattle.run.specs.declared.Answer.the-variants as A
 use Rattle.run.specs.declared.Reply.{Reply}
@@ -34,6 +37,21 @@ refused-plain b room n {r} s e f = subst (λ (a : Answer). Writable b room a) (s
 
 pub refused-unplaced : (b : List ℕ) (n : ℕ) {r : Reply} (s : State) (slice : List ℕ) → r ≡ refusing n s → (n ≡ 5 → ⊥) → slice ≡ placed (place-of (answer-of b (r .answer))) slice
 refused-unplaced b n s slice e f = rw (e, ne-eqb n 5 f)
+
+-- what the test before 10 says of a call
+pub settled : (b : List ℕ) (room : ℕ) → (ltb room 8192 || valid (program-at b)) ≡ true → Settled b room
+settled b room e = by (ltb room 8192) (λ t. ltb-true room 8192 t) e
+  where
+    by : (x : Bool) → (x ≡ true → room < 8192) → (x || valid (program-at b)) ≡ true → Settled b room
+    by true f e = inr (f refl)
+    by false f e = inl e
+
+pub unsettled : (b : List ℕ) (room : ℕ) → (ltb room 8192 || valid (program-at b)) ≡ false → (8192 ≤ room) × (valid (program-at b) ≡ false)
+unsettled b room e = (ltb-false room 8192 (or-none (ltb room 8192) _ e .0), or-none (ltb room 8192) _ e .1)
+
+-- with a path slice that is long enough a call is settled by the bytes
+pub settled-valid : (b : List ℕ) (room : ℕ) → 8192 ≤ room → Settled b room → valid (program-at b) ≡ true
+settled-valid b room l s = ⊎-elim (λ v. v) (λ h. absurd (omega arith)) s
 
 pub steps-back : (inputs : List Float) (b : List ℕ) (budget at : ℕ) (kept regs regs′ : List Float) (r : Reply) (s : State) → reply-of b r regs′ ≡ steps-at inputs b budget at kept regs → Hands-back s r
 steps-back inputs b budget at kept regs regs′ r s e = λ n f. absurd (not-refused inputs b budget at kept regs regs′ r e n f)

@@ -2,12 +2,15 @@
 use mathlib.Core.Path.{_≡_}
 use mathlib.Core.Bool.{Bool, true, false, not}
 use mathlib.Core.List.{List, [], _∷_, _++_}
+use mathlib.Core.Logic.{_⊎_}
 use mathlib.Core.Option.{Option, none, some}
 use Prim.Native.Nat.{ℕ, _+_, _-_, _≤_, _<_}
 use lib.ListN.{getD, take}
 use lib.Ieee.{Float, binary64}
 use Rattle.arithmetic.specs.Value.{0f}
+use Rattle.formula.specs.Path.{path-room}
 use Rattle.meaning.specs.Work.{Question, elementary, power, same-question}
+use Rattle.machine.specs.Program.{valid}
 use Rattle.machine.specs.Machine as Machine
 use Rattle.layout.specs.Decode.{code-count, path-number, program-at, raw-program, result-at}
 use Rattle.work.specs.declared.Kept.{Kept}
@@ -32,6 +35,14 @@ run-at inputs b room budget regs = Machine.run binary64 inputs (program-at b) (r
 unfoldable pub resume-at : List Float → List ℕ → ℕ → ℕ → Option Float → Machine.State → List Float → Machine.Reply
 resume-at inputs b room budget given st regs =
     Machine.resume binary64 inputs (program-at b) (record { room = room; budget = budget; given = given }) st regs
+
+-- a call without the check of the bytes is settled where they are a program, or where "1, path slice too short" comes before they matter
+abbrev pub Settled : List ℕ → ℕ → Type 0
+Settled b room = (valid (program-at b) ≡ true) ⊎ (room < path-room)
+
+-- so with every path slice that is long enough
+abbrev pub Long-enough : (ℕ → Type 0) → Type 0
+Long-enough C = (room : ℕ) → path-room ≤ room → C room
 
 -- ---- their parts, on the bytes as they stand
 

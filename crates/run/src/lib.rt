@@ -1,10 +1,11 @@
 // Run and resume of a program's bytes (reference `evaluate_into`).
 ghost use mathlib.Core.Path.{_≡_};
-ghost use mathlib.Core.Bool.{true, not};
+ghost use mathlib.Core.Bool.{true, not, _||_};
 ghost use mathlib.Core.List.{[]};
 ghost use mathlib.Core.Option.{none};
-ghost use Prim.Native.Nat.{_<_};
+ghost use Prim.Native.Nat.{_<_, _≤_};
 ghost use lib.ListN.{length};
+ghost use lib.Dec.{ltb};
 ghost use lib.Ieee.{binary64};
 ghost use Rattle.arithmetic.specs.Value.{finite};
 ghost use Rattle.formula.specs.Text.{all};
@@ -17,7 +18,7 @@ ghost use Rattle.layout.specs.Decode.{code-count, program-at};
 ghost use Rattle.work.specs.View.{kept-values};
 ghost use Rattle.instruction.specs.declared.Effect.the-variants.{Work};
 ghost use Rattle.run.specs.Views.{Hands-back, Writable, answer-of, pending-of, refusal-number, reply-of, state-of, supplied-of};
-ghost use Rattle.run.specs.Calls.{Finished, Known-place, Reaches, putting, refusing, replying, resume-at, run-at, stale-at, steps-at, stopping, supplying, unasked, unfit-at};
+ghost use Rattle.run.specs.Calls.{Finished, Known-place, Reaches, putting, refusing, replying, resume-at, run-at, Long-enough, Settled, stale-at, steps-at, stopping, supplying, unasked, unfit-at};
 use instruction::Effect;
 use instruction::Progress;
 use layout::CODE_AT;
@@ -348,8 +349,8 @@ fn refusal(n: u8, state: State) -> Reply
 
 // "A refusal with a place writes the text, then zeros to the slice's end. Otherwise it isn't written."
 fn write_place(p: &[u8], answer: Answer, path: &mut [u8])
-    requires { ⌜ (valid (program-at (now p)) ≡ true) × Writable (now p) (length (now path)) answer ⌝ }
-    ensures { λ r. ⌜ now (path .exit) ≡ placed (place-of (answer-of (now (p .entry)) answer)) (now (path .entry)) ⌝ }
+    requires { ⌜ 8192 ≤ length (now path) ⌝ }
+    ensures { λ r. ⌜ ((valid (program-at (now (p .entry))) ≡ true) × Writable (now (p .entry)) 8192 answer → now (path .exit) ≡ placed (place-of (answer-of (now (p .entry)) answer)) (now (path .entry))) ⌝ }
 {
     match answer {
         Answer::Domain(k) => program::write_place(p, k, path),
@@ -365,23 +366,13 @@ fn write_place(p: &[u8], answer: Answer, path: &mut [u8])
     }
 }
 
-// A run of bytes that were checked before, with the place of a refusal left to the caller to write.
-pub fn run_reply(
-    p: &[u8],
-    inputs: &[f64],
-    regs: &mut [f64],
-    room: usize,
-    budget: usize,
-    state: State,
-) -> Reply
-    requires { ⌜ (valid (program-at (now p)) ≡ true) × (state-of state ≡ fresh) ⌝ }
-    ensures reply { λ r. ⌜ reply-of (now (p .entry)) r (now (regs .exit)) ≡ run-at (now (inputs .entry)) (now (p .entry)) room budget (now (regs .entry)) ⌝ }
-    ensures place { λ r. ⌜ Writable (now (p .entry)) room (r .answer) ⌝ }
+// A run after 1 and 10 were looked at, with the place of a refusal left to the caller to write.
+pub fn run_reply(p: &[u8], inputs: &[f64], regs: &mut [f64], budget: usize, state: State) -> Reply
+    requires { ⌜ state-of state ≡ fresh ⌝ }
+    ensures reply { λ r. ⌜ (valid (program-at (now (p .entry))) ≡ true → Long-enough (λ room. reply-of (now (p .entry)) r (now (regs .exit)) ≡ run-at (now (inputs .entry)) (now (p .entry)) room budget (now (regs .entry)))) ⌝ }
+    ensures place { λ r. ⌜ (valid (program-at (now (p .entry))) ≡ true → Writable (now (p .entry)) 8192 (r .answer)) ⌝ }
     ensures state { λ r. ⌜ Hands-back state r ⌝ }
 {
-    if room < 8192 {
-        return refusal(SLICE_TOO_SHORT, state);
-    }
     let bad = unfit(p, inputs, regs, budget);
     if bad {
         return refusal(INVALID_INPUT, state);
@@ -394,19 +385,14 @@ fn resume_reply(
     p: &[u8],
     inputs: &[f64],
     regs: &mut [f64],
-    room: usize,
     budget: usize,
     state: State,
     supplied: Supplied,
 ) -> Reply
-    requires { ⌜ valid (program-at (now p)) ≡ true ⌝ }
-    ensures reply { λ r. ⌜ reply-of (now (p .entry)) r (now (regs .exit)) ≡ resume-at (now (inputs .entry)) (now (p .entry)) room budget (supplied-of supplied) (state-of state) (now (regs .entry)) ⌝ }
-    ensures place { λ r. ⌜ Writable (now (p .entry)) room (r .answer) ⌝ }
+    ensures reply { λ r. ⌜ (valid (program-at (now (p .entry))) ≡ true → Long-enough (λ room. reply-of (now (p .entry)) r (now (regs .exit)) ≡ resume-at (now (inputs .entry)) (now (p .entry)) room budget (supplied-of supplied) (state-of state) (now (regs .entry)))) ⌝ }
+    ensures place { λ r. ⌜ (valid (program-at (now (p .entry))) ≡ true → Writable (now (p .entry)) 8192 (r .answer)) ⌝ }
     ensures state { λ r. ⌜ Hands-back state r ⌝ }
 {
-    if room < 8192 {
-        return refusal(SLICE_TOO_SHORT, state);
-    }
     let bad = unfit(p, inputs, regs, budget);
     if bad {
         return refusal(INVALID_INPUT, state);
@@ -421,29 +407,31 @@ fn resume_reply(
     steps(p, inputs, regs, budget, position, k)
 }
 
-// A run of bytes that were checked before.
-pub fn run_checked(
+// A run without the check of the bytes. Where they are a program, or the path slice is too short, it is `run`. Otherwise
+// it ends too and stays inside the slices, and what it answers and leaves in them is free.
+pub fn run_unchecked(
     p: &[u8],
     inputs: &[f64],
     regs: &mut [f64],
     path: &mut [u8],
     budget: usize,
 ) -> Reply
-    requires { ⌜ valid (program-at (now p)) ≡ true ⌝ }
-    ensures reply { λ r. ⌜ reply-of (now (p .entry)) r (now (regs .exit)) ≡ run-at (now (inputs .entry)) (now (p .entry)) (length (now (path .entry))) budget (now (regs .entry)) ⌝ }
-    ensures place { λ r. ⌜ now (path .exit) ≡ placed (place-of (answer-of (now (p .entry)) (r .answer))) (now (path .entry)) ⌝ }
-    ensures number { λ r. ⌜ refusal-number (r .answer) ≡ number-of (run-at (now (inputs .entry)) (now (p .entry)) (length (now (path .entry))) budget (now (regs .entry)) .answer) ⌝ }
-    ensures lawful { λ r. ⌜ Lawful binary64 (now (inputs .entry)) (program-at (now (p .entry))) budget none fresh (now (regs .entry)) (reply-of (now (p .entry)) r (now (regs .exit))) ⌝ }
+    ensures reply { λ r. ⌜ (Settled (now (p .entry)) (length (now (path .entry))) → reply-of (now (p .entry)) r (now (regs .exit)) ≡ run-at (now (inputs .entry)) (now (p .entry)) (length (now (path .entry))) budget (now (regs .entry))) ⌝ }
+    ensures place { λ r. ⌜ (Settled (now (p .entry)) (length (now (path .entry))) → now (path .exit) ≡ placed (place-of (answer-of (now (p .entry)) (r .answer))) (now (path .entry))) ⌝ }
+    ensures number { λ r. ⌜ (Settled (now (p .entry)) (length (now (path .entry))) → refusal-number (r .answer) ≡ number-of (run-at (now (inputs .entry)) (now (p .entry)) (length (now (path .entry))) budget (now (regs .entry)) .answer)) ⌝ }
+    ensures lawful { λ r. ⌜ (Settled (now (p .entry)) (length (now (path .entry))) → Lawful binary64 (now (inputs .entry)) (program-at (now (p .entry))) budget none fresh (now (regs .entry)) (reply-of (now (p .entry)) r (now (regs .exit)))) ⌝ }
 {
-    let room = path.len();
-    let r = run_reply(p, inputs, regs, room, budget, fresh_state());
+    if path.len() < 8192 {
+        return refusal(SLICE_TOO_SHORT, fresh_state());
+    }
+    let r = run_reply(p, inputs, regs, budget, fresh_state());
     let answer = r.answer;
     write_place(p, answer, path);
     r
 }
 
-// A resume of bytes that were checked before.
-pub fn resume_checked(
+// A resume without the check of the bytes, as `run_unchecked`. A refusal hands the state back in any case.
+pub fn resume_unchecked(
     p: &[u8],
     inputs: &[f64],
     regs: &mut [f64],
@@ -452,18 +440,26 @@ pub fn resume_checked(
     state: State,
     supplied: Supplied,
 ) -> Reply
-    requires { ⌜ valid (program-at (now p)) ≡ true ⌝ }
-    ensures reply { λ r. ⌜ reply-of (now (p .entry)) r (now (regs .exit)) ≡ resume-at (now (inputs .entry)) (now (p .entry)) (length (now (path .entry))) budget (supplied-of supplied) (state-of state) (now (regs .entry)) ⌝ }
-    ensures place { λ r. ⌜ now (path .exit) ≡ placed (place-of (answer-of (now (p .entry)) (r .answer))) (now (path .entry)) ⌝ }
+    ensures reply { λ r. ⌜ (Settled (now (p .entry)) (length (now (path .entry))) → reply-of (now (p .entry)) r (now (regs .exit)) ≡ resume-at (now (inputs .entry)) (now (p .entry)) (length (now (path .entry))) budget (supplied-of supplied) (state-of state) (now (regs .entry))) ⌝ }
+    ensures place { λ r. ⌜ (Settled (now (p .entry)) (length (now (path .entry))) → now (path .exit) ≡ placed (place-of (answer-of (now (p .entry)) (r .answer))) (now (path .entry))) ⌝ }
     ensures state { λ r. ⌜ Hands-back state r ⌝ }
-    ensures number { λ r. ⌜ refusal-number (r .answer) ≡ number-of (resume-at (now (inputs .entry)) (now (p .entry)) (length (now (path .entry))) budget (supplied-of supplied) (state-of state) (now (regs .entry)) .answer) ⌝ }
-    ensures lawful { λ r. ⌜ Lawful binary64 (now (inputs .entry)) (program-at (now (p .entry))) budget (supplied-of supplied) (state-of state) (now (regs .entry)) (reply-of (now (p .entry)) r (now (regs .exit))) ⌝ }
+    ensures number { λ r. ⌜ (Settled (now (p .entry)) (length (now (path .entry))) → refusal-number (r .answer) ≡ number-of (resume-at (now (inputs .entry)) (now (p .entry)) (length (now (path .entry))) budget (supplied-of supplied) (state-of state) (now (regs .entry)) .answer)) ⌝ }
+    ensures lawful { λ r. ⌜ (Settled (now (p .entry)) (length (now (path .entry))) → Lawful binary64 (now (inputs .entry)) (program-at (now (p .entry))) budget (supplied-of supplied) (state-of state) (now (regs .entry)) (reply-of (now (p .entry)) r (now (regs .exit)))) ⌝ }
 {
-    let room = path.len();
-    let r = resume_reply(p, inputs, regs, room, budget, state, supplied);
+    if path.len() < 8192 {
+        return refusal(SLICE_TOO_SHORT, state);
+    }
+    let r = resume_reply(p, inputs, regs, budget, state, supplied);
     let answer = r.answer;
     write_place(p, answer, path);
     r
+}
+
+// Whether the bytes needn't be refused by 10: 1 comes before it, or they are a program.
+fn goes_on(p: &[u8], room: usize) -> bool
+    ensures { λ r. ⌜ r ≡ (ltb room 8192 || valid (program-at (now (p .entry)))) ⌝ }
+{
+    room < 8192 || program::is_program(p)
 }
 
 // "In order: 1, path slice too short; 10, not a program; 5 at `root` ..; 11 (resume) .. Otherwise: a value, a question,
@@ -474,12 +470,9 @@ pub fn run(p: &[u8], inputs: &[f64], regs: &mut [f64], path: &mut [u8], budget: 
     ensures number { λ r. ⌜ refusal-number (r .answer) ≡ number-of (run-at (now (inputs .entry)) (now (p .entry)) (length (now (path .entry))) budget (now (regs .entry)) .answer) ⌝ }
     ensures lawful { λ r. ⌜ Lawful binary64 (now (inputs .entry)) (program-at (now (p .entry))) budget none fresh (now (regs .entry)) (reply-of (now (p .entry)) r (now (regs .exit))) ⌝ }
 {
-    if path.len() < 8192 {
-        return refusal(SLICE_TOO_SHORT, fresh_state());
-    }
-    let ok = program::is_program(p);
+    let ok = goes_on(p, path.len());
     if ok {
-        return run_checked(p, inputs, regs, path, budget);
+        return run_unchecked(p, inputs, regs, path, budget);
     }
     refusal(NO_PROGRAM, fresh_state())
 }
@@ -499,12 +492,9 @@ pub fn resume(
     ensures number { λ r. ⌜ refusal-number (r .answer) ≡ number-of (resume-at (now (inputs .entry)) (now (p .entry)) (length (now (path .entry))) budget (supplied-of supplied) (state-of state) (now (regs .entry)) .answer) ⌝ }
     ensures lawful { λ r. ⌜ Lawful binary64 (now (inputs .entry)) (program-at (now (p .entry))) budget (supplied-of supplied) (state-of state) (now (regs .entry)) (reply-of (now (p .entry)) r (now (regs .exit))) ⌝ }
 {
-    if path.len() < 8192 {
-        return refusal(SLICE_TOO_SHORT, state);
-    }
-    let ok = program::is_program(p);
+    let ok = goes_on(p, path.len());
     if ok {
-        return resume_checked(p, inputs, regs, path, budget, state, supplied);
+        return resume_unchecked(p, inputs, regs, path, budget, state, supplied);
     }
     refusal(NO_PROGRAM, state)
 }

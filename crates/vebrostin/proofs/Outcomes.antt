@@ -2,6 +2,7 @@
 use mathlib.Core.Path.{_≡_, refl, sym, ap, _∙_, subst}
 use mathlib.Core.Bool.{Bool, true, false, true≢false}
 use mathlib.Core.List.{List, [], _∷_, _++_}
+use mathlib.Core.Logic.{⊎-elim}
 use mathlib.Core.Option.{Option}
 use Prim.Native.Nat.{ℕ, _<_, _≤_}
 use lib.ListN.{length, drop}
@@ -24,9 +25,9 @@ use Rattle.run.specs.declared.Answer.the-variants as Answer
 use Rattle.run.specs.declared.Reply.{Reply}
 use Rattle.run.specs.declared.State.{State}
 use Rattle.run.specs.Views.{Hands-back, answer-of, pending-of, reply-of, state-of}
-use Rattle.run.specs.Calls.{resume-at, run-at}
+use Rattle.run.specs.Calls.{Settled, resume-at, run-at}
 use Rattle.vebrostin.specs.Cells.{Askable, number-of, state-cells, state-in, value-cell}
-use Rattle.vebrostin.specs.Calls.{Carries, Compiles, Derives, Leaves, Outcome, after, compile-number, compile-outcome, derive-number, derive-outcome, is-refused, report-length, report-short, resume-outcome, run-outcome, short, state-length, told, untouched, with-room, written}
+use Rattle.vebrostin.specs.Calls.{Carries, Compiles, Derives, Leaves, Outcome, Settles, after, compile-number, compile-outcome, derive-number, derive-outcome, is-refused, report-length, report-short, resume-outcome, run-outcome, short, state-length, told, untouched, with-room, written}
 use Rattle.vebrostin.proofs.Asking.{resume-asks, run-asks}
 
 -- ---- the numbers of an answer don't go by the program
@@ -94,6 +95,14 @@ nothing-left : (cells : List ℕ) (regs : List Float) (path report : List ℕ) (
 nothing-left cells regs path report o h =
     subst (λ (x : Outcome). Leaves x slice-too-short cells regs path report)
     (no-room (short cells report) (untouched cells regs path report) o h) (refl, refl, refl, refl, refl)
+
+-- with room a call without the check is settled as the run is
+pub settled : (b path cells report : List ℕ) → short cells report ≡ false → Settles b path cells report → Settled b (length path)
+settled b path cells report h s = ⊎-elim (λ t. absurd (true≢false (sym t ∙ h))) (λ x. x) s
+
+-- its two clauses, each under that condition
+pub apart : {T S A B C : Type 0} → (T → S) → (S → A × B) → C → (T → A) × ((T → B) × C)
+apart f g c = (λ t. g (f t) .0, (λ t. g (f t) .1, c))
 
 -- ---- compile and derive
 

@@ -2,6 +2,7 @@
 use mathlib.Core.Path.{_≡_}
 use mathlib.Core.Bool.{Bool, true, false, cond, _||_}
 use mathlib.Core.List.{List, _++_}
+use mathlib.Core.Logic.{_⊎_}
 use mathlib.Core.Option.{Option, none}
 use Prim.Native.Nat.{ℕ}
 use lib.ListN.{length, drop}
@@ -19,7 +20,7 @@ use Rattle.derivative.specs.Derive as Derive
 use Rattle.derive.specs.Outcome as Entered
 use Rattle.derive.specs.declared.Answer as DeriveAnswer
 use Rattle.derive.specs.declared.Answer.the-variants as Derived
-use Rattle.run.specs.Calls.{resume-at, run-at}
+use Rattle.run.specs.Calls.{Settled, resume-at, run-at}
 use Rattle.vebrostin.specs.Cells.{number-of, outcome-cells, state-cells, state-in}
 
 -- ---- numbers that cross in slices
@@ -131,3 +132,7 @@ Carries cells report r = short cells report ≡ false → state-in cells ≡ r .
 
 abbrev pub Leaves : Outcome → ℕ → List ℕ → List Float → List ℕ → List ℕ → Type 0
 Leaves o n c r p t = (n ≡ o .number) × (c ≡ o .cells) × (r ≡ o .registers) × (p ≡ o .path) × (t ≡ o .report)
+
+-- a call without the check of the bytes is settled where a slice of numbers is too short, and else as the run is
+abbrev pub Settles : List ℕ → List ℕ → List ℕ → List ℕ → Type 0
+Settles b path cells report = (short cells report ≡ true) ⊎ Settled b (length path)

@@ -14,7 +14,7 @@ ghost use Rattle.work.specs.View.{kept-values};
 ghost use Rattle.run.specs.Views.{answer-of, pending-of, state-of, supplied-of};
 ghost use Rattle.run.specs.Calls.{resume-at, run-at};
 ghost use Rattle.vebrostin.specs.Cells.{Arguments-back, Askable, Comes-back, bits, kept-in, number-of, question-cells, question-in, state-cells, state-in, value-at, value-cell};
-ghost use Rattle.vebrostin.specs.Calls.{Carries, Compiles, Derives, Leaves, compile-number, compile-outcome, derive-number, derive-outcome, is-refused, resume-outcome, run-outcome, short};
+ghost use Rattle.vebrostin.specs.Calls.{Carries, Compiles, Derives, Leaves, compile-number, compile-outcome, derive-number, derive-outcome, is-refused, resume-outcome, run-outcome, Settles, short};
 use floats::value::bits_of;
 use floats::value::of_bits;
 use layout::CODE_AT;
@@ -434,5 +434,120 @@ pub extern "C" fn vebrostin_answer(
         cells,
         report,
         Supplied::Value(value),
+    )
+}
+
+// ---- runs without the check
+
+// As `vebrostin_run`, without the check of the bytes: where they are a program, or a slice is too short, it is that.
+// Otherwise it ends too and stays inside the slices; what it answers and leaves in them, but for the report, is free.
+#[no_mangle]
+pub extern "C" fn vebrostin_run_unchecked(
+    program: &[u8],
+    inputs: &[f64],
+    registers: &mut [f64],
+    path: &mut [u8],
+    budget: usize,
+    cells: &mut [u64],
+    report: &mut [u64],
+) -> usize
+    ensures outcome { λ r. ⌜ (Settles (now (program .entry)) (now (path .entry)) (now (cells .entry)) (now (report .entry)) → Leaves (run-outcome (now (inputs .entry)) (now (program .entry)) budget (now (registers .entry)) (now (cells .entry)) (now (path .entry)) (now (report .entry))) r (now (cells .exit)) (now (registers .exit)) (now (path .exit)) (now (report .exit))) ⌝ }
+    ensures state { λ r. ⌜ (Settles (now (program .entry)) (now (path .entry)) (now (cells .entry)) (now (report .entry)) → Carries (now (cells .exit)) (now (report .exit)) (run-at (now (inputs .entry)) (now (program .entry)) (length (now (path .entry))) budget (now (registers .entry)))) ⌝ }
+    ensures report { λ r. ⌜ now (report .exit) ≡ now (report .entry) ⌝ }
+{
+    let few = is_short(cells, report);
+    if few {
+        return SLICE_TOO_SHORT as usize;
+    }
+    let r = run::run_unchecked(program, inputs, registers, path, budget);
+    let state = r.state;
+    let given = r.answer;
+    put_reply(cells, state, given, r.count);
+    number_of(given)
+}
+
+fn resumed_unchecked(
+    program: &[u8],
+    inputs: &[f64],
+    registers: &mut [f64],
+    path: &mut [u8],
+    budget: usize,
+    cells: &mut [u64],
+    report: &mut [u64],
+    supplied: Supplied,
+) -> usize
+    ensures outcome { λ r. ⌜ (Settles (now (program .entry)) (now (path .entry)) (now (cells .entry)) (now (report .entry)) → Leaves (resume-outcome (now (inputs .entry)) (now (program .entry)) budget (supplied-of supplied) (now (registers .entry)) (now (cells .entry)) (now (path .entry)) (now (report .entry))) r (now (cells .exit)) (now (registers .exit)) (now (path .exit)) (now (report .exit))) ⌝ }
+    ensures state { λ r. ⌜ (Settles (now (program .entry)) (now (path .entry)) (now (cells .entry)) (now (report .entry)) → Carries (now (cells .exit)) (now (report .exit)) (resume-at (now (inputs .entry)) (now (program .entry)) (length (now (path .entry))) budget (supplied-of supplied) (state-in (now (cells .entry))) (now (registers .entry)))) ⌝ }
+    ensures report { λ r. ⌜ now (report .exit) ≡ now (report .entry) ⌝ }
+{
+    let few = is_short(cells, report);
+    if few {
+        return SLICE_TOO_SHORT as usize;
+    }
+    let before = state_in(cells);
+    let r = run::resume_unchecked(program, inputs, registers, path, budget, before, supplied);
+    let given = r.answer;
+    let state = r.state;
+    let no = is_refused(given);
+    if no {
+        return number_of(given);
+    }
+    put_reply(cells, state, given, r.count);
+    number_of(given)
+}
+
+// As `vebrostin_resume`, without the check.
+#[no_mangle]
+pub extern "C" fn vebrostin_resume_unchecked(
+    program: &[u8],
+    inputs: &[f64],
+    registers: &mut [f64],
+    path: &mut [u8],
+    budget: usize,
+    cells: &mut [u64],
+    report: &mut [u64],
+) -> usize
+    ensures outcome { λ r. ⌜ (Settles (now (program .entry)) (now (path .entry)) (now (cells .entry)) (now (report .entry)) → Leaves (resume-outcome (now (inputs .entry)) (now (program .entry)) budget none (now (registers .entry)) (now (cells .entry)) (now (path .entry)) (now (report .entry))) r (now (cells .exit)) (now (registers .exit)) (now (path .exit)) (now (report .exit))) ⌝ }
+    ensures state { λ r. ⌜ (Settles (now (program .entry)) (now (path .entry)) (now (cells .entry)) (now (report .entry)) → Carries (now (cells .exit)) (now (report .exit)) (resume-at (now (inputs .entry)) (now (program .entry)) (length (now (path .entry))) budget none (state-in (now (cells .entry))) (now (registers .entry)))) ⌝ }
+    ensures report { λ r. ⌜ now (report .exit) ≡ now (report .entry) ⌝ }
+{
+    resumed_unchecked(
+        program,
+        inputs,
+        registers,
+        path,
+        budget,
+        cells,
+        report,
+        Supplied::Nothing,
+    )
+}
+
+// As `vebrostin_answer`, without the check.
+#[no_mangle]
+pub extern "C" fn vebrostin_answer_unchecked(
+    program: &[u8],
+    inputs: &[f64],
+    registers: &mut [f64],
+    path: &mut [u8],
+    budget: usize,
+    cells: &mut [u64],
+    report: &mut [u64],
+    value: f64,
+) -> usize
+    ensures outcome { λ r. ⌜ (Settles (now (program .entry)) (now (path .entry)) (now (cells .entry)) (now (report .entry)) → Leaves (resume-outcome (now (inputs .entry)) (now (program .entry)) budget (some value) (now (registers .entry)) (now (cells .entry)) (now (path .entry)) (now (report .entry))) r (now (cells .exit)) (now (registers .exit)) (now (path .exit)) (now (report .exit))) ⌝ }
+    ensures state { λ r. ⌜ (Settles (now (program .entry)) (now (path .entry)) (now (cells .entry)) (now (report .entry)) → Carries (now (cells .exit)) (now (report .exit)) (resume-at (now (inputs .entry)) (now (program .entry)) (length (now (path .entry))) budget (some value) (state-in (now (cells .entry))) (now (registers .entry)))) ⌝ }
+    ensures report { λ r. ⌜ now (report .exit) ≡ now (report .entry) ⌝ }
+{
+    let given = Supplied::Value(value);
+    resumed_unchecked(
+        program,
+        inputs,
+        registers,
+        path,
+        budget,
+        cells,
+        report,
+        given,
     )
 }

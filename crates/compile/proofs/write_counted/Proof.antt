@@ -142,10 +142,10 @@ write-path-requires c κs =
     let put-record = c .before .before .before .before .before .before .before .before .before .before .before .put-record in
     let node = c .before .before .before .before .before .before .before .node in
     let a2 = c .before .before .before .a2 in
-    whole.writes (args .b .now) (args .d) (length (args .path .now)) (args .p .now) (args .kinds .now) (args .generated) (args .code) (args .records)
+    (whole.writes (args .b .now) (args .d) (length (args .path .now)) (args .p .now) (args .kinds .now) (args .generated) (args .code) (args .records)
     (args .entries) (pre .0) (pre .1 .0) (pre .1 .1) (pre .1 .2) (put-record .last .0) (put-record .ensures) (node .last .1 .0) (node .result)
     (node .ensures) (a2 .given .0 .0) (a2 .given .0 .1 .0) (a2 .given .1) (pre .0 .places)
-    (omega (arith, node .kept .1 .0, put-record .kept .0, good .1 .0 .0))
+    (omega (arith, node .kept .1 .0, put-record .kept .0, good .1 .0 .0)) .0)
 
 zero-from-requires-2 : tie.Need-zero-from-requires-2
 zero-from-requires-2 c κs = search needs
@@ -177,15 +177,21 @@ returns-2 : tie.Need-returns-2
 returns-2 c =
     let args = c .before .before .before .before .before .before .before .before .before .before .before .before .before .before .before .before .before .before .before .before .before .before .before .before .args in
     let pre = c .before .before .before .before .before .before .before .before .before .before .before .before .before .before .before .before .before .before .before .before .before .before .before .before .pre in
+    let good = c .before .before .before .before .before .before .before .before .before .before .before .before .before .before .before .before .before .before .before .before .before .before .before .before .good in
     let put-record = c .before .before .before .before .before .before .before .before .before .before .before .before .before .before .before .before .before .before .put-record in
     let node = c .before .before .before .before .before .before .before .before .before .before .before .before .before .before .node in
     let a2 = c .before .before .before .before .before .before .before .before .before .before .a2 in
     let write-path = c .before .before .before .before .before .before .write-path in
+    let fits =
+    (whole.writes (args .b .now) (args .d) (length (args .path .now)) (args .p .now) (args .kinds .now) (args .generated) (args .code) (args .records)
+    (args .entries) (pre .0) (pre .1 .0) (pre .1 .1) (pre .1 .2) (put-record .last .0) (put-record .ensures) (node .last .1 .0) (node .result)
+    (node .ensures) (a2 .given .0 .0) (a2 .given .0 .1 .0) (a2 .given .1) (pre .0 .places)
+    (omega (arith, node .kept .1 .0, put-record .kept .0, good .1 .0 .0)) .1) in
     whole.fault-answers (args .b .now) (args .d) (length (args .path .now)) (args .p .now) (args .kinds .now) (args .generated) (args .code)
     (args .records) (args .entries) (pre .0) (pre .1 .0) (pre .1 .1) (pre .1 .2) (put-record .last .0) (put-record .ensures) (node .last .1 .0)
     (node .result) (node .ensures) (a2 .given .0 .0) (a2 .given .0 .1 .0) (a2 .given .1) (c .before .before .zero-from2 .last .0) (args .path .now)
     (write-path .last .1 .1 .1 .0) (omega (arith, node .kept .1 .0, put-record .kept .0)) (c .before .before .zero-from2 .ensures)
-    (write-path .ensures)
+    (write-path .ensures fits)
 
 pub write-counted-spec : {M : Type 1} → statement M
 write-counted-spec =

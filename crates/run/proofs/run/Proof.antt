@@ -2,31 +2,17 @@ use mathlib.Core.Path.{sym, _∙_}
 use native.Mathlib.Omega.{arith}
 use lib.ListN.{length}
 use Rattle.machine.specs.Machine.{fresh}
-use Rattle.run.proofs.Whole.{refused-is, refused-unplaced, run-1, run-10}
+use Rattle.run.proofs.Whole.{refused-is, refused-unplaced, run-10, settled, unsettled}
 use Rattle.run.proofs.Progress.{run-promises}
 use borrow.Author.Needs.{needs}
 use Rattle.run.proofs.run.Statement.{statement}
 use Rattle.run.proofs.run.Tie as tie
 
-fresh-state-requires : tie.Need-fresh-state-requires
-fresh-state-requires c κs = search needs
+goes-on-requires : tie.Need-goes-on-requires
+goes-on-requires c κs = search needs
 
-refusal-requires : tie.Need-refusal-requires
-refusal-requires c κs = search needs
-
-returns : tie.Need-returns
-returns c =
-    let a = c .before .before .before .before .before .before .before .args in
-    let b = a .p .now in
-    let e = refused-is b 1 (c .before .fresh-state .result) fresh (a .regs .now) (c .refusal .ensures) (c .before .fresh-state .ensures) ∙ run-1 (a .inputs .now) b (length (a .path .now)) (a .budget) (a .regs .now) (c .before .before .if1 .taken) in
-    run-promises (a .inputs .now) b (length (a .path .now)) (a .budget) (a .regs .now) (c .refusal .result) (a .regs .now) (a .path .now) (a .path .now) e
-    (refused-unplaced b 1 (c .before .fresh-state .result) (a .path .now) (c .refusal .ensures) (λ z. omega arith))
-
-is-program-requires : tie.Need-is-program-requires
-is-program-requires c κs = search needs
-
-run-checked-requires : tie.Need-run-checked-requires
-run-checked-requires c κs = sym (c .before .before .before .is-program .ensures) ∙ c .before .before .if2 .taken
+run-unchecked-requires : tie.Need-run-unchecked-requires
+run-unchecked-requires c κs = search needs
 
 same-length : tie.Need-same-length
 same-length c = search needs
@@ -34,35 +20,41 @@ same-length c = search needs
 same-length-2 : tie.Need-same-length-2
 same-length-2 c = search needs
 
+returns : tie.Need-returns
+returns c =
+    let a = c .before .before .before .before .before .before .before .before .before .before .before .before .before .args in
+    let e = c .before .before .before .before .run-unchecked .ensures in
+    let s = settled (a .p .now) (length (a .path .now)) (sym (c .before .before .before .before .before .before .before .before .goes-on .ensures) ∙ c .before .before .before .before .before .before .before .if1 .taken) in
+    (e .0 s, (e .1 .0 s, (e .1 .1 .0 s, e .1 .1 .1 s)))
+
+fresh-state-requires : tie.Need-fresh-state-requires
+fresh-state-requires c κs = search needs
+
+refusal-requires : tie.Need-refusal-requires
+refusal-requires c κs = search needs
+
 returns-2 : tie.Need-returns-2
-returns-2 c = search needs
-
-fresh-state-requires-2 : tie.Need-fresh-state-requires-2
-fresh-state-requires-2 c κs = search needs
-
-refusal-requires-2 : tie.Need-refusal-requires-2
-refusal-requires-2 c κs = search needs
-
-returns-3 : tie.Need-returns-3
-returns-3 c =
-    let a = c .before .before .before .before .before .before .before .before .before .args in
+returns-2 c =
+    let a = c .before .before .before .before .before .before .before .before .args in
     let b = a .p .now in
-    let e = refused-is b 10 (c .before .fresh-state2 .result) fresh (a .regs .now) (c .refusal2 .ensures) (c .before .fresh-state2 .ensures) ∙ run-10 (a .inputs .now) b (length (a .path .now)) (a .budget) (a .regs .now) (c .before .before .before .before .if1 .left) (sym (c .before .before .before .is-program .ensures) ∙ c .before .before .if2 .left) in
-    run-promises (a .inputs .now) b (length (a .path .now)) (a .budget) (a .regs .now) (c .refusal2 .result) (a .regs .now) (a .path .now) (a .path .now) e
-    (refused-unplaced b 10 (c .before .fresh-state2 .result) (a .path .now) (c .refusal2 .ensures) (λ z. omega arith))
+    let room = length (a .path .now) in
+    let fresh-state = c .before .fresh-state in
+    let refusal = c .refusal in
+    let u = unsettled b room (sym (c .before .before .before .goes-on .ensures) ∙ c .before .before .if1 .left) in
+    run-promises (a .inputs .now) b room (a .budget) (a .regs .now) (refusal .result) (a .regs .now) (a .path .now) (a .path .now)
+    (refused-is b 10 (fresh-state .result) fresh (a .regs .now) (refusal .ensures) (fresh-state .ensures)
+    ∙ run-10 (a .inputs .now) b room (a .budget) (a .regs .now) (u .0) (u .1))
+    (refused-unplaced b 10 (fresh-state .result) (a .path .now) (refusal .ensures) (λ z. omega arith))
 
 pub run-spec : {M : Type 1} → statement M
 run-spec =
     tie.close
     (tie.spec
-    fresh-state-requires
-    refusal-requires
-    returns
-    is-program-requires
-    run-checked-requires
+    goes-on-requires
+    run-unchecked-requires
     same-length
     same-length-2
-    returns-2
-    fresh-state-requires-2
-    refusal-requires-2
-    returns-3)
+    returns
+    fresh-state-requires
+    refusal-requires
+    returns-2)

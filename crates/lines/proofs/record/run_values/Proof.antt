@@ -36,7 +36,7 @@ slice-aggregate-run-reply c =
     sym (length-take-le (word2 .result) (zero-registers .last .0) (omega (arith, word2 .ensures .0, zero-registers .kept .0, pre .1)))
 
 run-reply-requires : tie.Need-run-reply-requires
-run-reply-requires c κs = (c .before .before .before .before .before .before .before .before .before .before .before .pre .0, c .before .fresh-state .ensures)
+run-reply-requires c κs = c .before .fresh-state .ensures
 
 same-length : tie.Need-same-length
 same-length c = search needs
@@ -51,8 +51,8 @@ returns c =
     let zero-registers = c .before .before .before .before .before .before .before .zero-registers in
     let run-reply = c .before .before .run-reply in (
       ran (args .p .now) (pre .0) (args .inputs .now) (take (word2 .result) (zero-registers .last .0)) (run-reply .last .1 .1 .0) (word .result)
-          (run-reply .result) _ (zero-registers .ensures ∙ ap (λ (n : ℕ). replicate n 0f) (word2 .ensures .0)) (word .ensures .0) (run-reply .ensures .0) refl,
-      run-reply .ensures .1 .0,
+          (run-reply .result) _ (zero-registers .ensures ∙ ap (λ (n : ℕ). replicate n 0f) (word2 .ensures .0)) (word .ensures .0) (run-reply .ensures .0 (pre .0) 8192 (omega arith)) refl,
+      run-reply .ensures .1 .0 (pre .0),
     )
 
 pub run-values-spec : {M : Type 1} → statement M

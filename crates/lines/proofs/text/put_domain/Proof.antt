@@ -34,19 +34,7 @@ part-write-place-end : tie.Need-part-write-place-end
 part-write-place-end c = search needs
 
 write-place-requires : tie.Need-write-place-requires
-write-place-requires c κs =
-    let pre = c .before .before .before .before .before .before .before .before .before .pre in
-    let put-bytes = c .before .before .before .before .put-bytes in
-    let path-length = c .before .path-length in (
-      pre .0,
-      pre .1,
-      omega (
-        arith,
-        mid-length (put-bytes .result) (path-length .result) (put-bytes .last .0)
-            (omega (arith, path-length .ensures, put-bytes .ensures .0, put-bytes .kept .0, pre .2, pre .3)),
-        path-length .ensures,
-      ),
-    )
+write-place-requires c κs = search needs
 
 same-length : tie.Need-same-length
 same-length c = search needs
@@ -60,11 +48,13 @@ returns c =
     let write-place = c .before .before .write-place in
     let the-path-of = path-of (args .p .now) (args .k) in
     let l = text-length (args .p .now) (valid-records (args .p .now) (pre .0)) (args .k) (pre .1) ∙ sym (path-length .ensures) in
-    let h : put-bytes .result + path-length .result ≤ length (put-bytes .last .0) = omega (arith, path-length .ensures, put-bytes .ensures .0, put-bytes .kept .0, pre .2, pre .3) in (
+    let h : put-bytes .result + path-length .result ≤ length (put-bytes .last .0) = omega (arith, path-length .ensures, put-bytes .ensures .0, put-bytes .kept .0, pre .2, pre .3) in
+    let m = mid-length (put-bytes .result) (path-length .result) (put-bytes .last .0) h in (
       wrote-then (args .out .now) (args .at) (ascii "domain,") (put-bytes .last .0) (put-bytes .result) (text the-path-of) _
           (put-bytes .result + path-length .result) (omega (arith, put-bytes .ensures .0, pre .3))
           (wrote (args .out .now) (args .at) (ascii "domain,") (put-bytes .last .0) (put-bytes .result) (put-bytes .ensures))
-          (path-wrote (put-bytes .last .0) (put-bytes .result) (path-length .result) the-path-of (write-place .last .1 .1 .0) h l (write-place .ensures)),
+          (path-wrote (put-bytes .last .0) (put-bytes .result) (path-length .result) the-path-of (write-place .last .1 .1 .0) h l
+          (write-place .ensures (pre .0, pre .1, omega (arith, m, path-length .ensures)))),
       omega (arith, path-length .ensures, put-bytes .ensures .0, pre .2),
     )
 
