@@ -1,4 +1,5 @@
 -- Laws of lines.
+pub mod Words
 pub mod Pieces
 pub mod Readings
 pub mod Parts

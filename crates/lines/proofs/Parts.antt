@@ -1,22 +1,25 @@
 -- A part of the input, one more byte at a time.
-use mathlib.Core.Path.{_≡_, refl, sym, ap, _∙_, subst}
+use mathlib.Core.Path.{_≡_, refl, sym, ap, ap₂, _∙_, subst}
 use mathlib.Core.Bool.{true, not}
-use mathlib.Core.List.{List, [], _∷_, _++_, append-assoc, append-nil}
+use mathlib.Core.List.{List, [], _∷_, _++_, map, append-assoc, append-nil}
 use mathlib.Core.Option.{Option, none, some}
 use Prim.Native.Nat.{ℕ, suc, _+_, _-_, _*_, _%_, _≤_, _<_}
 use native.Mathlib.Omega.{arith}
-use lib.ListN.{length, getD, take, drop, length-drop}
-use lib.Seq.{drop-drop, getD-drop, take-add, take-suc}
+use lib.ListN.{length, getD, take, drop, length-append, length-drop}
+use lib.Seq.{drop-drop, getD-drop, length-take-le, take-add, take-suc}
 use lib.Dec.{eqb}
 use lib.Ieee.{Float}
 use borrow.Author.Tests.{ne-eqb}
-use Rattle.formula.specs.Values.{digit-of}
+use Rattle.formula.specs.Text.{all-some, little-endian, long-at}
+use Rattle.formula.specs.Values.{digit-of, numbered, of-digits}
 use Rattle.names.specs.Lines.{free, part}
 use Rattle.names.proofs.Splits.{and-both, and-first, and-second}
 use Rattle.lines.specs.declared.values.Part.{Part}
 use Rattle.lines.specs.declared.values.Reading.{Reading}
 use Rattle.lines.specs.Reading.{Reads, Reads-on}
-use Rattle.lines.proofs.Readings.{digit-after}
+use Rattle.lines.proofs.Words.{long-again}
+use Rattle.lines.proofs.Pieces.{digits-append, digits-free, digits-length, numbered-some, of-digits-append, of-digits-eight}
+use Rattle.lines.proofs.Readings.{digit-after, value-after}
 
 pub part-none : (l : List ℕ) (a : ℕ) → part l a a ≡ []
 unfolding part
@@ -80,6 +83,10 @@ reading-step input from s values end t w g h n u x l r =
       read = subst (λ (xs : List ℕ). Reads-on s values xs u x) (sym p) (on-more s t u values w x (part input from end) (getD input end 0 ∷ []) (g .read) r);
     }
 
+length-part : (l : List ℕ) (a e : ℕ) → e ≤ length l → length (part l a e) ≡ e - a
+unfolding part
+length-part l a e h = length-take-le (e - a) (drop a l) (omega (arith, length-drop a l))
+
 -- a part behind a part
 part-join : (l : List ℕ) (a e f : ℕ) → a ≤ e → e ≤ f → part l a e ++ part l e f ≡ part l a f
 unfolding part
@@ -119,6 +126,45 @@ pub digits-step : (input : List ℕ) (from : ℕ) (s : Reading) (end : ℕ) (t :
 digits-step input from s end t d g h e l k values =
     reading-step input from s values end t values (g values) h (no-digit (getD input end 0) d e) _ values refl
     (λ seen r. digit-after seen t values (getD input end 0) d e l k r)
+
+-- the sixteen digits of a value, read as two words
+module _ (input : List ℕ) (bytes : (i : ℕ) → getD input i 0 < 256) (from : ℕ) (s : Reading) (inside : from + 16 ≤ length input) (start : s .digits ≡ 0) (high low : ℕ)
+    (small : 4294967296 * high + low < 18446744073709551616) where
+  value-on : (values : List Float) (xs ys : List ℕ) → xs ≡ part input from (from + 8) → ys ≡ part input (from + 8) (from + 16)
+      → numbered (all-some (map digit-of xs)) ≡ some high → numbered (all-some (map digit-of ys)) ≡ some low
+      → Reading-on input from s values (from + 16) (record { good = s .good; count = s .count; digits = 16; bits = 4294967296 * high + low }) values
+  value-on values xs ys ex ey ph pl =
+      let h = numbered-some (all-some (map digit-of xs)) high ph in
+      let l = numbered-some (all-some (map digit-of ys)) low pl in
+      let n = length-part input from (from + 8) (omega arith) in
+      let m = length-part input (from + 8) (from + 16) (omega arith) in
+      let numbers = h .0 ++ l .0 in
+      let e = digits-append xs ys (h .0) (l .0) (h .1 .0) (l .1 .0) in
+      let all : xs ++ ys ≡ part input from (from + 16) = ap₂ (λ (us vs : List ℕ). us ++ vs) ex ey ∙ part-join input from (from + 8) (from + 16) (omega arith) (omega arith) in
+      let lx : length xs ≡ 8 = ap length ex ∙ n ∙ omega arith in
+      let ly : length ys ≡ 8 = ap length ey ∙ m ∙ omega arith in
+      let bits : of-digits 0 numbers ≡ 4294967296 * high + low =
+      of-digits-append 0 (h .0) (l .0)
+      ∙ of-digits-eight (of-digits 0 (h .0)) (l .0) (digits-length ys (l .0) (l .1 .0) ∙ ly)
+      ∙ ap₂ (λ (i j : ℕ). 4294967296 * i + j) (h .1 .1) (l .1 .1) in
+      record {
+        start = omega arith;
+        inside = inside;
+        no-newline = ap (free 10) (sym all) ∙ digits-free 10 refl (xs ++ ys) numbers e;
+        same-length = refl;
+        read = λ seen r.
+            subst (λ (zs : List ℕ). Reads (seen ++ zs) (record { good = s .good; count = s .count; digits = 16; bits = 4294967296 * high + low }) values) all
+            (subst (λ (b : ℕ). Reads (seen ++ (xs ++ ys)) (record { good = s .good; count = s .count; digits = 16; bits = b }) values) bits
+            (value-after seen s values (xs ++ ys) numbers e (length-append xs ys ∙ omega arith) start (subst (λ (b : ℕ). b < 18446744073709551616) (sym bits) small) r));
+      }
+
+  pub value-digits : numbered (all-some (map digit-of (little-endian 8 (long-at input from)))) ≡ some high
+      → numbered (all-some (map digit-of (little-endian 8 (long-at input (from + 8))))) ≡ some low
+      → Digits-on input from s (from + 16) (record { good = s .good; count = s .count; digits = 16; bits = 4294967296 * high + low })
+  value-digits h l values =
+      let z : from + 8 + 8 ≡ from + 16 = omega arith in
+      value-on values (little-endian 8 (long-at input from)) (little-endian 8 (long-at input (from + 8))) (long-again input bytes from (omega arith))
+      (long-again input bytes (from + 8) (omega arith) ∙ ap (part input (from + 8)) z) h l
 
 -- what is told of the digits read
 pub digits-end : (input : List ℕ) (from : ℕ) (s : Reading) (end : ℕ) (t : Reading) (r : Part) → r ≡ record { reading = t; end = end } → Digits-on input from s end t

@@ -3,7 +3,7 @@ use mathlib.Core.Path.{_≡_, refl, sym, ap, _∙_}
 use mathlib.Core.Bool.{Bool, true, false, cond, not}
 use mathlib.Core.List.{List, [], _∷_, _++_, map}
 use mathlib.Core.Option.{Option, none, some}
-use Prim.Native.Nat.{ℕ, _+_, _*_}
+use Prim.Native.Nat.{ℕ, zero, suc, _+_, _*_}
 use native.Mathlib.Omega.{arith}
 use lib.ListN.{length, length-append}
 use lib.Dec.{eqb}
@@ -29,30 +29,67 @@ joined-second none r ds e = absurd (no-some e)
 joined-second (some d) none ds e = absurd (no-some e)
 joined-second (some d) (some es) ds e = (es, refl)
 
--- digits are no commas
-pub digits-free : (xs ds : List ℕ) → all-some (map digit-of xs) ≡ some ds → free 44 xs ≡ true
-digits-free [] ds e = refl
-digits-free (x ∷ xs) ds e =
+-- what is no digit is none of them
+pub digits-free : (c : ℕ) → digit-of c ≡ none → (xs ds : List ℕ) → all-some (map digit-of xs) ≡ some ds → free c xs ≡ true
+digits-free c n [] ds e = refl
+digits-free c n (x ∷ xs) ds e =
     let r = joined-second (digit-of x) (all-some (map digit-of xs)) ds e in
-    and-both (not (eqb x 44)) (free 44 xs) (ap not (ne-eqb x 44 (λ q. joined-first (digit-of x) (all-some (map digit-of xs)) ds e (ap digit-of q))))
-    (digits-free xs (r .0) (r .1))
+    and-both (not (eqb x c)) (free c xs) (ap not (ne-eqb x c (λ q. joined-first (digit-of x) (all-some (map digit-of xs)) ds e (ap digit-of q ∙ n))))
+    (digits-free c n xs (r .0) (r .1))
 
-joined-more : (o : Option ℕ) (r : Option (List ℕ)) (ds : List ℕ) (d : ℕ) (r′ : Option (List ℕ)) → joined o r ≡ some ds → ((es : List ℕ) → r ≡ some es → r′ ≡ some (es ++ (d ∷ [])))
-    → joined o r′ ≡ some (ds ++ (d ∷ []))
-joined-more none r ds d r′ e h = absurd (no-some e)
-joined-more (some a) none ds d r′ e h = absurd (no-some e)
-joined-more (some a) (some es) ds d r′ e h =
-    let q : (a ∷ es) ≡ ds = cc in ap (λ (o : Option (List ℕ)). joined (some a) o) (h es refl) ∙ ap (λ (xs : List ℕ). some (xs ++ (d ∷ []))) q
+joined-more : (o : Option ℕ) (r : Option (List ℕ)) (ds es : List ℕ) (r′ : Option (List ℕ)) → joined o r ≡ some ds → ((fs : List ℕ) → r ≡ some fs → r′ ≡ some (fs ++ es))
+    → joined o r′ ≡ some (ds ++ es)
+joined-more none r ds es r′ e h = absurd (no-some e)
+joined-more (some a) none ds es r′ e h = absurd (no-some e)
+joined-more (some a) (some fs) ds es r′ e h =
+    let q : (a ∷ fs) ≡ ds = cc in ap (λ (o : Option (List ℕ)). joined (some a) o) (h fs refl) ∙ ap (λ (xs : List ℕ). some (xs ++ es)) q
+
+-- digits behind digits
+pub digits-append : (xs ys ds es : List ℕ) → all-some (map digit-of xs) ≡ some ds → all-some (map digit-of ys) ≡ some es → all-some (map digit-of (xs ++ ys)) ≡ some (ds ++ es)
+digits-append [] ys ds es e q = let z : [] ≡ ds = cc in q ∙ ap (λ (xs : List ℕ). some (xs ++ es)) z
+digits-append (x ∷ xs) ys ds es e q =
+    joined-more (digit-of x) (all-some (map digit-of xs)) ds es (all-some (map digit-of (xs ++ ys))) e (λ fs h. digits-append xs ys fs es h q)
 
 -- one digit more
 pub digits-more : (xs ds : List ℕ) (b d : ℕ) → all-some (map digit-of xs) ≡ some ds → digit-of b ≡ some d → all-some (map digit-of (xs ++ (b ∷ []))) ≡ some (ds ++ (d ∷ []))
-digits-more [] ds b d e q = let z : [] ≡ ds = cc in ap (λ (o : Option ℕ). joined o (some [])) q ∙ ap (λ (xs : List ℕ). some (xs ++ (d ∷ []))) z
-digits-more (x ∷ xs) ds b d e q =
-    joined-more (digit-of x) (all-some (map digit-of xs)) ds d (all-some (map digit-of (xs ++ (b ∷ [])))) e (λ es h. digits-more xs es b d h q)
+digits-more xs ds b d e q = digits-append xs (b ∷ []) ds (d ∷ []) e (ap (λ (o : Option ℕ). joined o (some [])) q)
 
-pub of-digits-more : (n : ℕ) (ds : List ℕ) (d : ℕ) → of-digits n (ds ++ (d ∷ [])) ≡ 16 * of-digits n ds + d
-of-digits-more n [] d = refl
-of-digits-more n (e ∷ ds) d = of-digits-more (16 * n + e) ds d
+length-by : (o : Option ℕ) (r : Option (List ℕ)) (ds : List ℕ) (n : ℕ) → joined o r ≡ some ds → ((es : List ℕ) → r ≡ some es → length es ≡ n) → length ds ≡ suc n
+length-by none r ds n e h = absurd (no-some e)
+length-by (some a) none ds n e h = absurd (no-some e)
+length-by (some a) (some es) ds n e h = let q : (a ∷ es) ≡ ds = cc in ap length (sym q) ∙ ap suc (h es refl)
+
+-- as many digits as bytes
+pub digits-length : (xs ds : List ℕ) → all-some (map digit-of xs) ≡ some ds → length ds ≡ length xs
+digits-length [] ds e = let z : [] ≡ ds = cc in ap length (sym z)
+digits-length (x ∷ xs) ds e = length-by (digit-of x) (all-some (map digit-of xs)) ds (length xs) e (digits-length xs)
+
+pub of-digits-append : (n : ℕ) (ds es : List ℕ) → of-digits n (ds ++ es) ≡ of-digits (of-digits n ds) es
+of-digits-append n [] es = refl
+of-digits-append n (d ∷ ds) es = of-digits-append (16 * n + d) ds es
+
+-- a number before k digits
+abbrev shifted : ℕ → ℕ → ℕ
+shifted zero n = n
+shifted (suc k) n = shifted k (16 * n)
+
+of-digits-add : (m n : ℕ) (ds : List ℕ) → of-digits (m + n) ds ≡ shifted (length ds) m + of-digits n ds
+of-digits-add m n [] = refl
+of-digits-add m n (d ∷ ds) =
+    let z : 16 * (m + n) + d ≡ 16 * m + (16 * n + d) = omega arith in
+    ap (λ (i : ℕ). of-digits i ds) z ∙ of-digits-add (16 * m) (16 * n + d) ds
+
+-- eight digits behind a number
+pub of-digits-eight : (n : ℕ) (ds : List ℕ) → length ds ≡ 8 → of-digits n ds ≡ 4294967296 * n + of-digits 0 ds
+of-digits-eight n ds l =
+    let z : n ≡ n + 0 = omega arith in
+    let q : shifted 8 n ≡ 4294967296 * n = omega arith in
+    ap (λ (i : ℕ). of-digits i ds) z ∙ of-digits-add n 0 ds ∙ ap (λ (k : ℕ). shifted k n + of-digits 0 ds) l ∙ ap (λ (i : ℕ). i + of-digits 0 ds) q
+
+-- digits that have a number
+pub numbered-some : (o : Option (List ℕ)) (n : ℕ) → numbered o ≡ some n → (ds : List ℕ) × ((o ≡ some ds) × (of-digits 0 ds ≡ n))
+numbered-some none n e = absurd (no-some e)
+numbered-some (some ds) n e = (ds, (refl, cc))
 
 joined-none : {A : Type 0} (o : Option A) → joined o none ≡ none
 joined-none none = refl
@@ -107,23 +144,23 @@ module _ (ds numbers more : List ℕ) (e : all-some (map digit-of ds) ≡ some n
   pub value-comma : length ds ≡ 16 → values-in (ds ++ (44 ∷ more)) ≡ joined (some (of-digits 0 numbers)) (values-in more)
   unfolding values-in
   value-comma l =
-      ap (λ (ps : List (List ℕ)). all-some (map value-of ps)) (split-next 44 ds more (digits-free ds numbers e))
+      ap (λ (ps : List (List ℕ)). all-some (map value-of ps)) (split-next 44 ds more (digits-free 44 refl ds numbers e))
       ∙ ap (λ (o : Option ℕ). joined o (all-some (map value-of (split 44 more)))) (is-value ds numbers l e)
 
   -- a comma too early
   pub early-comma : (length ds ≡ 16 → ⊥) → values-in (ds ++ (44 ∷ more)) ≡ none
-  early-comma l = first-none ds (split 44 more) (ds ++ (44 ∷ more)) (split-next 44 ds more (digits-free ds numbers e)) (value-length ds l)
+  early-comma l = first-none ds (split 44 more) (ds ++ (44 ∷ more)) (split-next 44 ds more (digits-free 44 refl ds numbers e)) (value-length ds l)
 
   -- a byte that is neither
   pub other-byte : (b : ℕ) → (b ≡ 44 → ⊥) → digit-of b ≡ none → values-in (ds ++ (b ∷ more)) ≡ none
   other-byte b n q =
-      first-none (ds ++ (b ∷ first-piece 44 more)) (later-pieces 44 more) (ds ++ (b ∷ more)) (split-byte ds b more (digits-free ds numbers e) n)
+      first-none (ds ++ (b ∷ first-piece 44 more)) (later-pieces 44 more) (ds ++ (b ∷ more)) (split-byte ds b more (digits-free 44 refl ds numbers e) n)
       (no-value ds b (first-piece 44 more) q)
 
   -- a digit too many
   pub late-digit : (b : ℕ) → (b ≡ 44 → ⊥) → length ds ≡ 16 → values-in (ds ++ (b ∷ more)) ≡ none
   late-digit b n l =
-      first-none (ds ++ (b ∷ first-piece 44 more)) (later-pieces 44 more) (ds ++ (b ∷ more)) (split-byte ds b more (digits-free ds numbers e) n)
+      first-none (ds ++ (b ∷ first-piece 44 more)) (later-pieces 44 more) (ds ++ (b ∷ more)) (split-byte ds b more (digits-free 44 refl ds numbers e) n)
       (value-length (ds ++ (b ∷ first-piece 44 more)) (λ z. omega (arith, length-append ds (b ∷ first-piece 44 more))))
 
 -- ---- at the end of the line
@@ -132,11 +169,11 @@ module _ (ds numbers : List ℕ) (e : all-some (map digit-of ds) ≡ some number
   pub last-value : length ds ≡ 16 → values-in ds ≡ some (of-digits 0 numbers ∷ [])
   unfolding values-in
   last-value l =
-      ap (λ (ps : List (List ℕ)). all-some (map value-of ps)) (split-end 44 ds (digits-free ds numbers e))
+      ap (λ (ps : List (List ℕ)). all-some (map value-of ps)) (split-end 44 ds (digits-free 44 refl ds numbers e))
       ∙ ap (λ (o : Option ℕ). joined o (some [])) (is-value ds numbers l e)
 
   pub no-last : (length ds ≡ 16 → ⊥) → values-in ds ≡ none
-  no-last l = first-none ds [] ds (split-end 44 ds (digits-free ds numbers e)) (value-length ds l)
+  no-last l = first-none ds [] ds (split-end 44 ds (digits-free 44 refl ds numbers e)) (value-length ds l)
 
 pub values-nonempty : (line : List ℕ) → (line ≡ [] → ⊥) → values-of line ≡ values-in line
 unfolding values-of values-in

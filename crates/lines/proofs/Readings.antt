@@ -1,7 +1,7 @@
 -- A reading after one more byte, and at the end of its line.
 use mathlib.Core.Path.{_≡_, refl, sym, ap, _∙_, subst}
 use mathlib.Core.Bool.{Bool, true, false, cond}
-use mathlib.Core.List.{List, [], _∷_, _++_, append-assoc, append-nil}
+use mathlib.Core.List.{List, [], _∷_, _++_, map, append-assoc, append-nil}
 use mathlib.Core.Option.{Option, none, some}
 use Prim.Native.Nat.{ℕ, zero, suc, _+_, _*_, _%_, _≤_, _<_, min}
 use native.Mathlib.Omega.{arith}
@@ -10,14 +10,14 @@ use lib.Seq.{take-suc-set}
 use lib.Dec.{ltb}
 use lib.Ieee.{Float, binary64, ofBits}
 use borrow.Author.Tests.{ltb-true, ltb-false}
-use Rattle.formula.specs.Text.{joined}
+use Rattle.formula.specs.Text.{all-some, joined}
 use Rattle.formula.specs.Values.{digit-of, of-digits, values-of}
 use Rattle.names.specs.Lines.{cap, prefixed}
 use Rattle.names.proofs.Splits.{prefixed-start, prefixed-more, prefixed-none, prefixed-some}
 use Rattle.lines.specs.declared.values.Reading.{Reading}
 use Rattle.lines.specs.declared.values.Found.the-variants.{Malformed, Values}
 use Rattle.lines.specs.Reading.{Bad, Finds, Good, Kept, Reads, Reads-by, counted, floats, values-in}
-use Rattle.lines.proofs.Pieces.{digits-more, early-comma, last-value, late-digit, no-last, of-digits-more, other-byte, value-comma, values-empty, values-nonempty}
+use Rattle.lines.proofs.Pieces.{digits-more, early-comma, last-value, late-digit, no-last, of-digits-append, other-byte, value-comma, values-empty, values-nonempty}
 
 -- ---- the values kept
 
@@ -79,12 +79,17 @@ starts s values g c d b =
 more-assoc : (seen : List ℕ) (b : ℕ) (more : List ℕ) → (seen ++ (b ∷ [])) ++ more ≡ seen ++ (b ∷ more)
 more-assoc seen b more = append-assoc seen (b ∷ []) more
 
+some-more : (seen xs : List ℕ) → (length xs ≡ 0 → ⊥) → seen ++ xs ≡ [] → ⊥
+some-more seen xs n e = n (omega (arith, ap length e, length-append seen xs))
+
 not-empty : (seen : List ℕ) (b : ℕ) → seen ++ (b ∷ []) ≡ [] → ⊥
-not-empty seen b e = omega (arith, ap length e, length-append seen (b ∷ []))
+not-empty seen b = some-more seen (b ∷ []) (λ z. omega arith)
+
+bad-on : (seen xs : List ℕ) → (length xs ≡ 0 → ⊥) → Bad seen → Bad (seen ++ xs)
+bad-on seen xs n g = record { rest = λ more. ap values-in (append-assoc seen xs more) ∙ g .rest (xs ++ more); later = some-more seen xs n }
 
 bad-more : (seen : List ℕ) (b : ℕ) → Bad seen → Bad (seen ++ (b ∷ []))
-bad-more seen b g =
-    record { rest = λ more. ap values-in (more-assoc seen b more) ∙ g .rest (b ∷ more); later = not-empty seen b }
+bad-more seen b = bad-on seen (b ∷ []) (λ z. omega arith)
 
 -- a good line that ends in a byte that can't stand there
 goes-bad : (seen : List ℕ) (b : ℕ) (s : Reading) (values : List Float) (g : Good seen s values) → ((more : List ℕ) → values-in (g .ds ++ (b ∷ more)) ≡ none) → Bad (seen ++ (b ∷ []))
@@ -110,6 +115,10 @@ cap-le i h = cap-up i 15 (omega arith)
 
 mod-small : (n i : ℕ) → i < 16 → n < cap i → n % 1152921504606846976 ≡ n
 mod-small n i h l = let c = cap-le i h in omega arith
+
+nil-by : (xs : List ℕ) → length xs ≡ 0 → xs ≡ []
+nil-by [] e = refl
+nil-by (x ∷ xs) e = absurd (omega arith)
 
 -- what follows a byte that can't stand there
 pub after-bad : (s : Reading) → s ≡ record { good = false; count = 0; digits = 0; bits = 0 } → (seen : List ℕ) (values : List Float) → Bad seen → Reads seen s values
@@ -197,7 +206,7 @@ module _ (seen : List ℕ) (s : Reading) (values : List Float) where
         digits = digits-more (g .ds) (g .numbers) b d (g .digits) e;
         many = length-append (g .ds) (b ∷ []) ∙ ap (λ (n : ℕ). n + 1) (g .many);
         few = omega arith;
-        bits = of-digits-more 0 (g .numbers) d ∙ ap (λ (n : ℕ). 16 * n + d) (g .bits ∙ sym same);
+        bits = of-digits-append 0 (g .numbers) (d ∷ []) ∙ ap (λ (n : ℕ). 16 * n + d) (g .bits ∙ sym same);
         small = omega (arith, g .small, same, ap cap z);
         kept = g .kept;
         start = λ n. ap (λ (xs : List ℕ). xs ++ (b ∷ [])) (g .start n);
@@ -213,6 +222,38 @@ module _ (seen : List ℕ) (s : Reading) (values : List Float) where
   pub digit-after : (b d : ℕ) → digit-of b ≡ some d → d < 16 → s .digits < 16 → Reads seen s values
       → Reads (seen ++ (b ∷ [])) (record { good = s .good; count = s .count; digits = s .digits + 1; bits = 16 * (s .bits % 1152921504606846976) + d }) values
   digit-after b d e l h g = digit-by (s .good) b d e l h g
+
+  -- ---- the sixteen digits of a value
+
+  module _ (xs numbers : List ℕ) (e : all-some (map digit-of xs) ≡ some numbers) (l : length xs ≡ 16) (d : s .digits ≡ 0) (small : of-digits 0 numbers < 18446744073709551616) where
+    value-good : (t : Bool) → Good seen s values → Good (seen ++ xs) (record { good = t; count = s .count; digits = 16; bits = of-digits 0 numbers }) values
+    unfolding cap
+    value-good t g =
+        let none-yet = nil-by (g .ds) (g .many ∙ d) in
+        record {
+          vs = g .vs;
+          ds = xs;
+          numbers = numbers;
+          rest = λ more.
+              ap values-in (append-assoc seen xs more)
+              ∙ g .rest (xs ++ more)
+              ∙ ap (λ (ys : List ℕ). prefixed (g .vs) (values-in (ys ++ (xs ++ more)))) none-yet;
+          digits = e;
+          many = l;
+          few = omega arith;
+          bits = refl;
+          small = small;
+          kept = g .kept;
+          start = λ n. ap (λ (ys : List ℕ). ys ++ xs) (g .start n ∙ none-yet);
+          later = λ n. some-more seen xs (λ z. omega arith);
+        }
+
+    value-by : (t : Bool) → Reads-by t seen s values → Reads-by t (seen ++ xs) (record { good = t; count = s .count; digits = 16; bits = of-digits 0 numbers }) values
+    value-by true g = value-good true g
+    value-by false g = bad-on seen xs (λ z. omega arith) g
+
+    pub value-after : Reads seen s values → Reads (seen ++ xs) (record { good = s .good; count = s .count; digits = 16; bits = of-digits 0 numbers }) values
+    value-after g = value-by (s .good) g
 
   -- ---- the end of the line
 
@@ -270,10 +311,6 @@ module _ (seen : List ℕ) (s : Reading) (values : List Float) where
 
     pub is-empty : s .digits ≡ 0 → s .count ≡ 0 → seen ≡ []
     is-empty d c = let g = own in g .start (none-yet g c) ∙ nil-by (g .ds) (g .many ∙ d)
-      where
-        nil-by : (xs : List ℕ) → length xs ≡ 0 → xs ≡ []
-        nil-by [] e = refl
-        nil-by (x ∷ xs) e = absurd (omega arith)
 
     -- with no byte
     pub ends-empty : s .digits ≡ 0 → s .count ≡ 0 → Finds (values-of seen) (Values 0) values

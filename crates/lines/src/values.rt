@@ -2,10 +2,13 @@
 // commas". The memory is a slice for the values and four numbers, however long the line is.
 ghost use mathlib.Core.Path.{_≡_};
 ghost use mathlib.Core.Bool.{true, false};
-ghost use mathlib.Core.List.{List, [], _∷_};
+ghost use mathlib.Core.List.{List, [], _∷_, map};
+ghost use mathlib.Core.Option.{some};
 ghost use Prim.Native.Nat.{_≤_, _<_};
 ghost use lib.ListN.{length, getD, set};
 ghost use lib.Ieee.{Float, binary64, ofBits};
+ghost use Rattle.formula.specs.Text.{all-some, little-endian};
+ghost use Rattle.formula.specs.Values.{digit-of, numbered};
 ghost use Rattle.names.specs.Lines.{free, part};
 ghost use Rattle.lines.specs.Reading.{Ends-as, Reads-on, Starts, Tells-empty, counted};
 
@@ -107,8 +110,8 @@ fn part_to(s: Reading, digits: usize, bits: u64, end: usize) -> Part
     }
 }
 
-// Reads the digits from a byte of the input on, as many as a value still takes.
-fn read_digits(input: &[u8], from: usize, s: Reading) -> Part
+// Reads the digits from a byte of the input on, one by one.
+fn read_each(input: &[u8], from: usize, s: Reading) -> Part
     requires { ⌜ from ≤ length (now input) ⌝ }
     ensures place { λ r. ⌜ (from ≤ r .end) × (r .end ≤ length (now (input .entry))) × (free 10 (part (now (input .entry)) from (r .end)) ≡ true) ⌝ }
     ensures read { λ r. ⌜ ((values : List Float) → Reads-on s values (part (now (input .entry)) from (r .end)) (r .reading) values) ⌝ }
@@ -131,30 +134,75 @@ fn read_digits(input: &[u8], from: usize, s: Reading) -> Part
     part_to(s, digits, bits, end)
 }
 
+// The number of eight digits that stand in a word, the first in its lowest byte, or 2^32. All are read at once: a digit is the
+// last four bits of its byte, and nine more for a letter; the word is then made again from the digits, with 48 for each and 39
+// more from ten on, and has to be the same.
+fn eight(w: u64) -> u64
+    ensures { λ r. ⌜ (r < 4294967296 → numbered (all-some (map digit-of (little-endian 8 w))) ≡ some r) ⌝ }
+{
+    let digits = ((w & 0x0f0f_0f0f_0f0f_0f0f) + 9 * ((w & 0x4040_4040_4040_4040) / 64))
+        & 0x0f0f_0f0f_0f0f_0f0f;
+    let letters = ((digits + 0x0606_0606_0606_0606) / 16) & 0x0101_0101_0101_0101;
+    if w == digits + 0x3030_3030_3030_3030 + 39 * letters {
+        let pairs = (16 * digits + digits / 256) & 0x00ff_00ff_00ff_00ff;
+        let fours = (256 * pairs + pairs / 65536) & 0x0000_ffff_0000_ffff;
+        return (65536 * fours + fours / 4294967296) % 4294967296;
+    }
+    4294967296
+}
+
+// Reads the digits from a byte of the input on, as many as a value still takes: all sixteen of a value at once, or one by one.
+fn read_digits(input: &[u8], from: usize, s: Reading) -> Part
+    requires { ⌜ from ≤ length (now input) ⌝ }
+    ensures place { λ r. ⌜ (from ≤ r .end) × (r .end ≤ length (now (input .entry))) × (free 10 (part (now (input .entry)) from (r .end)) ≡ true) ⌝ }
+    ensures read { λ r. ⌜ ((values : List Float) → Reads-on s values (part (now (input .entry)) from (r .end)) (r .reading) values) ⌝ }
+{
+    let digits = s.digits;
+    if digits == 0 {
+        if 16 <= input.len() - from {
+            let high = eight(reader::long(input, from));
+            let low = eight(reader::long(input, from + 8));
+            if high < 4294967296 {
+                if low < 4294967296 {
+                    return part_to(s, 16, 4294967296 * high + low, from + 16);
+                }
+            }
+        }
+    }
+    read_each(input, from, s)
+}
+
 // Reads a line on from a byte of the input, to its newline or to the end of the input.
 pub(crate) fn read_part(input: &[u8], from: usize, s: Reading, values: &mut [f64]) -> Part
     requires { ⌜ from ≤ length (now input) ⌝ }
     ensures place { λ r. ⌜ (from ≤ r .end) × (r .end ≤ length (now (input .entry))) × (free 10 (part (now (input .entry)) from (r .end)) ≡ true) × (r .end < length (now (input .entry)) → getD (now (input .entry)) (r .end) 0 ≡ 10) ⌝ }
     ensures read { λ r. ⌜ Reads-on s (now (values .entry)) (part (now (input .entry)) from (r .end)) (r .reading) (now (values .exit)) ⌝ }
 {
-    let mut end = from;
+    let mut at = from;
     let mut reading = s;
-    while end < input.len() {
-        let b = input[end];
-        if b == 10 {
+    while at < input.len() {
+        let read = read_digits(input, at, reading);
+        let end = read.end;
+        let t = read.reading;
+        if end == input.len() {
             return Part {
-                reading: reading,
+                reading: t,
                 end: end,
             };
         }
-        let next = read_byte(reading, b, values);
-        let digits = read_digits(input, end + 1, next);
-        reading = digits.reading;
-        end = digits.end;
+        let b = input[end];
+        if b == 10 {
+            return Part {
+                reading: t,
+                end: end,
+            };
+        }
+        reading = read_byte(t, b, values);
+        at = end + 1;
     }
     Part {
         reading: reading,
-        end: end,
+        end: at,
     }
 }
 

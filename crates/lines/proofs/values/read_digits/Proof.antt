@@ -1,104 +1,85 @@
+use mathlib.Core.Path.{sym, ap, _∙_}
+use mathlib.Core.List.{map}
+use Prim.Native.Nat.{ℕ, _+_, _*_}
 use native.Mathlib.Omega.{arith}
-use Prim.Native.Nat.{_-_}
-use lib.ListN.{length, getD}
+use Rattle.formula.specs.Text.{all-some, little-endian}
+use Rattle.formula.specs.Values.{digit-of, numbered}
+use Rattle.lines.proofs.Parts.{digits-end, value-digits}
 use borrow.Author.Needs.{needs}
-use Rattle.names.proofs.Digits.{digit-is}
-use Rattle.lines.proofs.Parts.{Digits-on, digits-end, digits-step, reading-start}
 use Rattle.lines.proofs.values.read_digits.Statement.{statement}
 use Rattle.lines.proofs.values.read_digits.Tie as tie
 
-abbrev Inv-loop : tie.InvT-loop
-Inv-loop input from s end₀ digits₀ bits₀ end digits bits = Digits-on input from s end (record { good = s .good; count = s .count; digits = digits; bits = bits })
+sub-if2 : tie.Need-sub-if2
+sub-if2 c = search needs
 
-abbrev μ-loop : tie.MeasureT-loop
-μ-loop input from s end₀ digits₀ bits₀ end digits bits = length input - end
+long-requires : tie.Need-long-requires
+long-requires c κs = search needs
 
-loop-holds : tie.Need-loop-holds Inv-loop μ-loop
-loop-holds c = λ values. reading-start (c .before .args .input .now) (c .before .args .from) (c .before .args .s) values (c .before .pre)
+eight-requires : tie.Need-eight-requires
+eight-requires c κs = search needs
 
-shared-slice-read-digit : tie.Need-shared-slice-read-digit Inv-loop μ-loop
-shared-slice-read-digit c = omega arith
+add-long : tie.Need-add-long
+add-long c = search needs
 
-digit-requires : tie.Need-digit-requires Inv-loop μ-loop
-digit-requires c κs = tt
+long-requires-2 : tie.Need-long-requires-2
+long-requires-2 c κs = search needs
 
-part-to-requires : tie.Need-part-to-requires Inv-loop μ-loop
-part-to-requires c κs = tt
+eight-requires-2 : tie.Need-eight-requires-2
+eight-requires-2 c κs = search needs
 
-returns : tie.Need-returns Inv-loop μ-loop
+mul-part-to : tie.Need-mul-part-to
+mul-part-to c = search needs
+
+add-part-to : tie.Need-add-part-to
+add-part-to c = search needs
+
+add-part-to-2 : tie.Need-add-part-to-2
+add-part-to-2 c = search needs
+
+part-to-requires : tie.Need-part-to-requires
+part-to-requires c κs = search needs
+
+returns : tie.Need-returns
 returns c =
-    let args = c .before .before .before .before .before .before .before .args in
-    let loop = c .before .before .before .before .before .loop in
-    digits-end (args .input .now) (args .from) (args .s) (loop .end)
-    (record { good = args .s .good; count = args .s .count; digits = loop .digits; bits = loop .bits }) (c .part-to .result) (c .part-to .ensures)
-    (loop .inv)
+    let args = c .before .before .before .before .before .before .before .before .before .before .args in
+    let pre = c .before .before .before .before .before .before .before .before .before .before .pre in
+    let shared-slice-known = c .before .before .before .before .before .before .before .before .before .shared-slice-known in
+    let if1 = c .before .before .before .before .before .before .before .before .if1 in
+    let if2 = c .before .before .before .before .before .before .before .if2 in
+    let long = c .before .before .before .before .before .before .long in
+    let eight = c .before .before .before .before .before .eight in
+    let long2 = c .before .before .before .before .long2 in
+    let eight2 = c .before .before .before .eight2 in
+    let if3 = c .before .before .if3 in
+    let if4 = c .before .if4 in
+    digits-end (args .input .now) (args .from) (args .s) (args .from + 16)
+    (record { good = args .s .good; count = args .s .count; digits = 16; bits = 4294967296 * eight .result + eight2 .result }) (c .part-to .result)
+    (c .part-to .ensures)
+    (value-digits (args .input .now) (λ i. omega (arith, shared-slice-known .given i)) (args .from) (args .s) (omega (arith, if2 .taken, pre)) (if1 .taken)
+    (eight .result) (eight2 .result) (omega (arith, if3 .taken, if4 .taken))
+    (ap (λ (w : ℕ). numbered (all-some (map digit-of (little-endian 8 w)))) (sym (long .ensures)) ∙ eight .ensures (if3 .taken))
+    (ap (λ (w : ℕ). numbered (all-some (map digit-of (little-endian 8 w)))) (sym (long2 .ensures)) ∙ eight2 .ensures (if4 .taken)))
 
-part-to-requires-2 : tie.Need-part-to-requires-2 Inv-loop μ-loop
-part-to-requires-2 c κs = tt
+read-each-requires : tie.Need-read-each-requires
+read-each-requires c κs = search needs
 
-returns-2 : tie.Need-returns-2 Inv-loop μ-loop
-returns-2 c =
-    let args = c .before .before .before .before .before .before .before .before .args in
-    let loop = c .before .before .before .before .before .before .loop in
-    digits-end (args .input .now) (args .from) (args .s) (loop .end)
-    (record { good = args .s .good; count = args .s .count; digits = loop .digits; bits = loop .bits }) (c .part-to2 .result) (c .part-to2 .ensures)
-    (loop .inv)
-
-mul-bits : tie.Need-mul-bits Inv-loop μ-loop
-mul-bits c = search needs
-
-add-bits : tie.Need-add-bits Inv-loop μ-loop
-add-bits c = search needs
-
-add-digits : tie.Need-add-digits Inv-loop μ-loop
-add-digits c = search needs
-
-add-end : tie.Need-add-end Inv-loop μ-loop
-add-end c = omega arith
-
-loop-less : tie.Need-loop-less Inv-loop μ-loop
-loop-less c = omega arith
-
-loop-again : tie.Need-loop-again Inv-loop μ-loop
-loop-again c =
-    let args = c .before .before .before .before .before .before .before .args in
-    let loop = c .before .before .before .before .before .loop in
-    let loop-test = c .before .before .before .before .loop-test in
-    let digit = c .before .before .digit in
-    let d = digit-is (getD (args .input .now) (loop .end) 0) (digit .result) (digit .ensures .0) (c .before .if1 .left) in
-    digits-step (args .input .now) (args .from) (args .s) (loop .end)
-    (record { good = args .s .good; count = args .s .count; digits = loop .digits; bits = loop .bits }) (digit .result) (loop .inv) (loop-test .taken)
-    (d .0) (d .1) (omega (arith, c .if2 .left))
-
-part-to-requires-3 : tie.Need-part-to-requires-3 Inv-loop μ-loop
-part-to-requires-3 c κs = tt
-
-returns-3 : tie.Need-returns-3 Inv-loop μ-loop
-returns-3 c =
-    let args = c .before .before .before .before .args in
-    let loop = c .before .before .loop in
-    digits-end (args .input .now) (args .from) (args .s) (loop .end)
-    (record { good = args .s .good; count = args .s .count; digits = loop .digits; bits = loop .bits }) (c .part-to3 .result) (c .part-to3 .ensures)
-    (loop .inv)
+returns-2 : tie.Need-returns-2
+returns-2 c = search needs
 
 pub read-digits-spec : {M : Type 1} → statement M
 read-digits-spec =
     tie.close
     (tie.spec
-    Inv-loop
-    μ-loop
-    loop-holds
-    shared-slice-read-digit
-    digit-requires
+    sub-if2
+    long-requires
+    eight-requires
+    add-long
+    long-requires-2
+    eight-requires-2
+    mul-part-to
+    add-part-to
+    add-part-to-2
     part-to-requires
     returns
-    part-to-requires-2
-    returns-2
-    mul-bits
-    add-bits
-    add-digits
-    add-end
-    loop-less
-    loop-again
-    part-to-requires-3
-    returns-3)
+    read-each-requires
+    returns-2)

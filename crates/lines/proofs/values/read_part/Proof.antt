@@ -1,58 +1,89 @@
 use Rattle.lines.proofs.Parts.{Reading-on, reading-run, reading-start, reading-step}
 use lib.ListN.{length}
 use native.Mathlib.Omega.{arith}
-use Prim.Native.Nat.{_+_, _-_}
+use Prim.Native.Nat.{_-_}
 use Rattle.lines.proofs.values.read_part.Statement.{statement}
 use Rattle.lines.proofs.values.read_part.Tie as tie
 
 abbrev Inv-loop : tie.InvT-loop
-Inv-loop input from values₀ end₀ reading₀ values end reading = Reading-on input from reading₀ values₀ end reading values
+Inv-loop input from values₀ at₀ reading₀ values at reading = Reading-on input from reading₀ values₀ at reading values
 
 abbrev μ-loop : tie.MeasureT-loop
-μ-loop input from values₀ end₀ reading₀ values end reading = length input - end
+μ-loop input from values₀ at₀ reading₀ values at reading = length input - at
 
 loop-holds : tie.Need-loop-holds Inv-loop μ-loop
 loop-holds c = reading-start (c .before .before .args .input .now) (c .before .before .args .from) (c .before .before .args .s) (c .before .before .args .values .now) (c .before .before .pre)
 
-shared-slice-read-b : tie.Need-shared-slice-read-b Inv-loop μ-loop
-shared-slice-read-b c = omega arith
+read-digits-requires : tie.Need-read-digits-requires Inv-loop μ-loop
+read-digits-requires c κs = c .before .loop .inv .inside
 
 same-length : tie.Need-same-length Inv-loop μ-loop
-same-length c = c .before .before .before .loop .inv .same-length
+same-length c = c .before .before .before .before .loop .inv .same-length
 
 returns : tie.Need-returns Inv-loop μ-loop
-returns c = ((c .before .before .before .loop .inv .start, c .before .before .before .loop .inv .inside, c .before .before .before .loop .inv .no-newline, λ l. c .if1 .taken), c .before .before .before .loop .inv .read)
+returns c =
+    let args = c .before .before .before .before .before .before .before .args in
+    let loop = c .before .before .before .before .loop in
+    let read-digits = c .before .before .read-digits in
+    let on =
+    reading-run (args .input .now) (args .from) (args .s) (args .values .now) (loop .at) (loop .reading) (loop .values) (loop .inv)
+    (read-digits .result .end) (read-digits .result .reading) (read-digits .ensures .0) (read-digits .ensures .1 (loop .values)) in
+    ((on .start, on .inside, on .no-newline, λ l. absurd (omega (arith, c .if1 .taken))), on .read)
+
+shared-slice-read-b : tie.Need-shared-slice-read-b Inv-loop μ-loop
+shared-slice-read-b c = omega (arith, c .before .before .before .read-digits .ensures .0 .1, c .before .if1 .left)
+
+same-length-2 : tie.Need-same-length-2 Inv-loop μ-loop
+same-length-2 c = c .before .before .before .before .before .before .loop .inv .same-length
+
+returns-2 : tie.Need-returns-2 Inv-loop μ-loop
+returns-2 c =
+    let args = c .before .before .before .before .before .before .before .before .before .args in
+    let loop = c .before .before .before .before .before .before .loop in
+    let read-digits = c .before .before .before .before .read-digits in
+    let on =
+    reading-run (args .input .now) (args .from) (args .s) (args .values .now) (loop .at) (loop .reading) (loop .values) (loop .inv)
+    (read-digits .result .end) (read-digits .result .reading) (read-digits .ensures .0) (read-digits .ensures .1 (loop .values)) in
+    ((on .start, on .inside, on .no-newline, λ l. c .if2 .taken), on .read)
 
 read-byte-requires : tie.Need-read-byte-requires Inv-loop μ-loop
 read-byte-requires c κs = tt
 
-add-read-digits : tie.Need-add-read-digits Inv-loop μ-loop
-add-read-digits c = omega arith
-
-read-digits-requires : tie.Need-read-digits-requires Inv-loop μ-loop
-read-digits-requires c κs = omega (arith, c .before .before .before .before .before .before .loop-test .taken)
+add-at : tie.Need-add-at Inv-loop μ-loop
+add-at c =
+    let good = c .before .before .before .before .before .before .before .before .before .before .before .before .before .good in
+    let read-digits = c .before .before .before .before .before .before .before .before .read-digits in
+    let if1 = c .before .before .before .before .before .before .if1 in
+    omega (arith, read-digits .ensures .0 .1, if1 .left, good .0 .0)
 
 loop-less : tie.Need-loop-less Inv-loop μ-loop
-loop-less c = omega (arith, c .before .read-digits .ensures .0 .0, c .before .before .before .before .before .before .before .before .loop-test .taken)
+loop-less c =
+    let loop-test = c .before .before .before .before .before .before .before .before .before .loop-test in
+    let read-digits = c .before .before .before .before .before .before .before .before .read-digits in
+    let if1 = c .before .before .before .before .before .before .if1 in
+    omega (arith, read-digits .ensures .0 .0, read-digits .ensures .0 .1, if1 .left, loop-test .taken)
 
 loop-again : tie.Need-loop-again Inv-loop μ-loop
 loop-again c =
-    let args = c .before .before .before .before .before .before .before .before .before .before .before .before .args in
-    let loop = c .before .before .before .before .before .before .before .before .before .loop in
-    let loop-test = c .before .before .before .before .before .before .before .before .loop-test in
+    let args = c .before .before .before .before .before .before .before .before .before .before .before .before .before .args in
+    let loop = c .before .before .before .before .before .before .before .before .before .before .loop in
+    let read-digits = c .before .before .before .before .before .before .before .before .read-digits in
     let if1 = c .before .before .before .before .before .before .if1 in
-    let read-byte = c .before .before .before .before .read-byte in
-    let read-digits = c .before .read-digits in
-    reading-run (args .input .now) (args .from) (args .s) (args .values .now) (loop .end + 1) (read-byte .result) (read-byte .last .1 .1 .0)
-    (reading-step (args .input .now) (args .from) (args .s) (args .values .now) (loop .end) (loop .reading) (loop .values) (loop .inv) (loop-test .taken)
-    (if1 .left) (read-byte .result) (read-byte .last .1 .1 .0) (read-byte .kept .1 .1 .0) (read-byte .ensures))
-    (read-digits .result .end) (read-digits .result .reading) (read-digits .ensures .0) (read-digits .ensures .1 (read-byte .last .1 .1 .0))
+    let if2 = c .before .before .before .before .if2 in
+    let read-byte = c .before .before .read-byte in
+    let the-read-digits = read-digits .result .reading in
+    let on =
+    reading-run (args .input .now) (args .from) (args .s) (args .values .now) (loop .at) (loop .reading) (loop .values) (loop .inv)
+    (read-digits .result .end) the-read-digits (read-digits .ensures .0) (read-digits .ensures .1 (loop .values)) in
+    reading-step (args .input .now) (args .from) (args .s) (args .values .now) (read-digits .result .end) the-read-digits (loop .values) on
+    (omega (arith, read-digits .ensures .0 .1, if1 .left)) (if2 .left) (read-byte .result) (read-byte .last .1 .1 .0) (read-byte .kept .1 .1 .0)
+    (read-byte .ensures)
 
-same-length-2 : tie.Need-same-length-2 Inv-loop μ-loop
-same-length-2 c = c .before .loop .inv .same-length
+same-length-3 : tie.Need-same-length-3 Inv-loop μ-loop
+same-length-3 c = c .before .loop .inv .same-length
 
-returns-2 : tie.Need-returns-2 Inv-loop μ-loop
-returns-2 c = ((c .before .loop .inv .start, c .before .loop .inv .inside, c .before .loop .inv .no-newline, λ l. absurd (omega (arith, c .loop-test .left))), c .before .loop .inv .read)
+returns-3 : tie.Need-returns-3 Inv-loop μ-loop
+returns-3 c = ((c .before .loop .inv .start, c .before .loop .inv .inside, c .before .loop .inv .no-newline, λ l. absurd (omega (arith, c .loop-test .left))), c .before .loop .inv .read)
 
 pub read-part-spec : {M : Type 1} → statement M
 read-part-spec =
@@ -61,13 +92,15 @@ read-part-spec =
     Inv-loop
     μ-loop
     loop-holds
-    shared-slice-read-b
+    read-digits-requires
     same-length
     returns
+    shared-slice-read-b
+    same-length-2
+    returns-2
     read-byte-requires
-    add-read-digits
-    read-digits-requires
+    add-at
     loop-less
     loop-again
-    same-length-2
-    returns-2)
+    same-length-3
+    returns-3)
