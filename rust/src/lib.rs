@@ -11,7 +11,8 @@ use slices::{ASK, COUNT, FIRST, NODE, NODE_ROOM, PATH, QUESTION, REPORT, SECOND,
 /// Nodes that a derivative tree has at most.
 const LARGEST_TREE: usize = 16384;
 
-/// The bytes of a program, as docs/PROGRAM.md describes them.
+/// The bytes of a program, as docs/PROGRAM.md describes them: made by `compile` or `derive`, or checked once, and never altered. So its
+/// runs don't check them again.
 #[derive(Clone, Debug, PartialEq, Eq)]
 pub struct Program(Vec<u8>);
 
@@ -54,6 +55,11 @@ impl Program {
                 number => return Err(refused(number, Action::Derive, &path)),
             }
         }
+    }
+
+    /// A program from bytes that `bytes` gave, or refusal 10 where they are none.
+    pub fn from_bytes(bytes: Vec<u8>) -> Result<Self, Error> {
+        if slices::is_program(&bytes) { Ok(Self(bytes)) } else { Err(refused(10, Action::Run, &[])) }
     }
 
     pub fn bytes(&self) -> &[u8] {
@@ -152,7 +158,7 @@ impl<'a> Run<'a> {
     /// Begins at the first instruction and completes at most `budget` instructions.
     pub fn start(&mut self, inputs: &[f64], budget: usize) -> Result<Answer, Error> {
         let (program, report) = (self.program.bytes(), &mut [0; REPORT]);
-        let number = slices::run(program, inputs, &mut self.registers, &mut self.path, budget, &mut self.state, report);
+        let number = slices::run_unchecked(program, inputs, &mut self.registers, &mut self.path, budget, &mut self.state, report);
         self.told(number)
     }
 
@@ -173,7 +179,7 @@ impl<'a> Run<'a> {
 
     fn go_on(&mut self, inputs: &[f64], budget: usize, value: Option<f64>) -> Result<Answer, Error> {
         let (program, report) = (self.program.bytes(), &mut [0; REPORT]);
-        let number = slices::resume(program, inputs, &mut self.registers, &mut self.path, budget, &mut self.state, report, value);
+        let number = slices::resume_unchecked(program, inputs, &mut self.registers, &mut self.path, budget, &mut self.state, report, value);
         self.told(number)
     }
 

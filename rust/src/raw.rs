@@ -29,4 +29,28 @@ extern "C" {
         registers: *mut f64, registers_length: usize, path: *mut u8, path_length: usize,
         budget: usize, state: *mut u64, state_length: usize, report: *mut u64, report_length: usize, value: f64,
     ) -> usize;
+    pub fn vebrostin_run_unchecked(
+        program: *const u8, program_length: usize, inputs: *const f64, inputs_length: usize,
+        registers: *mut f64, registers_length: usize, path: *mut u8, path_length: usize,
+        budget: usize, state: *mut u64, state_length: usize, report: *mut u64, report_length: usize,
+    ) -> usize;
+    pub fn vebrostin_resume_unchecked(
+        program: *const u8, program_length: usize, inputs: *const f64, inputs_length: usize,
+        registers: *mut f64, registers_length: usize, path: *mut u8, path_length: usize,
+        budget: usize, state: *mut u64, state_length: usize, report: *mut u64, report_length: usize,
+    ) -> usize;
+    pub fn vebrostin_answer_unchecked(
+        program: *const u8, program_length: usize, inputs: *const f64, inputs_length: usize,
+        registers: *mut f64, registers_length: usize, path: *mut u8, path_length: usize,
+        budget: usize, state: *mut u64, state_length: usize, report: *mut u64, report_length: usize, value: f64,
+    ) -> usize;
 }
+
+/// `vebrostin_run` or `vebrostin_resume`, with the check of the bytes or without.
+pub type Call = unsafe extern "C" fn(
+    *const u8, usize, *const f64, usize, *mut f64, usize, *mut u8, usize, usize, *mut u64, usize, *mut u64, usize,
+) -> usize;
+/// `vebrostin_answer`, with the check of the bytes or without.
+pub type Answer = unsafe extern "C" fn(
+    *const u8, usize, *const f64, usize, *mut f64, usize, *mut u8, usize, usize, *mut u64, usize, *mut u64, usize, f64,
+) -> usize;

@@ -88,14 +88,7 @@ pub fn inputs(program: &[u8]) -> usize {
 pub fn run(
     program: &[u8], inputs: &[f64], registers: &mut [f64], path: &mut [u8], budget: usize, state: &mut [u64], report: &mut [u64],
 ) -> usize {
-    // SAFETY: as in `compile`.
-    unsafe {
-        raw::vebrostin_run(
-            program.as_ptr(), program.len(), inputs.as_ptr(), inputs.len(), registers.as_mut_ptr(), registers.len(),
-            path.as_mut_ptr(), path.len(), budget, state.as_mut_ptr(), state.len(),
-            report.as_mut_ptr(), report.len(),
-        )
-    }
+    call(raw::vebrostin_run, program, inputs, registers, path, budget, state, report)
 }
 
 /// Goes on with a run, with a value for the question that pends or without. Refused with 1, 5, 10 or 11 it leaves state and registers.
@@ -103,15 +96,56 @@ pub fn resume(
     program: &[u8], inputs: &[f64], registers: &mut [f64], path: &mut [u8], budget: usize, state: &mut [u64], report: &mut [u64],
     value: Option<f64>,
 ) -> usize {
-    let (p, x, r, t, s) = (program.as_ptr(), inputs.as_ptr(), registers.as_mut_ptr(), path.as_mut_ptr(), state.as_mut_ptr());
-    let (n, m, k, l, c) = (program.len(), inputs.len(), registers.len(), path.len(), state.len());
-    let (o, e) = (report.as_mut_ptr(), report.len());
+    match value {
+        None => call(raw::vebrostin_resume, program, inputs, registers, path, budget, state, report),
+        Some(value) => answer(raw::vebrostin_answer, program, inputs, registers, path, budget, state, report, value),
+    }
+}
+
+/// `run` without the check of the bytes, for those of a program: made by `compile` or `derive`, or taken by `is_program`. With other
+/// bytes the call stays in its slices and ends, and its answer means nothing.
+pub fn run_unchecked(
+    program: &[u8], inputs: &[f64], registers: &mut [f64], path: &mut [u8], budget: usize, state: &mut [u64], report: &mut [u64],
+) -> usize {
+    call(raw::vebrostin_run_unchecked, program, inputs, registers, path, budget, state, report)
+}
+
+/// `resume` without the check of the bytes, as `run_unchecked`.
+pub fn resume_unchecked(
+    program: &[u8], inputs: &[f64], registers: &mut [f64], path: &mut [u8], budget: usize, state: &mut [u64], report: &mut [u64],
+    value: Option<f64>,
+) -> usize {
+    match value {
+        None => call(raw::vebrostin_resume_unchecked, program, inputs, registers, path, budget, state, report),
+        Some(value) => answer(raw::vebrostin_answer_unchecked, program, inputs, registers, path, budget, state, report, value),
+    }
+}
+
+#[inline(always)]
+fn call(
+    function: raw::Call, program: &[u8], inputs: &[f64], registers: &mut [f64], path: &mut [u8], budget: usize, state: &mut [u64],
+    report: &mut [u64],
+) -> usize {
     // SAFETY: as in `compile`.
     unsafe {
-        match value {
-            None => raw::vebrostin_resume(p, n, x, m, r, k, t, l, budget, s, c, o, e),
-            Some(value) => raw::vebrostin_answer(p, n, x, m, r, k, t, l, budget, s, c, o, e, value),
-        }
+        function(
+            program.as_ptr(), program.len(), inputs.as_ptr(), inputs.len(), registers.as_mut_ptr(), registers.len(),
+            path.as_mut_ptr(), path.len(), budget, state.as_mut_ptr(), state.len(), report.as_mut_ptr(), report.len(),
+        )
+    }
+}
+
+#[inline(always)]
+fn answer(
+    function: raw::Answer, program: &[u8], inputs: &[f64], registers: &mut [f64], path: &mut [u8], budget: usize, state: &mut [u64],
+    report: &mut [u64], value: f64,
+) -> usize {
+    // SAFETY: as in `compile`.
+    unsafe {
+        function(
+            program.as_ptr(), program.len(), inputs.as_ptr(), inputs.len(), registers.as_mut_ptr(), registers.len(),
+            path.as_mut_ptr(), path.len(), budget, state.as_mut_ptr(), state.len(), report.as_mut_ptr(), report.len(), value,
+        )
     }
 }
 

@@ -117,3 +117,13 @@ fn short_report() {
     assert_eq!(slices::resume(&program, &[], &mut [7.0], &mut path, 1, &mut cells, report, Some(1.0)), 1);
     assert_eq!((path, tree, program, cells, *report), ([7; PATH], [7; 16], [7; 240], [7; STATE], [7; REPORT - 1]));
 }
+
+#[test]
+fn programs_from_bytes() {
+    let program = Program::compile(&flight(), NAMES).unwrap();
+    assert_eq!(Program::from_bytes(program.bytes().to_vec()), Ok(program.clone()));
+    let mut bytes = program.bytes().to_vec();
+    bytes[4] += 1;
+    let error = Program::from_bytes(bytes).unwrap_err();
+    assert_eq!((error.refusal, error.place), (Refusal::Program, None));
+}

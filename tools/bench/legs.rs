@@ -104,5 +104,23 @@ pub fn table(here: &str, there: &str) {
             );
         }
     }
+    counts(&here, &there, &folder);
     fs::remove_dir_all(&folder).ok();
+}
+
+/// Machine instructions of a line, as callgrind counts them: 20,000 lines less 10,000.
+fn counts(here: &Path, there: &Path, folder: &Path) {
+    let of = |program: &Path, lines: usize| {
+        fs::write(folder.join("input"), input(lines)).expect("the lines");
+        let stdin = File::open(folder.join("input")).expect("the lines");
+        crate::counts::collected(Command::new("valgrind").current_dir(folder).stdin(stdin), program, &[])
+    };
+    let each = |program: &Path| Some((of(program, 20_000)? - of(program, 10_000)?) / 10_000.0);
+    println!("\n### Machine instructions (callgrind) of a line of `legs` with eight values\n");
+    println!("| formula | nodes | here | Rust |\n|---|---|---|---|");
+    for (name, formula) in [("flight", formulas::flight()), ("arithmetic", formulas::arithmetic(25)), ("arithmetic", formulas::arithmetic(128))] {
+        fs::write(folder.join("formula.bin"), &formula).expect("the formula");
+        let cell = |program: &Path| each(program).map_or("-".into(), |count| format!("{count:.0}"));
+        println!("| {name} | {} | {} | {} |", formula.len() / NODE_SIZE, cell(here), cell(there));
+    }
 }

@@ -3,6 +3,7 @@
 //! A figure is the least of many rounds; the two sides take turns in each round. With the paths of the program `legs` and of the
 //! same work done by the reference, lines a second and peak memory too.
 include!("../../reference/src/modules.rs");
+mod counts;
 mod formulas;
 mod legs;
 mod libm;
@@ -18,8 +19,8 @@ use compile::Program;
 use node::NODE_SIZE;
 use std::hint::black_box;
 use std::time::{Duration, Instant};
-use vebrostin::slices::{self, PATH, REPORT};
-use vebrostin::{Question, Run};
+use vebrostin::slices::{self, ASK, FIRST, PATH, QUESTION, REPORT, SECOND, STATE, VALUE};
+use vebrostin::Question;
 
 /// How long the rounds of one line go on.
 const SPAN: Duration = Duration::from_millis(400);
@@ -102,18 +103,57 @@ fn derive_table() {
     }
 }
 
-fn run_table() {
-    header("Run, with the check of the program's bytes", "instructions", "Rust");
+/// Memory for the runs of a program through the library's functions, with the check of its bytes at each call or without.
+struct Host<'a> {
+    program: &'a [u8],
+    checked: bool,
+    registers: Vec<f64>,
+    path: Vec<u8>,
+    state: [u64; STATE],
+}
+
+impl<'a> Host<'a> {
+    fn new(program: &'a [u8], checked: bool) -> Self {
+        Self { program, checked, registers: vec![0.0; slices::registers(program)], path: vec![0; PATH], state: [0; STATE] }
+    }
+
+    /// A whole run; the C library answers the questions.
+    fn evaluate(&mut self, inputs: &[f64]) -> f64 {
+        let (p, regs, path, state, report) = (self.program, &mut self.registers, &mut self.path, &mut self.state, &mut [0; REPORT]);
+        let run = if self.checked { slices::run } else { slices::run_unchecked };
+        let resume = if self.checked { slices::resume } else { slices::resume_unchecked };
+        let mut number = run(p, inputs, regs, path, usize::MAX, state, report);
+        while number == ASK {
+            let first = f64::from_bits(state[FIRST]);
+            let question = match state[QUESTION] {
+                17 => Question::Power(first, f64::from_bits(state[SECOND])),
+                n => Question::Elementary((n - 1) as u8, first),
+            };
+            number = resume(p, inputs, regs, path, usize::MAX, state, report, Some(question.by_libm()));
+        }
+        assert_eq!(number, 0);
+        f64::from_bits(state[VALUE])
+    }
+}
+
+fn inputs() -> Vec<f64> {
+    (0..8).map(|i| 1.0 + f64::from(i * 37 % 8) / 16.0).collect()
+}
+
+fn run_table(title: &str, checked: bool) {
+    header(title, "instructions", "Rust");
     let powers = [1, 8, 24].map(|n| ("powers, each asked", formulas::powers(n)));
     for (name, formula) in sized().into_iter().chain(powers) {
         let symbols = names::read(formulas::NAMES).unwrap();
         let reference = Program::compile(&nodes::read(&formula, &symbols), &symbols).unwrap();
-        let inputs: Vec<f64> = (0..8).map(|i| 1.0 + f64::from(i * 37 % 8) / 16.0).collect();
+        let (inputs, mut workspace) = (inputs(), reference.workspace());
         let program = vebrostin::Program::compile(&formula, formulas::NAMES).unwrap();
-        let (mut run, mut workspace) = (Run::new(&program), reference.workspace());
+        let mut host = Host::new(program.bytes(), checked);
         let expected = reference.evaluate_into(&inputs, &mut workspace).unwrap();
-        assert_eq!(run.evaluate(&inputs, Question::by_libm).unwrap().to_bits(), expected.to_bits(), "{name}");
-        let here = || drop(black_box(run.evaluate(black_box(&inputs), Question::by_libm)));
+        assert_eq!(host.evaluate(&inputs).to_bits(), expected.to_bits(), "{name}");
+        let here = || {
+            black_box(host.evaluate(black_box(&inputs)));
+        };
         let there = || drop(black_box(reference.evaluate_into(black_box(&inputs), &mut workspace)));
         let times = least(here, there);
         row(name, formula.len() / NODE_SIZE, reference.instruction_count(), times);
@@ -122,14 +162,16 @@ fn run_table() {
 
 fn main() {
     let words: Vec<String> = std::env::args().skip(1).collect();
-    if let [verb, program] = words.as_slice() {
-        if verb == "peak" {
-            return legs::print_peak(program);
-        }
+    match words.iter().map(String::as_str).collect::<Vec<_>>()[..] {
+        ["peak", program] => return legs::print_peak(program),
+        ["repeat", work, formula, times] => return counts::repeat(work, formula, times.parse().expect("a number")),
+        _ => {}
     }
     compile_table();
     derive_table();
-    run_table();
+    run_table("Run, with the check of the program's bytes", true);
+    run_table("Run, without the check", false);
+    counts::table();
     if let [here, there] = words.as_slice() {
         legs::table(here, there);
     }

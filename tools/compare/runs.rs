@@ -102,6 +102,8 @@ impl Player<'_> {
         let expected = self.machine.call(room, self.inputs, &mut registers, budget, state, given);
         let cells = expected.to_cells(&self.cells, run);
         let (cells_before, before) = (self.cells, self.registers.iter().map(|x| bits(*x)).collect());
+        let (mut twin, mut twin_path, mut twin_cells) = (self.registers.clone(), vec![FILL; room], self.cells);
+        let unchecked = unchecked(self.bytes, self.inputs, &mut twin, &mut twin_path, budget, &mut twin_cells, run, given)?;
         self.path[..room].fill(FILL);
         let path = &mut self.path[..room];
         let mut report = [7; REPORT];
@@ -111,6 +113,10 @@ impl Player<'_> {
             slices::resume(self.bytes, self.inputs, &mut self.registers, path, budget, &mut self.cells, &mut report, given)
         };
         crate::unreported(&report)?;
+        let twins_differ = self.registers.iter().zip(&twin).any(|(a, b)| a.to_bits() != b.to_bits());
+        if number != unchecked || self.cells != twin_cells || twins_differ || self.path[..room] != twin_path[..] {
+            return Err(format!("call {}: {number} with the check, {unchecked} without", self.log()));
+        }
         let kind = u64::from(!run) + u64::from(given.is_some());
         let mut numbers = vec![kind, room as u64, budget as u64, given.map_or(0, bits)];
         numbers.extend(cells_before);
@@ -156,6 +162,43 @@ impl Player<'_> {
         self.calls.last_mut().expect("a call was made").listed = false;
         Ok(())
     }
+}
+
+/// A run without the check of the bytes, or a resume; the number that it answers.
+fn unchecked(
+    bytes: &[u8], inputs: &[f64], registers: &mut [f64], path: &mut [u8], budget: usize, cells: &mut [u64], run: bool, given: Option<f64>,
+) -> Result<usize, String> {
+    let mut report = [7; REPORT];
+    let number = if run {
+        slices::run_unchecked(bytes, inputs, registers, path, budget, cells, &mut report)
+    } else {
+        slices::resume_unchecked(bytes, inputs, registers, path, budget, cells, &mut report, given)
+    };
+    crate::unreported(&report)?;
+    Ok(number)
+}
+
+/// Calls without the check of what is no program end; what stands around their slices is left, and never is there a refusal 10.
+fn unchecked_damaged(bytes: &[u8], random: &mut Random) -> Result<(), String> {
+    let word = |at: usize| bytes.get(at..at + 4).map_or(0, |b| u32::from_le_bytes(b.try_into().expect("four bytes")) as usize);
+    let (inputs, count) = (vec![1.5; word(16).min(300)], word(8).min(3000));
+    let (mut registers, mut path, mut cells) = (vec![7.25; count + 8], vec![FILL; PATH + 64], [0; STATE + 2]);
+    for run in [true, false, false] {
+        if !run && random.chance(0.5) {
+            cells[1 + POSITION] = random.choice(&[0, 1, 5, 1 << 33]);
+        }
+        let budget = random.choice(&[1, 3, 100, 10_000]);
+        let given = random.chance(0.3).then_some(1.0);
+        let number = unchecked(bytes, &inputs, &mut registers[4..count + 4], &mut path[32..PATH + 32], budget, &mut cells[1..=STATE], run, given)?;
+        let around = registers[..4].iter().chain(&registers[count + 4..]).all(|x| *x == 7.25)
+            && path[..32].iter().chain(&path[PATH + 32..]).all(|byte| *byte == FILL)
+            && cells[0] == 0
+            && cells[STATE + 1] == 0;
+        if !around || !matches!(number, 0 | 5 | 9 | 11 | ASK | SPENT) {
+            return Err(format!("a call without the check of what is no program: {number}, around its slices untouched: {around}: {bytes:x?}"));
+        }
+    }
+    Ok(())
 }
 
 /// A state with some of its numbers changed.
@@ -204,6 +247,9 @@ fn compare_damaged(bytes: &[u8], random: &mut Random, tally: &mut Tally) -> Resu
     let (mut registers, mut path, mut cells) = ([7.25; 4], vec![FILL; PATH], [1; STATE]);
     if !here && slices::resume(&bytes, &[], &mut registers, &mut path, 1, &mut cells, &mut [7; REPORT], None) != 10 {
         return Err(format!("a run of what is no program is not refused with 10: {bytes:x?}"));
+    }
+    if !here {
+        unchecked_damaged(&bytes, random)?;
     }
     let untouched = registers == [7.25; 4] && path.iter().all(|byte| *byte == FILL);
     if here || (untouched && cells == [1; STATE]) { Ok(()) } else { Err("10 changed something".into()) }
