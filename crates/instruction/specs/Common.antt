@@ -2,14 +2,14 @@
 use mathlib.Core.Path.{_≡_}
 use mathlib.Core.Bool.{true}
 use mathlib.Core.List.{List}
-use Prim.Native.Nat.{ℕ, _+_, _*_}
+use Prim.Native.Nat.{ℕ, _+_, _*_, _<_}
 use lib.ListN.{getD}
 use lib.Ieee.{Float}
 use Rattle.arithmetic.specs.Value.{finite}
 use Rattle.machine.specs.Program.{jump}
 use Rattle.layout.specs.Decode.{ops}
 use Rattle.work.specs.declared.Outcome.the-variants.{Value}
-use Rattle.instruction.specs.Effects.{shown-effect}
+use Rattle.instruction.specs.Effects.{operation-at, shown-effect}
 use Rattle.instruction.specs.Progressing.{Progressed, machine-effect}
 use Rattle.instruction.specs.declared.Effect.the-variants.{Work}
 use Rattle.instruction.specs.declared.Progress.the-variants.{Next}
@@ -19,6 +19,10 @@ abbrev pub Stores : ℕ → ℕ → ℕ → List Float → List Float → Float 
 Stores op x y inputs regs v =
     finite v ≡ true → (b : List ℕ) (count z n : ℕ) (kept : List Float)
     → Work (Value v) ≡ shown-effect inputs (getD (ops b (x + 4294967296 * y) count x y z) op (jump 0)) n kept regs
+
+-- the same of the operation at a byte
+abbrev pub Works : List ℕ → ℕ → ℕ → List Float → Float → Type 0
+Works b at op regs v = finite v ≡ true → (4 < op) × ((kept : List Float) → Work (Value v) ≡ operation-at b at op kept regs)
 
 -- no position of an instruction
 abbrev pub not-done : ℕ

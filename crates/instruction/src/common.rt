@@ -19,7 +19,7 @@ use work::truth_value;
 pub const NOT_DONE: usize = 0xffff_ffff_ffff_ffff;
 
 // The number of 4 bytes that are there.
-fn word(p: &[u8], at: usize) -> usize
+pub fn word(p: &[u8], at: usize) -> usize
     requires { ⌜ at + 4 ≤ length (now p) ⌝ }
     ensures { λ r. ⌜ (r ≡ word-at (now (p .entry)) at) × (r < 4294967296) ⌝ }
 {

@@ -14,13 +14,14 @@ ghost use Rattle.meaning.specs.Work.{elementary, power, same-bits};
 ghost use Rattle.machine.specs.Program.{valid};
 ghost use Rattle.machine.specs.Machine.{fresh, number-of, place-of};
 ghost use Rattle.machine.specs.Progress.{Lawful};
-ghost use Rattle.layout.specs.Decode.{code-count, program-at};
+ghost use Rattle.layout.specs.Decode.{code-count, program-at, slot-at};
 ghost use Rattle.work.specs.View.{kept-values};
 ghost use Rattle.instruction.specs.declared.Effect.the-variants.{Work};
 ghost use Rattle.run.specs.Views.{Hands-back, Writable, answer-of, pending-of, refusal-number, reply-of, state-of, supplied-of};
 ghost use Rattle.run.specs.Calls.{Finished, Known-place, Reaches, putting, refusing, replying, resume-at, run-at, Long-enough, Settled, stale-at, steps-at, stopping, supplying, unasked, unfit-at};
 use instruction::Effect;
 use instruction::Progress;
+use instruction::common::NOT_DONE;
 use layout::CODE_AT;
 use layout::HEADER_SIZE;
 use layout::INPUTS_AT;
@@ -133,6 +134,34 @@ fn straight(
     budget: usize,
     position: usize,
 ) -> Place
+    requires { ⌜ (code ≡ code-count (now p)) × (code < 4294967296) × (slot-at code ≤ length (now p)) ⌝ }
+    ensures { λ r. ⌜ Reaches (now (inputs .entry)) (now (p .entry)) budget position [] (now (regs .entry)) (r .left) (r .at) [] (now (regs .exit)) ⌝ }
+{
+    let mut at = position;
+    let mut left = budget;
+    while 0 < left {
+        if code <= at {
+            return Place { at: at, left: left };
+        }
+        let to = instruction::common::step(p, at, inputs, regs);
+        if to == NOT_DONE {
+            return Place { at: at, left: left };
+        }
+        at = to;
+        left -= 1;
+    }
+    Place { at: at, left: left }
+}
+
+// The same to a question, a Domain, Hill or the density. Where slots are missing, nothing is done.
+fn along(
+    p: &[u8],
+    inputs: &[f64],
+    regs: &mut [f64],
+    code: usize,
+    budget: usize,
+    position: usize,
+) -> Place
     requires { ⌜ (code ≡ code-count (now p)) × (code < 4294967296) ⌝ }
     ensures { λ r. ⌜ Reaches (now (inputs .entry)) (now (p .entry)) budget position [] (now (regs .entry)) (r .left) (r .at) [] (now (regs .exit)) ⌝ }
 {
@@ -142,12 +171,18 @@ fn straight(
         return Place { at: at, left: left };
     }
     while 0 < left {
+        let s = straight(p, inputs, regs, code, left, at);
+        at = s.at;
+        left = s.left;
         if code <= at {
-            return Place { at: at, left: left };
+            return s;
         }
-        let to = instruction::common::step(p, at, inputs, regs);
-        if to == instruction::common::NOT_DONE {
-            return Place { at: at, left: left };
+        if left == 0 {
+            return s;
+        }
+        let to = instruction::longer::step(p, at, regs);
+        if to == NOT_DONE {
+            return s;
         }
         at = to;
         left -= 1;
@@ -174,7 +209,7 @@ pub fn steps(
     let mut at = position;
     let mut k = kept;
     if k.count == 0 {
-        let s = straight(p, inputs, regs, code, budget, position);
+        let s = along(p, inputs, regs, code, budget, position);
         at = s.at;
         left = s.left;
     }
@@ -187,7 +222,7 @@ pub fn steps(
             return stopped(t, code, budget - left, at, k, none);
         };
         k.count = 0;
-        let s = straight(p, inputs, regs, code, left - 1, to);
+        let s = along(p, inputs, regs, code, left - 1, to);
         at = s.at;
         left = s.left;
     }

@@ -47,9 +47,9 @@ word-requires c κs = search needs
 fresh-requires : tie.Need-fresh-requires Inv-loop μ-loop
 fresh-requires c κs = search needs
 
-straight-requires : tie.Need-straight-requires Inv-loop μ-loop
+along-requires : tie.Need-along-requires Inv-loop μ-loop
 unfolding code-count
-straight-requires c κs = (c .before .before .before .before .word .ensures .0, c .before .before .before .before .word .ensures .1)
+along-requires c κs = (c .before .before .before .before .word .ensures .0, c .before .before .before .before .word .ensures .1)
 
 loop-holds : tie.Need-loop-holds Inv-loop μ-loop
 loop-holds c =
@@ -115,17 +115,17 @@ returns-2 c =
           (word .ensures .0) (if2 .left) (step .ensures),
     )
 
-sub-straight : tie.Need-sub-straight Inv-loop μ-loop
-sub-straight c = omega arith
+sub-along : tie.Need-sub-along Inv-loop μ-loop
+sub-along c = omega arith
 
-straight-requires-2 : tie.Need-straight-requires-2 Inv-loop μ-loop
+along-requires-2 : tie.Need-along-requires-2 Inv-loop μ-loop
 unfolding code-count
-straight-requires-2 c κs =
+along-requires-2 c κs =
     let word = c .before .before .before .before .before .before .before .before .before .before .before .before .before .before .before .word in
     (word .ensures .0, word .ensures .1)
 
 loop-less : tie.Need-loop-less Inv-loop μ-loop
-loop-less c = omega (arith, c .before .before .straight2 .ensures .within, c .before .before .before .before .before .before .before .before .before .before .before .before .before .loop-test .taken)
+loop-less c = omega (arith, c .before .before .along2 .ensures .within, c .before .before .before .before .before .before .before .before .before .before .before .before .before .loop-test .taken)
 
 loop-again : tie.Need-loop-again Inv-loop μ-loop
 unfolding code-count
@@ -137,12 +137,12 @@ loop-again c =
     let if2 = c .before .before .before .before .before .before .before .before .before .before .before .before .if2 in
     let step = c .before .before .before .before .before .before .before .before .before .before .step in
     let t = c .before .before .before .before .before .before .t in
-    let straight2 = c .before .before .straight2 in (
-      straight2 .kept .1 .1 .0 ∙ step .kept .1 .1 .1 .0 ∙ loop .inv .0,
+    let along2 = c .before .before .along2 in (
+      along2 .kept .1 .1 .0 ∙ step .kept .1 .1 .1 .0 ∙ loop .inv .0,
       reaches-on (args .inputs .now) (args .p .now)
           (reaches-next (args .inputs .now) (args .p .now) (loop .inv .1) (word .result) (t .given .0 .0) (loop-test .taken) (if2 .left) (word .ensures .0)
           (t .given .1) (step .ensures))
-          (straight2 .ensures),
+          (along2 .ensures),
     )
 
 finished-requires-2 : tie.Need-finished-requires-2 Inv-loop μ-loop
@@ -193,7 +193,7 @@ steps-spec =
     μ-loop
     word-requires
     fresh-requires
-    straight-requires
+    along-requires
     loop-holds
     sub-finished
     finished-requires
@@ -205,8 +205,8 @@ steps-spec =
     stopped-requires
     same-length-2
     returns-2
-    sub-straight
-    straight-requires-2
+    sub-along
+    along-requires-2
     loop-less
     loop-again
     finished-requires-2

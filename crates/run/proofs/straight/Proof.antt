@@ -13,27 +13,16 @@ Inv-loop p inputs regs₀ code budget position at₀ left₀ regs at left = (len
 abbrev μ-loop : tie.MeasureT-loop
 μ-loop p inputs regs₀ code budget position at₀ left₀ regs at left = left
 
-mul-if1 : tie.Need-mul-if1 Inv-loop μ-loop
-mul-if1 c = omega arith
-
-add-if1 : tie.Need-add-if1 Inv-loop μ-loop
-add-if1 c = omega arith
-
-returns : tie.Need-returns Inv-loop μ-loop
-returns c =
-    let args = c .before .before .before .before .args in
-    reaches-start (args .inputs .now) (args .p .now) (args .budget) (args .position) [] (args .regs .now)
-
 loop-holds : tie.Need-loop-holds Inv-loop μ-loop
 loop-holds c =
-    let args = c .before .before .before .before .args in
+    let args = c .before .before .before .args in
     (refl, reaches-start (args .inputs .now) (args .p .now) (args .budget) (args .position) [] (args .regs .now))
 
 same-length : tie.Need-same-length Inv-loop μ-loop
 same-length c = c .before .before .loop .inv .0
 
-returns-2 : tie.Need-returns-2 Inv-loop μ-loop
-returns-2 c = c .before .before .loop .inv .1
+returns : tie.Need-returns Inv-loop μ-loop
+returns c = c .before .before .loop .inv .1
 
 step-requires : tie.Need-step-requires Inv-loop μ-loop
 step-requires c κs = (omega arith, omega arith)
@@ -41,12 +30,12 @@ step-requires c κs = (omega arith, omega arith)
 same-length-2 : tie.Need-same-length-2 Inv-loop μ-loop
 same-length-2 c = c .before .before .before .step .kept .1 .1 .1 .0 ∙ c .before .before .before .before .before .before .before .loop .inv .0
 
-returns-3 : tie.Need-returns-3 Inv-loop μ-loop
-returns-3 c =
-    let args = c .before .before .before .before .before .before .before .before .before .before .before .before .args in
+returns-2 : tie.Need-returns-2 Inv-loop μ-loop
+returns-2 c =
+    let args = c .before .before .before .before .before .before .before .before .before .before .before .args in
     let loop = c .before .before .before .before .before .before .before .loop in
     let step = c .before .before .before .step in
-    reaches-other (args .inputs .now) (args .p .now) (loop .inv .1) (step .result) (step .ensures) (c .if3 .taken)
+    reaches-other (args .inputs .now) (args .p .now) (loop .inv .1) (step .result) (step .ensures) (c .if2 .taken)
 
 sub-left : tie.Need-sub-left Inv-loop μ-loop
 sub-left c = omega arith
@@ -56,22 +45,22 @@ loop-less c = omega arith
 
 loop-again : tie.Need-loop-again Inv-loop μ-loop
 loop-again c =
-    let args = c .before .before .before .before .before .before .before .before .before .before .before .before .args in
-    let pre = c .before .before .before .before .before .before .before .before .before .before .before .before .pre in
+    let args = c .before .before .before .before .before .before .before .before .before .before .before .args in
+    let pre = c .before .before .before .before .before .before .before .before .before .before .before .pre in
     let loop = c .before .before .before .before .before .before .before .loop in
     let loop-test = c .before .before .before .before .before .before .loop-test in
-    let if2 = c .before .before .before .before .before .if2 in
+    let if1 = c .before .before .before .before .before .if1 in
     let step = c .before .before .before .step in (
       step .kept .1 .1 .1 .0 ∙ loop .inv .0,
-      reaches-common (args .inputs .now) (args .p .now) (loop .inv .1) (args .code) (step .result) (loop-test .taken) (if2 .left) (pre .0) (step .ensures)
-          (c .if3 .left),
+      reaches-common (args .inputs .now) (args .p .now) (loop .inv .1) (args .code) (step .result) (loop-test .taken) (if1 .left) (pre .0) (step .ensures)
+          (c .if2 .left),
     )
 
 same-length-3 : tie.Need-same-length-3 Inv-loop μ-loop
 same-length-3 c = c .before .loop .inv .0
 
-returns-4 : tie.Need-returns-4 Inv-loop μ-loop
-returns-4 c = c .before .loop .inv .1
+returns-3 : tie.Need-returns-3 Inv-loop μ-loop
+returns-3 c = c .before .loop .inv .1
 
 pub straight-spec : {M : Type 1} → statement M
 straight-spec =
@@ -79,17 +68,14 @@ straight-spec =
     (tie.spec
     Inv-loop
     μ-loop
-    mul-if1
-    add-if1
-    returns
     loop-holds
     same-length
-    returns-2
+    returns
     step-requires
     same-length-2
-    returns-3
+    returns-2
     sub-left
     loop-less
     loop-again
     same-length-3
-    returns-4)
+    returns-3)
