@@ -1,5 +1,5 @@
 -- What is asked of an instruction's operands, by its opcode.
-use mathlib.Core.Path.{_≡_, refl, sym, ap, ap₂, _∙_}
+use mathlib.Core.Path.{_≡_, refl, sym, ap, _∙_}
 use mathlib.Core.Bool.{Bool, true, false, _&&_}
 use mathlib.Core.List.{List}
 use Prim.Native.Nat.{ℕ, zero, suc, _+_, _-_, _*_, _/_, _%_, _≤_, _<_}
@@ -10,7 +10,7 @@ use lib.Dec.{eqb, eqb→eq, leb, ltb}
 use Rattle.formula.specs.Text.{byte-at, half-at, long-at, word-at}
 use Rattle.machine.specs.Program.{Op, all-below, jump, op-allowed}
 use Rattle.machine.proofs.Laws.{and-l, and-r}
-use Rattle.layout.specs.Decode.{code-count, entries-from, entry-at, entry-total, input-count, list-ok, op-at, ops, path-number, path-total, raw-program, register-total, slot-at, slot-ok, uses-a, uses-b, uses-c, uses-list, zero-unless}
+use Rattle.layout.specs.Decode.{entries-from, entry-at, entry-total, list-ok, op-at, ops, path-number, path-total, raw-program, register-total, slot-at, slot-ok, uses-a, uses-b, uses-c, uses-list, zero-unless}
 use Rattle.program.specs.declared.Header.{Header}
 use Rattle.program.specs.Check.{Numbers, Row, operands-ok}
 use Rattle.program.proofs.Tests.{and-assoc, and-one, one-of, refused, under}
@@ -62,7 +62,6 @@ module _ (b : List ℕ) (h : Header) (n row head next : ℕ) (r : Row b h n row 
   unfolding operands-ok list-ok plain op-of op-at
   plain-row l f g =
       let e = parts in
-      let at = slot-at n in
       let o : byte-at b (slot-at n) ≡ head = omega arith in
       let c : half-at b (slot-at n + 2) ≡ 0 = omega arith in
       let z : byte-at b (slot-at n + 1) ≡ 0 = omega arith in
