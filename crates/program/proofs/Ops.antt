@@ -1,5 +1,5 @@
 -- What is asked of an instruction's operands, by its opcode.
-use mathlib.Core.Path.{_≡_, refl, sym, ap, ap₂, _∙_}
+use mathlib.Core.Path.{_≡_, refl, sym, ap, _∙_}
 use mathlib.Core.Bool.{Bool, true, false, _&&_}
 use mathlib.Core.List.{List}
 use Prim.Native.Nat.{ℕ, zero, suc, _+_, _-_, _*_, _/_, _%_, _≤_, _<_}
@@ -12,8 +12,8 @@ use Rattle.machine.specs.Program.{Op, all-below, jump, op-allowed}
 use Rattle.machine.proofs.Laws.{and-l, and-r}
 use Rattle.layout.specs.Decode.{code-count, entries-from, entry-at, entry-total, input-count, list-ok, op-at, ops, path-number, path-total, raw-program, register-total, slot-at, slot-ok, uses-a, uses-b, uses-c, uses-list, zero-unless}
 use Rattle.program.specs.declared.Header.{Header}
-use Rattle.program.specs.Check.{Numbers, Row, operands-ok}
-use Rattle.program.proofs.Tests.{and-assoc, and-one, one-of, refused, under}
+use Rattle.program.specs.Check.{Numbers, Row, fields-below, operands-ok}
+use Rattle.program.proofs.Tests.{and-assoc, and-one, below-next, below-one, one-of, passed, refused, swapped, turned, under}
 use Rattle.program.proofs.Body.{code-length}
 
 -- the operation of an opcode with the fields of the instruction n
@@ -62,7 +62,6 @@ module _ (b : List ℕ) (h : Header) (n row head next : ℕ) (r : Row b h n row 
   unfolding operands-ok list-ok plain op-of op-at
   plain-row l f g =
       let e = parts in
-      let at = slot-at n in
       let o : byte-at b (slot-at n) ≡ head = omega arith in
       let c : half-at b (slot-at n + 2) ≡ 0 = omega arith in
       let z : byte-at b (slot-at n + 1) ≡ 0 = omega arith in
@@ -81,53 +80,63 @@ module _ (b : List ℕ) (h : Header) (n row head next : ℕ) (r : Row b h n row 
       rw (r .place)
       (sym (and-one (eqb (word-at b (slot-at n + 16)) 0)) ∙ ap (plain b n) (sym e) ∙ plain-row (omega arith) (λ q. omega arith) (λ q. omega arith))
 
-  pub load-row : head ≡ 1
-      → (eqb (word-at b (row + 12)) 0 && (eqb (word-at b (row + 16)) 0 && ltb (word-at b (row + 8)) (h .inputs))) ≡ operands-ok b n next
+  -- ---- by the limits of a, b and c
+
+  one-field : (x : ℕ) → fields-below b (slot-at n) x 1 1 ≡ (eqb (word-at b (slot-at n + 12)) 0 && (eqb (word-at b (slot-at n + 16)) 0 && ltb (word-at b (slot-at n + 8)) x))
+  one-field x =
+      rw (below-one (word-at b (slot-at n + 12)), below-one (word-at b (slot-at n + 16)))
+      (turned (ltb (word-at b (slot-at n + 8)) x) (eqb (word-at b (slot-at n + 12)) 0) (eqb (word-at b (slot-at n + 16)) 0))
+
+  pub load-row : head ≡ 1 → fields-below b row (h .inputs) 1 1 ≡ operands-ok b n next
   unfolding plain op-of raw-program
   load-row e =
       rw (r .place, r .whole .numbers .inputs)
-      (ap (plain b n) (sym e) ∙ plain-row (omega arith) (λ q. omega arith) (λ q. omega arith))
+      (one-field (input-count b) ∙ ap (plain b n) (sym e) ∙ plain-row (omega arith) (λ q. omega arith) (λ q. omega arith))
 
-  pub jump-if-row : head ≡ 3
-      → (eqb (word-at b (row + 12)) 0 && (ltb (word-at b (row + 8)) (h .registers) && (ltb n (word-at b (row + 16)) && leb (word-at b (row + 16)) (h .code)))) ≡ operands-ok b n next
+  pub jump-if-row : head ≡ 3 → (ltb n (word-at b (row + 16)) && fields-below b row (h .registers) 1 (h .code + 1)) ≡ operands-ok b n next
   unfolding plain op-of raw-program
   jump-if-row e =
-      rw (r .place, r .whole .numbers .registers, r .whole .numbers .code)
-      (ap (λ (x : ℕ). eqb (word-at b (slot-at n + 12)) 0 && (ltb (word-at b (slot-at n + 8)) (register-total b) && (ltb n (word-at b (slot-at n + 16)) && leb (word-at b (slot-at n + 16)) x))) (sym (code-length b))
+      let x = ltb (word-at b (slot-at n + 8)) (register-total b) in
+      let y = eqb (word-at b (slot-at n + 12)) 0 in
+      let f = ltb n (word-at b (slot-at n + 16)) in
+      rw (r .place, r .whole .numbers .registers, r .whole .numbers .code, below-one (word-at b (slot-at n + 12)), below-next (word-at b (slot-at n + 16)) (code-count b))
+      (passed f x y (leb (word-at b (slot-at n + 16)) (code-count b)) ∙ swapped x y (f && leb (word-at b (slot-at n + 16)) (code-count b))
+      ∙ ap (λ (k : ℕ). y && (x && (f && leb (word-at b (slot-at n + 16)) k))) (sym (code-length b))
       ∙ ap (plain b n) (sym e) ∙ plain-row (omega arith) (λ q. omega arith) (λ q. omega arith))
 
-  pub jump-row : head ≡ 4
-      → (eqb (word-at b (row + 8)) 0 && (eqb (word-at b (row + 12)) 0 && (ltb n (word-at b (row + 16)) && leb (word-at b (row + 16)) (h .code)))) ≡ operands-ok b n next
+  pub jump-row : head ≡ 4 → (ltb n (word-at b (row + 16)) && fields-below b row 1 1 (h .code + 1)) ≡ operands-ok b n next
   unfolding plain op-of raw-program
   jump-row e =
-      rw (r .place, r .whole .numbers .code)
-      (ap (λ (x : ℕ). eqb (word-at b (slot-at n + 8)) 0 && (eqb (word-at b (slot-at n + 12)) 0 && (ltb n (word-at b (slot-at n + 16)) && leb (word-at b (slot-at n + 16)) x))) (sym (code-length b))
+      let x = eqb (word-at b (slot-at n + 8)) 0 in
+      let y = eqb (word-at b (slot-at n + 12)) 0 in
+      let f = ltb n (word-at b (slot-at n + 16)) in
+      rw (r .place, r .whole .numbers .code, below-one (word-at b (slot-at n + 8)), below-one (word-at b (slot-at n + 12)), below-next (word-at b (slot-at n + 16)) (code-count b))
+      (passed f x y (leb (word-at b (slot-at n + 16)) (code-count b))
+      ∙ ap (λ (k : ℕ). x && (y && (f && leb (word-at b (slot-at n + 16)) k))) (sym (code-length b))
       ∙ ap (plain b n) (sym e) ∙ plain-row (omega arith) (λ q. omega arith) (λ q. omega arith))
 
-  abbrev One : Bool
-  One = eqb (word-at b (slot-at n + 12)) 0 && (eqb (word-at b (slot-at n + 16)) 0 && ltb (word-at b (slot-at n + 8)) (register-total b))
-
-  one-last : One ≡ (eqb (word-at b (slot-at n + 12)) 0 && (eqb (word-at b (slot-at n + 16)) 0 && (ltb (word-at b (slot-at n + 8)) (register-total b) && true)))
+  one-last : fields-below b (slot-at n) (register-total b) 1 1 ≡ (eqb (word-at b (slot-at n + 12)) 0 && (eqb (word-at b (slot-at n + 16)) 0 && (ltb (word-at b (slot-at n + 8)) (register-total b) && true)))
   one-last =
-      ap (λ x. eqb (word-at b (slot-at n + 12)) 0 && (eqb (word-at b (slot-at n + 16)) 0 && x)) (sym (and-one (ltb (word-at b (slot-at n + 8)) (register-total b))))
+      one-field (register-total b)
+      ∙ ap (λ x. eqb (word-at b (slot-at n + 12)) 0 && (eqb (word-at b (slot-at n + 16)) 0 && x)) (sym (and-one (ltb (word-at b (slot-at n + 8)) (register-total b))))
 
   -- copy, Positive, Negative, Not
-  pub low-single-row : head < 8 → (head ≡ 0 → ⊥) → (head ≡ 1 → ⊥) → (head ≡ 3 → ⊥) → (head ≡ 4 → ⊥)
-      → (eqb (word-at b (row + 12)) 0 && (eqb (word-at b (row + 16)) 0 && ltb (word-at b (row + 8)) (h .registers))) ≡ operands-ok b n next
+  pub low-single-row : head < 8 → (head ≡ 0 → ⊥) → (head ≡ 1 → ⊥) → (head ≡ 3 → ⊥) → (head ≡ 4 → ⊥) → fields-below b row (h .registers) 1 1 ≡ operands-ok b n next
   unfolding plain op-of raw-program
   low-single-row l f0 f1 f3 f4 =
+      let p = one-last in
       rw (r .place, r .whole .numbers .registers)
-      (one-of (λ (m : ℕ). (m ≡ 0 → ⊥) → (m ≡ 1 → ⊥) → (m ≡ 3 → ⊥) → (m ≡ 4 → ⊥) → One ≡ plain b n m) 8 0 head (omega arith) l (
+      (one-of (λ (m : ℕ). (m ≡ 0 → ⊥) → (m ≡ 1 → ⊥) → (m ≡ 3 → ⊥) → (m ≡ 4 → ⊥) → fields-below b (slot-at n) (register-total b) 1 1 ≡ plain b n m) 8 0 head (omega arith) l (
         (λ g0 g1 g3 g4. absurd (g0 refl)),
         (
           (λ g0 g1 g3 g4. absurd (g1 refl)),
           (
-            (λ g0 g1 g3 g4. refl),
+            (λ g0 g1 g3 g4. one-field (register-total b)),
             (
               (λ g0 g1 g3 g4. absurd (g3 refl)),
               (
                 (λ g0 g1 g3 g4. absurd (g4 refl)),
-                ((λ g0 g1 g3 g4. one-last), ((λ g0 g1 g3 g4. one-last), ((λ g0 g1 g3 g4. one-last), tt))),
+                ((λ g0 g1 g3 g4. p), ((λ g0 g1 g3 g4. p), ((λ g0 g1 g3 g4. p), tt))),
               ),
             ),
           ),
@@ -135,29 +144,26 @@ module _ (b : List ℕ) (h : Header) (n row head next : ℕ) (r : Row b h n row 
       ) f0 f1 f3 f4
       ∙ plain-row (omega arith) (λ q. omega arith) (λ q. omega arith))
 
-  pub single-row : 20 ≤ head → head < 31
-      → (eqb (word-at b (row + 12)) 0 && (eqb (word-at b (row + 16)) 0 && ltb (word-at b (row + 8)) (h .registers))) ≡ operands-ok b n next
+  pub single-row : 20 ≤ head → head < 31 → fields-below b row (h .registers) 1 1 ≡ operands-ok b n next
   unfolding plain op-of raw-program
   single-row k l =
       let p = one-last in
       rw (r .place, r .whole .numbers .registers)
-      (one-of (λ (m : ℕ). One ≡ plain b n m) 11 20 head k l (p, (p, (p, (p, (p, (p, (p, (p, (p, (p, (p, tt)))))))))))
+      (one-of (λ (m : ℕ). fields-below b (slot-at n) (register-total b) 1 1 ≡ plain b n m) 11 20 head k l (p, (p, (p, (p, (p, (p, (p, (p, (p, (p, (p, tt)))))))))))
       ∙ plain-row (omega arith) (λ q. omega arith) (λ q. omega arith))
 
-  pub pair-row : 8 ≤ head → head < 20
-      → (eqb (word-at b (row + 16)) 0 && (ltb (word-at b (row + 8)) (h .registers) && ltb (word-at b (row + 12)) (h .registers))) ≡ operands-ok b n next
+  pub pair-row : 8 ≤ head → head < 20 → fields-below b row (h .registers) (h .registers) 1 ≡ operands-ok b n next
   unfolding plain op-of raw-program
   pair-row k l =
-      let x = eqb (word-at b (slot-at n + 16)) 0 in
-      let y = ltb (word-at b (slot-at n + 8)) (register-total b) in
-      let z = ltb (word-at b (slot-at n + 12)) (register-total b) in
-      let p = ap (λ w. x && (y && w)) (sym (and-one z)) in
-      rw (r .place, r .whole .numbers .registers)
+      let x = ltb (word-at b (slot-at n + 8)) (register-total b) in
+      let y = ltb (word-at b (slot-at n + 12)) (register-total b) in
+      let z = eqb (word-at b (slot-at n + 16)) 0 in
+      let p = sym (turned z x y) ∙ ap (λ w. z && (x && w)) (sym (and-one y)) in
+      rw (r .place, r .whole .numbers .registers, below-one (word-at b (slot-at n + 16)))
       (one-of (λ (m : ℕ). (x && (y && z)) ≡ plain b n m) 12 8 head k l (p, (p, (p, (p, (p, (p, (p, (p, (p, (p, (p, (p, tt))))))))))))
       ∙ plain-row (omega arith) (λ q. omega arith) (λ q. omega arith))
 
-  pub triple-row : 33 ≤ head → head < 35
-      → (ltb (word-at b (row + 8)) (h .registers) && (ltb (word-at b (row + 12)) (h .registers) && ltb (word-at b (row + 16)) (h .registers))) ≡ operands-ok b n next
+  pub triple-row : 33 ≤ head → head < 35 → fields-below b row (h .registers) (h .registers) (h .registers) ≡ operands-ok b n next
   unfolding plain op-of raw-program
   triple-row k l =
       let x = ltb (word-at b (slot-at n + 8)) (register-total b) in

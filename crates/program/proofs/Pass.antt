@@ -1,5 +1,5 @@
 -- One pass finds what `valid` asks.
-use mathlib.Core.Path.{_≡_, refl, sym, ap, ap₂, _∙_, subst}
+use mathlib.Core.Path.{_≡_, refl, sym, ap, _∙_, subst}
 use mathlib.Core.Bool.{Bool, true, false, cond, _&&_}
 use mathlib.Core.List.{List}
 use mathlib.Core.Logic.{⊎-elim}
@@ -22,7 +22,7 @@ use Rattle.program.specs.Check.{Numbers, Read, Whole, header-ok, instruc
 use Rattle.program.proofs.Body.{code-length}
 use Rattle.program.proofs.Ops.{end-place}
 use Rattle.program.proofs.Records.{all-linked, length-read, length-same, path-same, record-place, records, text-length}
-use Rattle.program.proofs.Tests.{and-assoc, and-one}
+use Rattle.program.proofs.Tests.{and-one}
 
 -- ---- an instruction
 

@@ -2,17 +2,15 @@
 use mathlib.Core.Path.{_≡_, refl, sym, ap, ap₂, _∙_}
 use mathlib.Core.Bool.{Bool, true, false, cond, _&&_}
 use mathlib.Core.List.{List}
-use mathlib.Core.Logic.{⊎-elim}
 use Prim.Native.Nat.{ℕ, zero, suc, _+_, _-_, _*_, _≤_, _<_}
-use native.Mathlib.Nat.{eq-or-lt-of-le}
 use native.Mathlib.Numerals.{add-one}
 use native.Mathlib.Omega.{arith}
-use borrow.Author.Tests.{eq-eqb, le-ltb, lt-ltb, ne-eqb}
+use borrow.Author.Tests.{le-ltb, lt-ltb, ne-eqb}
 use lib.ListN.{length}
 use lib.Dec.{eqb, ltb}
 use Rattle.formula.specs.Text.{word-at}
 use Rattle.formula.specs.Path.{Path, _▸_, root, step-text, text}
-use Rattle.machine.proofs.Laws.{and-l, and-r}
+use Rattle.machine.proofs.Laws.{and-r}
 use Rattle.layout.specs.Opcode.{step-of}
 use Rattle.layout.specs.Decode.{code-count, length-at, parent-at, path-in, path-of, path-total, record-at, record-ok, records-ok, step-at}
 use Rattle.paths.specs.Table.{Linked, climbed, length-in, linked, parent-in, path-in-table, step-in}

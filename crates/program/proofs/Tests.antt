@@ -4,10 +4,12 @@ use mathlib.Core.Bool.{Bool, true, false, _&&_}
 use mathlib.Core.Logic.{⊎-elim}
 use Prim.Native.Nat.{ℕ, zero, suc, _+_, _≤_, _<_}
 use native.Mathlib.Nat.{eq-or-lt-of-le}
+use native.Mathlib.Numerals.{add-one}
 use native.Mathlib.Omega.{arith}
 use borrow.Author.Tests.{eq-eqb, le-leb, le-ltb, lt-leb, lt-ltb, ne-eqb}
-use lib.Dec.{eqb, leb, ltb}
+use lib.Dec.{eqb, leb, leb·suc-suc, ltb}
 pub use Rattle.formula.proofs.Tests.{and-one}
+use Rattle.machine.proofs.Laws.{and-false}
 
 pub both : {x a r b : Bool} → x ≡ a → x ≡ true → r ≡ b → r ≡ (a && b)
 both {b} e t f = f ∙ sym (ap (λ y. y && b) (sym e ∙ t))
@@ -58,3 +60,28 @@ refused false f = refl
 pub under : (x : Bool) {r s : Bool} → (x ≡ true → r ≡ s) → (x && r) ≡ (x && s)
 under true f = f refl
 under false f = refl
+
+-- ---- tests in another order
+
+pub turned : (x y z : Bool) → (x && (y && z)) ≡ (y && (z && x))
+turned true y z = ap (λ w. y && w) (sym (and-one z))
+turned false true z = sym (and-false z)
+turned false false z = refl
+
+pub swapped : (x y r : Bool) → (x && (y && r)) ≡ (y && (x && r))
+swapped true y r = refl
+swapped false y r = sym (and-false y)
+
+pub passed : (p x y q : Bool) → (p && (x && (y && q))) ≡ (x && (y && (p && q)))
+passed p true true q = refl
+passed p true false q = and-false p
+passed p false y q = and-false p
+
+-- ---- limits
+
+pub below-one : (x : ℕ) → ltb x 1 ≡ eqb x 0
+below-one zero = refl
+below-one (suc x) = le-ltb (suc x) 1 (omega arith) ∙ sym (ne-eqb (suc x) 0 (λ z. omega arith))
+
+pub below-next : (x k : ℕ) → ltb x (k + 1) ≡ leb x k
+below-next x k = ap (ltb x) (add-one k) ∙ leb·suc-suc x k

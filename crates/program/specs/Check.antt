@@ -29,6 +29,10 @@ unfoldable pub operands-ok : List ℕ → ℕ → ℕ → Bool
 operands-ok b n next =
     slot-ok b n && (list-ok b n next && (leb (next + half-at b (slot-at n + 2)) (entry-total b) && op-allowed (raw-program b) n (op-at b n)))
 
+-- a, b and c of the instruction at a byte are below these
+abbrev pub fields-below : List ℕ → ℕ → ℕ → ℕ → ℕ → Bool
+fields-below b row x y z = ltb (word-at b (row + 8)) x && (ltb (word-at b (row + 12)) y && ltb (word-at b (row + 16)) z)
+
 unfoldable pub instruction-ok : List ℕ → ℕ → ℕ → Bool
 instruction-ok b n next = placed-ok b n && operands-ok b n next
 

@@ -6,14 +6,14 @@ ghost use mathlib.Core.Path.{_≡_};
 ghost use mathlib.Core.Bool.{true, _&&_};
 ghost use mathlib.Core.Option.{some};
 ghost use Prim.Native.Nat.{_+_, _*_, _-_, _<_, _≤_};
-ghost use lib.Dec.{eqb, leb, ltb};
+ghost use lib.Dec.{ltb};
 ghost use lib.ListN.{length};
 ghost use Rattle.formula.specs.Text.{word-at};
 ghost use Rattle.formula.specs.Path.{placed, step-text};
 ghost use Rattle.machine.specs.Program.{all-below, valid};
 ghost use Rattle.layout.specs.Opcode.{step-of};
 ghost use Rattle.layout.specs.Decode.{code-count, entries-from, length-at, path-of, path-total, program-at, record-ok, records-ok};
-ghost use Rattle.program.specs.Check.{Fits-header, Numbers, Read, Row, Whole, header-ok, instruction-ok, instructions-ok, operands-ok, placed-ok};
+ghost use Rattle.program.specs.Check.{Fits-header, Numbers, Read, Row, Whole, fields-below, header-ok, instruction-ok, instructions-ok, operands-ok, placed-ok};
 use layout::CODE_AT;
 use layout::ENTRIES_AT;
 use layout::ENTRY_SIZE;
@@ -167,35 +167,20 @@ fn placed_ok(p: &[u8], h: Header, n: usize, row: usize) -> bool
     field(p, HEADER_SIZE + SLOT_SIZE * h.code + RECORD_SIZE * path + 8) <= 8192
 }
 
-// One operand, two or three below a limit; those unused are zero.
-fn single_ok(p: &[u8], row: usize, limit: usize) -> bool
+// The fields a, b and c are below these limits; one that is unused is zero, so below 1.
+fn below(p: &[u8], row: usize, a: usize, b: usize, c: usize) -> bool
     requires { ⌜ row + 24 ≤ length (now p) ⌝ }
-    ensures { λ r. ⌜ r ≡ (eqb (word-at (now (p .entry)) (row + 12)) 0 && (eqb (word-at (now (p .entry)) (row + 16)) 0 && ltb (word-at (now (p .entry)) (row + 8)) limit)) ⌝ }
+    ensures { λ r. ⌜ r ≡ fields-below (now (p .entry)) row a b c ⌝ }
 {
-    field(p, row + 12) == 0 && (field(p, row + 16) == 0 && field(p, row + 8) < limit)
-}
-
-fn pair_ok(p: &[u8], row: usize, limit: usize) -> bool
-    requires { ⌜ row + 24 ≤ length (now p) ⌝ }
-    ensures { λ r. ⌜ r ≡ (eqb (word-at (now (p .entry)) (row + 16)) 0 && (ltb (word-at (now (p .entry)) (row + 8)) limit && ltb (word-at (now (p .entry)) (row + 12)) limit)) ⌝ }
-{
-    field(p, row + 16) == 0 && (field(p, row + 8) < limit && field(p, row + 12) < limit)
-}
-
-fn triple_ok(p: &[u8], row: usize, limit: usize) -> bool
-    requires { ⌜ row + 24 ≤ length (now p) ⌝ }
-    ensures { λ r. ⌜ r ≡ (ltb (word-at (now (p .entry)) (row + 8)) limit && (ltb (word-at (now (p .entry)) (row + 12)) limit && ltb (word-at (now (p .entry)) (row + 16)) limit)) ⌝ }
-{
-    field(p, row + 8) < limit && (field(p, row + 12) < limit && field(p, row + 16) < limit)
+    field(p, row + 8) < a && (field(p, row + 12) < b && field(p, row + 16) < c)
 }
 
 // A jump of instruction n goes forward, to the code's end at most.
-fn forward(p: &[u8], n: usize, row: usize, code: usize) -> bool
-    requires { ⌜ row + 24 ≤ length (now p) ⌝ }
-    ensures { λ r. ⌜ r ≡ (ltb n (word-at (now (p .entry)) (row + 16)) && leb (word-at (now (p .entry)) (row + 16)) code) ⌝ }
+fn jump_ok(p: &[u8], h: Header, n: usize, row: usize, a: usize) -> bool
+    requires { ⌜ Whole (now p) h × (row + 24 ≤ length (now p)) ⌝ }
+    ensures { λ r. ⌜ r ≡ (ltb n (word-at (now (p .entry)) (row + 16)) && fields-below (now (p .entry)) row a 1 (h .code + 1)) ⌝ }
 {
-    let target = field(p, row + 16);
-    n < target && target <= code
+    n < field(p, row + 16) && below(p, row, a, 1, h.code + 1)
 }
 
 // Opcodes below 8: constant, load, copy, the jumps, and the operations of one register.
@@ -204,19 +189,18 @@ fn first_ok(p: &[u8], h: Header, n: usize, row: usize, head: usize, next: usize)
     ensures { λ r. ⌜ r ≡ operands-ok (now (p .entry)) n next ⌝ }
 {
     if head == 1 {
-        return single_ok(p, row, h.inputs);
+        return below(p, row, h.inputs, 1, 1);
     }
     if head == 0 {
         return field(p, row + 16) == 0;
     }
     if head == 3 {
-        return field(p, row + 12) == 0
-            && (field(p, row + 8) < h.registers && forward(p, n, row, h.code));
+        return jump_ok(p, h, n, row, h.registers);
     }
     if head == 4 {
-        return field(p, row + 8) == 0 && (field(p, row + 12) == 0 && forward(p, n, row, h.code));
+        return jump_ok(p, h, n, row, 1);
     }
-    single_ok(p, row, h.registers)
+    below(p, row, h.registers, 1, 1)
 }
 
 // All registers of the list from entry `next` on are there.
@@ -262,11 +246,11 @@ fn last_ok(p: &[u8], h: Header, n: usize, row: usize, head: usize, next: usize) 
     ensures { λ r. ⌜ r ≡ operands-ok (now (p .entry)) n next ⌝ }
 {
     if head < 31 {
-        return single_ok(p, row, h.registers);
+        return below(p, row, h.registers, 1, 1);
     }
     if 33 <= head {
         if head < 35 {
-            return triple_ok(p, row, h.registers);
+            return below(p, row, h.registers, h.registers, h.registers);
         }
     }
     list_ok(p, h, n, row, head, next)
@@ -282,7 +266,7 @@ fn operands_ok(p: &[u8], h: Header, n: usize, row: usize, head: usize, next: usi
         return first_ok(p, h, n, row, head, next);
     }
     if head < 20 {
-        return pair_ok(p, row, h.registers);
+        return below(p, row, h.registers, h.registers, 1);
     }
     last_ok(p, h, n, row, head, next)
 }

@@ -6,25 +6,24 @@ use borrow.Author.Needs.{needs}
 use Rattle.program.proofs.last_ok.Statement.{statement}
 use Rattle.program.proofs.last_ok.Tie as tie
 
-single-ok-requires : tie.Need-single-ok-requires
-single-ok-requires c κs = search needs
+below-requires : tie.Need-below-requires
+below-requires c κs = search needs
 
 returns : tie.Need-returns
 returns c =
     let args = c .before .before .before .args in
     let pre = c .before .before .before .pre in
-    c .single-ok .ensures ∙ single-row (args .p .now) (args .h) (args .n) (args .row) (args .head) (args .next) (pre .0) (pre .1) (c .before .if1 .taken)
+    c .below .ensures ∙ single-row (args .p .now) (args .h) (args .n) (args .row) (args .head) (args .next) (pre .0) (pre .1) (c .before .if1 .taken)
 
-triple-ok-requires : tie.Need-triple-ok-requires
-triple-ok-requires c κs = search needs
+below-requires-2 : tie.Need-below-requires-2
+below-requires-2 c κs = search needs
 
 returns-2 : tie.Need-returns-2
 returns-2 c =
     let args = c .before .before .before .before .before .args in
     let pre = c .before .before .before .before .before .pre in
     let if2 = c .before .before .if2 in
-    c .triple-ok .ensures
-    ∙ triple-row (args .p .now) (args .h) (args .n) (args .row) (args .head) (args .next) (pre .0) (if2 .taken) (c .before .if3 .taken)
+    c .below2 .ensures ∙ triple-row (args .p .now) (args .h) (args .n) (args .row) (args .head) (args .next) (pre .0) (if2 .taken) (c .before .if3 .taken)
 
 list-ok-requires : tie.Need-list-ok-requires
 list-ok-requires c κs = (c .before .before .before .pre .0, c .before .if1 .left, λ k. ⊎-elim (λ w. omega arith) (λ w. omega arith) (c .if2 .came))
@@ -35,4 +34,4 @@ returns-3 c = search needs
 pub last-ok-spec : {M : Type 1} → statement M
 last-ok-spec =
     tie.close
-    (tie.spec single-ok-requires returns triple-ok-requires returns-2 list-ok-requires returns-3)
+    (tie.spec below-requires returns below-requires-2 returns-2 list-ok-requires returns-3)

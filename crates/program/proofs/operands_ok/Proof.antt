@@ -10,15 +10,15 @@ first-ok-requires c κs = search needs
 returns : tie.Need-returns
 returns c = search needs
 
-pair-ok-requires : tie.Need-pair-ok-requires
-pair-ok-requires c κs = search needs
+below-requires : tie.Need-below-requires
+below-requires c κs = search needs
 
 returns-2 : tie.Need-returns-2
 returns-2 c =
     let args = c .before .before .before .before .args in
     let pre = c .before .before .before .before .pre in
     let if1 = c .before .before .if1 in
-    c .pair-ok .ensures ∙ pair-row (args .p .now) (args .h) (args .n) (args .row) (args .head) (args .next) pre (if1 .left) (c .before .if2 .taken)
+    c .below .ensures ∙ pair-row (args .p .now) (args .h) (args .n) (args .row) (args .head) (args .next) pre (if1 .left) (c .before .if2 .taken)
 
 last-ok-requires : tie.Need-last-ok-requires
 last-ok-requires c κs = search needs
@@ -29,4 +29,4 @@ returns-3 c = search needs
 pub operands-ok-spec : {M : Type 1} → statement M
 operands-ok-spec =
     tie.close
-    (tie.spec first-ok-requires returns pair-ok-requires returns-2 last-ok-requires returns-3)
+    (tie.spec first-ok-requires returns below-requires returns-2 last-ok-requires returns-3)

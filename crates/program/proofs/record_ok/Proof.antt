@@ -1,7 +1,6 @@
-use mathlib.Core.Path.{_≡_, ap, _∙_}
+use mathlib.Core.Path.{ap, _∙_}
 use Prim.Native.Nat.{ℕ, _+_}
 use native.Mathlib.Omega.{arith}
-use Rattle.layout.specs.Decode.{record-at}
 use Rattle.program.proofs.Records.{late-is, length-read, parent-read, record-is, record-place, step-read}
 use borrow.Author.Needs.{needs}
 use Rattle.program.proofs.record_ok.Statement.{statement}
@@ -17,7 +16,7 @@ returns c =
     let field = c .before .field in
     let place = pre .3 ∙ record-place (args .p .now) (args .h) (args .k) (pre .0 .numbers) in
     late-is (args .p .now) (args .k) (field .result) (λ z. omega (arith, pre .1))
-    (parent-read (args .p .now) (args .k) (args .at) place (field .ensures .is)) (c .if1 .taken)
+    (parent-read (args .p .now) (args .k) (args .at) place (field .ensures .is)) (omega (arith, c .if1 .taken))
 
 mul-field : tie.Need-mul-field
 mul-field c = search needs
@@ -67,7 +66,7 @@ returns-2 c =
     let b = args .p .now in
     let place = pre .3 ∙ record-place b (args .h) (args .k) (pre .0 .numbers) in
     record-is b (args .k) (field .result) (field3 .result) (field2 .result) (c .step-length .result) (λ z. omega (arith, pre .1))
-    (parent-read b (args .k) (args .at) place (field .ensures .is)) (if1 .left)
+    (parent-read b (args .k) (args .at) place (field .ensures .is)) (omega (arith, if1 .left))
     (length-read b (args .k) _ (ap (λ (x : ℕ). x + 8) place) (field3 .ensures .is))
     (length-read b (field .result) _ (ap (λ (x : ℕ). x + 8) (record-place b (args .h) (field .result) (pre .0 .numbers))) (field2 .ensures .is))
     (step-read b (args .k) _ (c .step-length .result) (field4 .result) (ap (λ (x : ℕ). x + 4) place) (field4 .ensures .is) (c .step-length .ensures .0))

@@ -1,10 +1,10 @@
 use mathlib.Core.Path.{ap}
 use Prim.Native.Nat.{ℕ}
 use lib.Dec.{ltb}
-use Rattle.program.proofs.Tests.{same-no, same-yes}
+use Rattle.program.proofs.Tests.{less-no, less-yes}
 use borrow.Author.Needs.{needs}
-use Rattle.program.proofs.single_ok.Statement.{statement}
-use Rattle.program.proofs.single_ok.Tie as tie
+use Rattle.program.proofs.below.Statement.{statement}
+use Rattle.program.proofs.below.Tie as tie
 
 add-field : tie.Need-add-field
 add-field c = search needs
@@ -30,17 +30,21 @@ returns c =
     let field = c .before .before .before .before .field in
     let if1 = c .before .before .before .if1 in
     let field2 = c .before .before .field2 in
-    same-yes 0 (field .ensures .is) (if1 .taken)
-    (same-yes 0 (field2 .ensures .is) (c .before .if2 .taken) (ap (λ (x : ℕ). ltb x (args .limit)) (c .field3 .ensures .is)))
+    less-yes (args .a) (field .ensures .is) (if1 .taken)
+    (less-yes (args .b) (field2 .ensures .is) (c .before .if2 .taken) (ap (λ (x : ℕ). ltb x (args .c)) (c .field3 .ensures .is)))
 
 returns-2 : tie.Need-returns-2
-returns-2 c = same-yes 0 (c .before .before .before .field .ensures .is) (c .before .before .if1 .taken) (same-no 0 _ (c .before .field2 .ensures .is) (c .if2 .left))
+returns-2 c =
+    let args = c .before .before .before .before .before .args in
+    let field = c .before .before .before .field in
+    let if1 = c .before .before .if1 in
+    less-yes (args .a) (field .ensures .is) (if1 .taken) (less-no (args .b) _ (c .before .field2 .ensures .is) (c .if2 .left))
 
 returns-3 : tie.Need-returns-3
-returns-3 c = same-no 0 _ (c .before .field .ensures .is) (c .if1 .left)
+returns-3 c = less-no (c .before .before .before .args .a) _ (c .before .field .ensures .is) (c .if1 .left)
 
-pub single-ok-spec : {M : Type 1} → statement M
-single-ok-spec =
+pub below-spec : {M : Type 1} → statement M
+below-spec =
     tie.close
     (tie.spec
     add-field
