@@ -13,20 +13,16 @@ use lib.Ieee.Bits.{ofBits-toBits}
 use borrow.Author.Tests.{lt-ltb, ne-eqb}
 use Rattle.meaning.specs.Work.{Question, elementary, power}
 use Rattle.machine.specs.Machine.{Reply, State}
-use Rattle.work.specs.View.{places}
+use Rattle.work.specs.declared.Kept.{Kept}
+use Rattle.work.specs.View.{kept-values, places}
 use Rattle.run.specs.declared.State as Declared
 use Rattle.run.specs.Views.{pending-of, state-of}
-use Rattle.vebrostin.specs.Cells.{Arguments-back, Askable, Comes-back, padded, question-cells, question-in, state-cells, state-in, value-cell}
+use Rattle.vebrostin.specs.Cells.{Arguments-back, Askable, Comes-back, Held, padded, question-cells, question-in, state-cells, state-in, value-cell}
 use Rattle.vebrostin.specs.Calls.{written}
 
 -- every f64 is read again from its bits
 pub comes-back : (x : Float) → fits binary64 x ≡ true → Comes-back x
 comes-back x e = ofBits-toBits binary64 x (subst T (sym e) tt)
-
--- values that are read again
-abbrev pub Held : List Float → Type 0
-Held [] = Unit {0}
-Held (x ∷ xs) = Comes-back x × Held xs
 
 pub held-take : (n : ℕ) (xs : List Float) → Held xs → Held (take n xs)
 held-take zero xs h = tt
@@ -82,13 +78,16 @@ state-back s few held a h rest =
     ∙ ap (λ (o : Option Question). record { position = s .position; kept = s .kept; pending = o }) (question-back (s .pending) a h rest)
 
 -- the cells that the code writes
-pub written-back : (s : Declared.State) (count v : ℕ) (rest : List ℕ) → Held (places (s .kept)) → Askable (pending-of (s .pending)) → Arguments-back (pending-of (s .pending))
+pub written-back : (s : Declared.State) (count v : ℕ) (rest : List ℕ) → Held (kept-values (s .kept)) → Askable (pending-of (s .pending)) → Arguments-back (pending-of (s .pending))
     → state-in ((state-cells (state-of s) ++ (count ∷ v ∷ [])) ++ rest) ≡ state-of s
 written-back s count v rest held a h =
     let n = s .kept .count in
     let few : length (take n (places (s .kept))) ≤ 9 = omega (arith, length-take n (places (s .kept))) in
     ap state-in (append-assoc (state-cells (state-of s)) (count ∷ v ∷ []) rest)
-    ∙ state-back (state-of s) few (held-take n (places (s .kept)) held) a h ((count ∷ v ∷ []) ++ rest)
+    ∙ state-back (state-of s) few held a h ((count ∷ v ∷ []) ++ rest)
+
+pub none-held : (k : Kept) → k .count ≡ 0 → Held (kept-values k)
+none-held k e = subst (λ (n : ℕ). Held (take n (places k))) (sym e) tt
 
 -- ---- what a host reads from the cells of a reply
 

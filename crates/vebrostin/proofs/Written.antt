@@ -9,7 +9,7 @@ use lib.ListN.{length, take, length-take}
 use lib.Dec.{eqb, ltb}
 use lib.Ieee.{Float, binary64, ofBits, toBits}
 use borrow.Author.Tests.{eq-eqb, le-ltb, lt-ltb, ne-eqb}
-use Rattle.meaning.specs.Work.{Question, elementary, power}
+use Rattle.meaning.specs.Work.{elementary, power}
 use Rattle.work.specs.declared.Kept.{Kept}
 use Rattle.work.specs.View.{kept-values, places}
 use Rattle.vebrostin.specs.Cells.{bits, padded, question-cells, question-in, state-cells}
@@ -35,7 +35,7 @@ kept-shown (suc (suc (suc (suc (suc (suc (suc (suc (suc m))))))))) k =
     let h : (i : ℕ) → i < 9 → ltb i n ≡ true = λ i l. lt-ltb i n (omega arith) in
     rw (h 0 (omega arith), h 1 (omega arith), h 2 (omega arith), h 3 (omega arith), h 4 (omega arith), h 5 (omega arith), h 6 (omega arith), h 7 (omega arith), h 8 (omega arith))
 
-module _ (k : Kept) (q : Option Question) (at count v kc k0 k1 k2 k3 k4 k5 k6 k7 k8 q0 q1 q2 : ℕ) where
+module _ (k : Kept) (q : List ℕ) (at count v kc k0 k1 k2 k3 k4 k5 k6 k7 k8 : ℕ) where
   pub reply-cells : kc ≡ min (k .count) 9
       → k0 ≡ cond (ltb 0 (k .count)) (bits (k .first)) 0
       → k1 ≡ cond (ltb 1 (k .count)) (bits (k .second)) 0
@@ -46,11 +46,15 @@ module _ (k : Kept) (q : Option Question) (at count v kc k0 k1 k2 k3 k4 k5 k6 k7
       → k6 ≡ cond (ltb 6 (k .count)) (bits (k .seventh)) 0
       → k7 ≡ cond (ltb 7 (k .count)) (bits (k .eighth)) 0
       → k8 ≡ cond (ltb 8 (k .count)) (bits (k .ninth)) 0
-      → q0 ∷ q1 ∷ q2 ∷ [] ≡ question-cells q
-      → at ∷ kc ∷ k0 ∷ k1 ∷ k2 ∷ k3 ∷ k4 ∷ k5 ∷ k6 ∷ k7 ∷ k8 ∷ q0 ∷ q1 ∷ q2 ∷ count ∷ v ∷ []
-      ≡ (at ∷ length (kept-values k) ∷ padded 9 (kept-values k) ++ question-cells q) ++ (count ∷ v ∷ [])
-  reply-cells c e0 e1 e2 e3 e4 e5 e6 e7 e8 e =
-      rw (sym e, kept-shown (k .count) k, length-take (k .count) (places k), c, e0, e1, e2, e3, e4, e5, e6, e7, e8)
+      → at ∷ kc ∷ k0 ∷ k1 ∷ k2 ∷ k3 ∷ k4 ∷ k5 ∷ k6 ∷ k7 ∷ k8 ∷ q ++ (count ∷ v ∷ [])
+      ≡ (at ∷ length (kept-values k) ∷ padded 9 (kept-values k) ++ q) ++ (count ∷ v ∷ [])
+  reply-cells c e0 e1 e2 e3 e4 e5 e6 e7 e8 =
+      rw (kept-shown (k .count) k, length-take (k .count) (places k), c, e0, e1, e2, e3, e4, e5, e6, e7, e8)
+
+-- where nothing is kept
+pub plain-cells : (k : Kept) (q : List ℕ) (at : ℕ) → k .count ≡ 0
+    → at ∷ 0 ∷ 0 ∷ 0 ∷ 0 ∷ 0 ∷ 0 ∷ 0 ∷ 0 ∷ 0 ∷ 0 ∷ q ≡ at ∷ length (kept-values k) ∷ padded 9 (kept-values k) ++ q
+plain-cells k q at e = rw e
 
 -- ---- read
 

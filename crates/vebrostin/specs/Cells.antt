@@ -22,6 +22,11 @@ value-at c i = ofBits binary64 (getD c i 0)
 abbrev pub Comes-back : Float → Type 0
 Comes-back x = ofBits binary64 (bits x) ≡ x
 
+-- values that are read again
+abbrev pub Held : List Float → Type 0
+Held [] = Unit {0}
+Held (x ∷ xs) = Comes-back x × Held xs
+
 -- ---- read
 
 -- 0 is none, 17 Power, any other number one more than a function's; 255 is no function's number

@@ -10,10 +10,10 @@ ghost use lib.Dec.{ltb};
 ghost use Rattle.formula.specs.Text.{word-at};
 ghost use Rattle.machine.specs.Program.{valid};
 ghost use Rattle.layout.specs.Decode.{program-at};
-ghost use Rattle.work.specs.View.{kept-values};
+ghost use Rattle.work.specs.View.{kept-values, places};
 ghost use Rattle.run.specs.Views.{answer-of, pending-of, state-of, supplied-of};
 ghost use Rattle.run.specs.Calls.{resume-at, run-at};
-ghost use Rattle.vebrostin.specs.Cells.{Arguments-back, Askable, Comes-back, bits, kept-in, number-of, question-cells, question-in, state-cells, state-in, value-at, value-cell};
+ghost use Rattle.vebrostin.specs.Cells.{Arguments-back, Askable, Comes-back, Held, bits, kept-in, number-of, padded, question-cells, question-in, state-cells, state-in, value-at, value-cell};
 ghost use Rattle.vebrostin.specs.Calls.{Carries, Compiles, Derives, Leaves, compile-number, compile-outcome, derive-number, derive-outcome, is-refused, resume-outcome, run-outcome, Settles, short};
 use floats::value::bits_of;
 use floats::value::of_bits;
@@ -158,8 +158,12 @@ fn question_in(question: u64, first: u64, second: u64) -> Pending
 fn kept_in(cells: &[u64]) -> Kept
     ensures { λ r. ⌜ kept-values r ≡ kept-in (now (cells .entry)) ⌝ }
 {
+    let count = cell(cells, 1) as usize;
+    if count == 0 {
+        return work::fresh();
+    }
     Kept {
-        count: cell(cells, 1) as usize,
+        count: count,
         first: value_in(cells, 2),
         second: value_in(cells, 3),
         third: value_in(cells, 4),
@@ -277,18 +281,41 @@ fn number_of(given: Answer) -> usize
     }
 }
 
-// Writes all sixteen cells.
-fn put_reply(cells: &mut [u64], state: State, given: Answer, count: usize)
+// Writes all sixteen cells of a state that keeps nothing.
+fn put_plain(cells: &mut [u64], position: usize, q: Cells, count: usize, value: u64)
     requires { ⌜ 16 ≤ length (now cells) ⌝ }
-    ensures cells { λ _. ⌜ now (cells .exit) ≡ (state-cells (state-of state) ++ (count ∷ value-cell (answer-of [] given) ∷ [])) ++ drop 16 (now (cells .entry)) ⌝ }
-    ensures state { λ _. ⌜ (Askable (pending-of (state .pending)) → state-in (now (cells .exit)) ≡ state-of state) ⌝ }
+    ensures { λ _. ⌜ now (cells .exit) ≡ (position ∷ 0 ∷ 0 ∷ 0 ∷ 0 ∷ 0 ∷ 0 ∷ 0 ∷ 0 ∷ 0 ∷ 0 ∷ q .question ∷ q .first ∷ q .second ∷ count ∷ value ∷ []) ++ drop 16 (now (cells .entry)) ⌝ }
 {
-    let kept = state.kept;
-    let n = kept.count;
-    let pending = state.pending;
-    let q = question_cells(pending);
     let b = [
-        state.position as u64,
+        position as u64,
+        0,
+        0,
+        0,
+        0,
+        0,
+        0,
+        0,
+        0,
+        0,
+        0,
+        q.question,
+        q.first,
+        q.second,
+        count as u64,
+        value,
+    ];
+    copy(&b, cells);
+}
+
+// Writes all sixteen cells, with the values kept.
+fn put_kept(cells: &mut [u64], position: usize, kept: Kept, q: Cells, count: usize, value: u64)
+    requires { ⌜ 16 ≤ length (now cells) ⌝ }
+    ensures cells { λ _. ⌜ now (cells .exit) ≡ ((position ∷ length (kept-values kept) ∷ padded 9 (kept-values kept) ++ (q .question ∷ q .first ∷ q .second ∷ [])) ++ (count ∷ value ∷ [])) ++ drop 16 (now (cells .entry)) ⌝ }
+    ensures held { λ _. ⌜ Held (places kept) ⌝ }
+{
+    let n = kept.count;
+    let b = [
+        position as u64,
         kept_count(n),
         kept_cell(n, 0, kept.first),
         kept_cell(n, 1, kept.second),
@@ -303,9 +330,26 @@ fn put_reply(cells: &mut [u64], state: State, given: Answer, count: usize)
         q.first,
         q.second,
         count as u64,
-        value_of(given),
+        value,
     ];
     copy(&b, cells);
+}
+
+// Writes all sixteen cells.
+fn put_reply(cells: &mut [u64], state: State, given: Answer, count: usize)
+    requires { ⌜ 16 ≤ length (now cells) ⌝ }
+    ensures cells { λ _. ⌜ now (cells .exit) ≡ (state-cells (state-of state) ++ (count ∷ value-cell (answer-of [] given) ∷ [])) ++ drop 16 (now (cells .entry)) ⌝ }
+    ensures state { λ _. ⌜ (Askable (pending-of (state .pending)) → state-in (now (cells .exit)) ≡ state-of state) ⌝ }
+{
+    let kept = state.kept;
+    let pending = state.pending;
+    let q = question_cells(pending);
+    let value = value_of(given);
+    if kept.count == 0 {
+        put_plain(cells, state.position, q, count, value);
+    } else {
+        put_kept(cells, state.position, kept, q, count, value);
+    }
 }
 
 fn is_refused(given: Answer) -> bool

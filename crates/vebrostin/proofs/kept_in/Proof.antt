@@ -1,71 +1,55 @@
+use mathlib.Core.Path.{sym, _∙_}
 use borrow.Author.Needs.{needs}
 use Rattle.vebrostin.proofs.kept_in.Statement.{statement}
 use Rattle.vebrostin.proofs.kept_in.Tie as tie
-use Rattle.vebrostin.proofs.kept_in.Reads as reads
-use Rattle.vebrostin.proofs.kept_in.Lts as lts
-use Rattle.vebrostin.proofs.cell.Reads as cell-reads
-use Rattle.vebrostin.proofs.value_in.Reads as value-in-reads
 
--- src/lib.rt:145:16
 cell-requires : tie.Need-cell-requires
 cell-requires c κs = search needs
 
--- src/lib.rt:146:16
+returns : tie.Need-returns
+returns c = c .fresh .ensures ∙ sym (rw (sym (c .before .before .cell .ensures) ∙ c .before .if1 .taken))
+
+fresh-requires : tie.Need-fresh-requires
+fresh-requires c κs = search needs
+
 value-in-requires : tie.Need-value-in-requires
 value-in-requires c κs = search needs
 
--- src/lib.rt:147:17
 value-in-requires-2 : tie.Need-value-in-requires-2
 value-in-requires-2 c κs = search needs
 
--- src/lib.rt:148:16
 value-in-requires-3 : tie.Need-value-in-requires-3
 value-in-requires-3 c κs = search needs
 
--- src/lib.rt:149:17
 value-in-requires-4 : tie.Need-value-in-requires-4
 value-in-requires-4 c κs = search needs
 
--- src/lib.rt:150:16
 value-in-requires-5 : tie.Need-value-in-requires-5
 value-in-requires-5 c κs = search needs
 
--- src/lib.rt:151:16
 value-in-requires-6 : tie.Need-value-in-requires-6
 value-in-requires-6 c κs = search needs
 
--- src/lib.rt:152:18
 value-in-requires-7 : tie.Need-value-in-requires-7
 value-in-requires-7 c κs = search needs
 
--- src/lib.rt:153:17
 value-in-requires-8 : tie.Need-value-in-requires-8
 value-in-requires-8 c κs = search needs
 
--- src/lib.rt:154:16
 value-in-requires-9 : tie.Need-value-in-requires-9
 value-in-requires-9 c κs = search needs
 
--- src/lib.rt:141:1
-returns : tie.Need-returns
-returns c =
-    let cell = c .before .before .before .before .before .before .before .before .before .cell in
-    let value-in = c .before .before .before .before .before .before .before .before .value-in in
-    let value-in2 = c .before .before .before .before .before .before .before .value-in2 in
-    let value-in3 = c .before .before .before .before .before .before .value-in3 in
-    let value-in4 = c .before .before .before .before .before .value-in4 in
-    let value-in5 = c .before .before .before .before .value-in5 in
-    let value-in6 = c .before .before .before .value-in6 in
-    let value-in7 = c .before .before .value-in7 in
+returns-2 : tie.Need-returns-2
+returns-2 c =
     rw (
-      cell .ensures,
-      value-in .ensures,
-      value-in2 .ensures,
-      value-in3 .ensures,
-      value-in4 .ensures,
-      value-in5 .ensures,
-      value-in6 .ensures,
-      value-in7 .ensures,
+      c .before .before .before .before .before .before .before .before .before .before .cell .ensures,
+      c .before .before .before .before .before .before .before .before .value-in .ensures,
+      c .before .before .before .before .before .before .before .value-in2 .ensures,
+      c .before .before .before .before .before .before .value-in3 .ensures,
+      c .before .before .before .before .before .value-in4 .ensures,
+      c .before .before .before .before .value-in5 .ensures,
+      c .before .before .before .value-in6 .ensures,
+      c .before .before .value-in7 .ensures,
       c .before .value-in8 .ensures,
       c .value-in9 .ensures,
     )
@@ -75,6 +59,8 @@ kept-in-spec =
     tie.close
     (tie.spec
     cell-requires
+    fresh-requires
+    returns
     value-in-requires
     value-in-requires-2
     value-in-requires-3
@@ -84,4 +70,4 @@ kept-in-spec =
     value-in-requires-7
     value-in-requires-8
     value-in-requires-9
-    returns)
+    returns-2)
