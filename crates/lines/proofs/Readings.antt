@@ -225,6 +225,32 @@ module _ (seen : List ℕ) (s : Reading) (values : List Float) where
 
   -- ---- the sixteen digits of a value
 
+  between-good : (t : Bool) → s .digits ≡ 0 → Good seen s values → Good seen (record { good = t; count = s .count; digits = 0; bits = 0 }) values
+  unfolding cap
+  between-good t d g =
+      record {
+        vs = g .vs;
+        ds = g .ds;
+        numbers = g .numbers;
+        rest = g .rest;
+        digits = g .digits;
+        many = g .many ∙ d;
+        few = omega arith;
+        bits = let z : cap (s .digits) ≡ 1 = ap cap d in g .bits ∙ omega (arith, g .small);
+        small = omega arith;
+        kept = g .kept;
+        start = g .start;
+        later = g .later;
+      }
+
+  between-by : (t : Bool) → s .digits ≡ 0 → Reads-by t seen s values → Reads-by t seen (record { good = t; count = s .count; digits = 0; bits = 0 }) values
+  between-by true d g = between-good true d g
+  between-by false d g = g
+
+  -- no digit was read yet
+  pub between-values : s .digits ≡ 0 → Reads seen s values → Reads seen (record { good = s .good; count = s .count; digits = 0; bits = 0 }) values
+  between-values d g = between-by (s .good) d g
+
   module _ (xs numbers : List ℕ) (e : all-some (map digit-of xs) ≡ some numbers) (l : length xs ≡ 16) (d : s .digits ≡ 0) (small : of-digits 0 numbers < 18446744073709551616) where
     value-good : (t : Bool) → Good seen s values → Good (seen ++ xs) (record { good = t; count = s .count; digits = 16; bits = of-digits 0 numbers }) values
     unfolding cap

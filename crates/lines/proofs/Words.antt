@@ -11,7 +11,9 @@ use lib.Dec.{eqb, ltb}
 use borrow.Author.Tests.{eqb-true, ltb-true, ltb-false}
 use lib.Bits.{bitAnd, and-block, and-le-r, and-mask, and-zero-r}
 use Rattle.formula.specs.Text.{all-some, byte-at, half-at, joined, little-endian, long-at, word-at}
-use Rattle.names.specs.Lines.{part, place}
+use Rattle.names.specs.Lines.{cap, part, place}
+use Rattle.lines.specs.declared.values.Digits.the-variants.{Number}
+use Rattle.lines.specs.Reading.{Numbers}
 use Rattle.names.proofs.Digits.{digit-is}
 use Rattle.names.proofs.Splits.{and-first, and-second}
 use Rattle.formula.specs.Values.{digit-of, numbered, of-digits}
@@ -196,19 +198,13 @@ number-is a b c d e f g h (la, (lb, (lc, (ld, (le, (lf, (lg, (lh, u)))))))) =
 
 -- ---- a word that is as its digits make it
 
--- the last four bits of each byte, and nine more where it may be a letter
-abbrev pub spread : ℕ → ℕ
-spread w = bitAnd w 1085102592571150095 + 9 * (bitAnd w 4629771061636907072 / 64)
-
-abbrev pub digits-of : ℕ → ℕ
-digits-of w = bitAnd (spread w) 1085102592571150095
-
 module _ (w x : ℕ) where
-  abbrev digits : ℕ
+  abbrev pub digits : ℕ
   digits = bitAnd x 1085102592571150095
 
   pub eight-digits : w ≡ digits + 3472328296227680304 + 39 * bitAnd ((digits + 434041037028460038) / 16) 72340172838076673
-      → numbered (all-some (map digit-of (little-endian 8 w))) ≡ some (number-of digits)
+      → Numbers 8 (little-endian 8 w) (Number (number-of digits))
+  unfolding cap
   eight-digits e =
       let ds = nibbles 8 x in
       let below = nibbles-below 8 x in
@@ -217,11 +213,13 @@ module _ (w x : ℕ) where
       e
       ∙ ap (λ (i : ℕ). i + 3472328296227680304 + 39 * bitAnd ((i + 434041037028460038) / 16) 72340172838076673) same
       ∙ ap (λ (i : ℕ). packed ds + 3472328296227680304 + 39 * i) (letters ds below)
-      ∙ bytes-of ds in
-      ap (λ (i : ℕ). numbered (all-some (map digit-of (little-endian 8 i)))) bytes
-      ∙ ap (λ (xs : List ℕ). numbered (all-some (map digit-of xs))) (packed-again (map byte-of ds) (bytes-below ds below))
-      ∙ ap numbered (bytes-are ds below)
-      ∙ ap (λ (i : ℕ). some i) (sym (ap number-of same ∙ number-is _ _ _ _ _ _ _ _ below))
+      ∙ bytes-of ds in (
+        ap (λ (i : ℕ). numbered (all-some (map digit-of (little-endian 8 i)))) bytes
+            ∙ ap (λ (xs : List ℕ). numbered (all-some (map digit-of xs))) (packed-again (map byte-of ds) (bytes-below ds below))
+            ∙ ap numbered (bytes-are ds below)
+            ∙ ap (λ (i : ℕ). some i) (sym (ap number-of same ∙ number-is _ _ _ _ _ _ _ _ below)),
+        omega arith,
+      )
 
 -- ---- the bytes that a word is read from
 

@@ -1,16 +1,15 @@
 // A line of values, read as its bytes come: "each value is 16 lower-case hexadecimal digits, the bits of an f64, joined by
 // commas". The memory is a slice for the values and four numbers, however long the line is.
+use std::num::wrapping_add_u64;
 ghost use mathlib.Core.Path.{_≡_};
 ghost use mathlib.Core.Bool.{true, false};
-ghost use mathlib.Core.List.{List, [], _∷_, map};
-ghost use mathlib.Core.Option.{some};
-ghost use Prim.Native.Nat.{_≤_, _<_};
+ghost use mathlib.Core.List.{List, [], _∷_};
+ghost use Prim.Native.Nat.{_+_, _≤_, _<_};
 ghost use lib.ListN.{length, getD, set};
 ghost use lib.Ieee.{Float, binary64, ofBits};
-ghost use Rattle.formula.specs.Text.{all-some, little-endian};
-ghost use Rattle.formula.specs.Values.{digit-of, numbered};
+ghost use Rattle.formula.specs.Text.{little-endian};
 ghost use Rattle.names.specs.Lines.{free, part};
-ghost use Rattle.lines.specs.Reading.{Ends-as, Reads-on, Starts, Tells-empty, counted};
+ghost use Rattle.lines.specs.Reading.{Ends-as, Numbers, Reads-on, Starts, Tells-empty, counted};
 
 // What was read of a line: whether it is as said so far, how many values stand before its last comma, how many digits
 // follow it and their number. A count above the places of the slice is kept as one more than these.
@@ -134,42 +133,83 @@ fn read_each(input: &[u8], from: usize, s: Reading) -> Part
     part_to(s, digits, bits, end)
 }
 
-// The number of eight digits that stand in a word, the first in its lowest byte, or 2^32. All are read at once: a digit is the
-// last four bits of its byte, and nine more for a letter; the word is then made again from the digits, with 48 for each and 39
-// more from ten on, and has to be the same.
-fn eight(w: u64) -> u64
-    ensures { λ r. ⌜ (r < 4294967296 → numbered (all-some (map digit-of (little-endian 8 w))) ≡ some r) ⌝ }
-{
-    let digits = ((w & 0x0f0f_0f0f_0f0f_0f0f) + 9 * ((w & 0x4040_4040_4040_4040) / 64))
-        & 0x0f0f_0f0f_0f0f_0f0f;
-    let letters = ((digits + 0x0606_0606_0606_0606) / 16) & 0x0101_0101_0101_0101;
-    if w == digits + 0x3030_3030_3030_3030 + 39 * letters {
-        let pairs = (16 * digits + digits / 256) & 0x00ff_00ff_00ff_00ff;
-        let fours = (256 * pairs + pairs / 65536) & 0x0000_ffff_0000_ffff;
-        return (65536 * fours + fours / 4294967296) % 4294967296;
-    }
-    4294967296
+// What bytes are found to be: digits with this number, or not.
+enum Digits {
+    Number(u64),
+    Other,
 }
 
-// Reads the digits from a byte of the input on, as many as a value still takes: all sixteen of a value at once, or one by one.
-fn read_digits(input: &[u8], from: usize, s: Reading) -> Part
+// Eight digits in a word, the first in its lowest byte, all at once. A digit is the last four bits of its byte, and nine more for
+// a letter. The word is made again from the digits, with 48 for each and 39 more from ten on, and has to be the same.
+fn eight(w: u64) -> Digits
+    ensures { λ r. ⌜ Numbers 8 (little-endian 8 w) r ⌝ }
+{
+    let letters = (w & 0x4040_4040_4040_4040) / 64;
+    let digits = wrapping_add_u64(w, 9 * letters) & 0x0f0f_0f0f_0f0f_0f0f;
+    let tens = ((digits + 0x0606_0606_0606_0606) / 16) & 0x0101_0101_0101_0101;
+    if w == digits + 0x3030_3030_3030_3030 + 39 * tens {
+        let pairs = (16 * digits + digits / 256) & 0x00ff_00ff_00ff_00ff;
+        let fours = (256 * pairs + pairs / 65536) & 0x0000_ffff_0000_ffff;
+        return Digits::Number((65536 * fours + fours / 4294967296) % 4294967296);
+    }
+    Digits::Other
+}
+
+// The sixteen digits of a value, from a byte of the input on.
+fn sixteen(input: &[u8], at: usize) -> Digits
+    requires { ⌜ at + 16 ≤ length (now input) ⌝ }
+    ensures { λ r. ⌜ Numbers 16 (part (now (input .entry)) at (at + 16)) r ⌝ }
+{
+    let a = reader::long(input, at);
+    let b = reader::long(input, at + 8);
+    let first = eight(a);
+    let Digits::Number(high) = first else {
+        return Digits::Other;
+    };
+    let second = eight(b);
+    let Digits::Number(low) = second else {
+        return Digits::Other;
+    };
+    Digits::Number(4294967296 * high + low)
+}
+
+// After a comma, with so many values before it.
+fn between(s: Reading, count: usize) -> Reading
+    ensures { λ r. ⌜ r ≡ record { good = s .good; count = count; digits = 0; bits = 0 } ⌝ }
+{
+    Reading {
+        good: s.good,
+        count: count,
+        digits: 0,
+        bits: 0,
+    }
+}
+
+// Reads values from a byte of the input on, each with its comma, as far as they stand whole there, and then digits one by one.
+fn read_values(input: &[u8], from: usize, s: Reading, values: &mut [f64]) -> Part
     requires { ⌜ from ≤ length (now input) ⌝ }
     ensures place { λ r. ⌜ (from ≤ r .end) × (r .end ≤ length (now (input .entry))) × (free 10 (part (now (input .entry)) from (r .end)) ≡ true) ⌝ }
-    ensures read { λ r. ⌜ ((values : List Float) → Reads-on s values (part (now (input .entry)) from (r .end)) (r .reading) values) ⌝ }
+    ensures read { λ r. ⌜ Reads-on s (now (values .entry)) (part (now (input .entry)) from (r .end)) (r .reading) (now (values .exit)) ⌝ }
 {
     let digits = s.digits;
-    if digits == 0 {
-        if 16 <= input.len() - from {
-            let high = eight(reader::long(input, from));
-            let low = eight(reader::long(input, from + 8));
-            if high < 4294967296 {
-                if low < 4294967296 {
-                    return part_to(s, 16, 4294967296 * high + low, from + 16);
-                }
-            }
+    if digits > 0 {
+        return read_each(input, from, s);
+    }
+    let mut at = from;
+    let mut count = s.count;
+    while 17 <= input.len() - at {
+        let value = sixteen(input, at);
+        let Digits::Number(bits) = value else {
+            return read_each(input, at, between(s, count));
+        };
+        if input[at + 16] == b',' {
+            count = keep(values, count, bits);
+            at += 17;
+        } else {
+            return part_to(between(s, count), 16, bits, at + 16);
         }
     }
-    read_each(input, from, s)
+    read_each(input, at, between(s, count))
 }
 
 // Reads a line on from a byte of the input, to its newline or to the end of the input.
@@ -181,7 +221,7 @@ pub(crate) fn read_part(input: &[u8], from: usize, s: Reading, values: &mut [f64
     let mut at = from;
     let mut reading = s;
     while at < input.len() {
-        let read = read_digits(input, at, reading);
+        let read = read_values(input, at, reading, values);
         let end = read.end;
         let t = read.reading;
         if end == input.len() {
