@@ -122,6 +122,7 @@ module _ (b : List ℕ) (d m : ℕ) (p ks : List ℕ) (g : Bool) (code records e
           records = omega (arith, er, inner-is t);
           lists = omega (arith, all-room, ee, n₁);
           few = omega (arith, er, inner-is t, bounds f, F .few);
+          brief = omega (arith, bounds f, F .few);
           registers = omega arith;
           site = omega arith;
           long = sym root-long;

@@ -20,6 +20,7 @@ use paths::write_path;
 use paths::write_root;
 use reader::NODE_SIZE;
 use reader::is_formula;
+use reader::is_small;
 use reader::within_limits;
 use refusals::EXPRESSION_LIMIT;
 use refusals::MALFORMED_LINE;
@@ -29,7 +30,7 @@ use tally::tally;
 use writer::put_word;
 use writer::zero_from;
 ghost use mathlib.Core.Path.{_≡_};
-ghost use mathlib.Core.Bool.{cond};
+ghost use mathlib.Core.Bool.{cond, true};
 ghost use mathlib.Core.List.{List, _++_};
 ghost use mathlib.Core.Option.{none, some};
 ghost use Prim.Native.Nat.{_*_, _≤_};
@@ -46,7 +47,7 @@ ghost use Rattle.machine.specs.Lower.{instruction-count};
 ghost use Rattle.layout.specs.Opcode.{kind-number};
 ghost use Rattle.layout.specs.Image.{entry-count, image, magic, path-count};
 ghost use Rattle.writer.specs.Over.{over};
-ghost use Rattle.reader.specs.Read.{limited};
+ghost use Rattle.reader.specs.Read.{is-some, limited};
 ghost use Rattle.lower.specs.Piece.{context-of, kind-if};
 ghost use Rattle.compile.specs.Entry.{answer};
 ghost use Rattle.compile.specs.Preparation.{Formed, preparation};
@@ -129,7 +130,7 @@ fn write_counted(
         path: 1,
         entry: 0,
     };
-    let a = lower::node(b, p, kinds, l, s, d, c);
+    let a = lower::root(b, p, kinds, l, s, d, c);
     match a {
         Low::Done(v, e) => {
             let kind = kind_of(v.boolean);
@@ -222,6 +223,19 @@ pub fn within(formula: &[u8], path: &mut [u8]) -> bool
     false
 }
 
+// The same of bytes that are known to be a formula.
+fn within_known(formula: &[u8], path: &mut [u8]) -> bool
+    requires { ⌜ (4 ≤ length (now path)) × (is-some (formula-of (now formula)) ≡ true) ⌝ }
+    ensures { λ r. ⌜ (r ≡ limited 256 32 (formula-of (now (formula .entry)))) × (now (path .exit) ≡ cond r (now (path .entry)) (placed (some root) (now (path .entry)))) ⌝ }
+{
+    let small = is_small(formula, 256, 32);
+    if small {
+        return true;
+    }
+    write_root(path);
+    false
+}
+
 // "Compile (reference `compile_prepared`, limit 256, not generated)": the refusals 1 to 4, "then the first fault in
 // `lower`'s order".
 pub fn compile(formula: &[u8], names: &[u8], path: &mut [u8], program: &mut [u8]) -> Answer
@@ -232,7 +246,7 @@ pub fn compile(formula: &[u8], names: &[u8], path: &mut [u8], program: &mut [u8]
     match reading {
         Reading::Refused(n) => Answer::Refused(n),
         Reading::Symbols(count) => {
-            if within(formula, path) {
+            if within_known(formula, path) {
                 let kinds = prepared.kinds;
                 return write(formula, program, path, &kinds[..count], false, 32);
             }

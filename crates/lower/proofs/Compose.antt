@@ -74,6 +74,7 @@ ready-from {L} {p} {s} {c} R p₁ c₁ I′ Q′ E′ same len up a b d r ok =
       records = omega (arith, R .records);
       lists = omega (arith, R .lists);
       few = omega (arith, R .few);
+      brief = omega (arith, R .brief);
       registers = r;
       site = omega (arith, R .site);
       long = R .long ∙ sym (same-length (L .paths) p p₁ (c .path) same (s .path) (R .site));
@@ -173,6 +174,7 @@ module _ {L : Layout} {p : List ℕ} {s : Site} {c : Cursor} {I Q E : ℕ} (R : 
         records = omega (arith, R .records);
         lists = omega (arith, R .lists, entered-length);
         few = omega (arith, R .few);
+        brief = omega (arith, R .brief);
         registers = R .registers;
         site = omega arith;
         long = sym (is-length (L .paths) p (c .path) (s .path) step long h₁ (R .site) few (omega arith) short (R .sound) is-long);

@@ -1,3 +1,4 @@
+pub mod Cells
 pub mod Laid
 pub mod Slots
 pub mod Leaves

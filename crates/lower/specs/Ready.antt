@@ -15,6 +15,7 @@ pub record Ready (L : Layout) (p : List ℕ) (s : Site) (c : Cursor) (instructio
   pub records : L .paths + 12 * (c .path + paths) ≤ L .lists
   pub lists : L .lists + 4 * (c .entry + entries) ≤ length p
   pub few : c .path + paths ≤ 1000000
+  pub brief : c .code + instructions ≤ 1000000
   pub registers : c .reg ≤ c .code
   pub site : s .path < c .path
   pub long : s .length ≡ length-in p (L .paths) (s .path)

@@ -3,7 +3,7 @@ ghost use mathlib.Core.Path.{_≡_};
 ghost use mathlib.Core.Bool.{true, false, cond, not, _&&_, _||_};
 ghost use mathlib.Core.List.{List, [], _∷_, _++_};
 ghost use Prim.Native.Nat.{ℕ, _+_, _*_, _^_, _≤_, _<_};
-ghost use lib.ListN.{length};
+ghost use lib.ListN.{length, getD};
 ghost use Rattle.formula.specs.Text.{little-endian};
 ghost use Rattle.formula.specs.Formula.{sizes, size, all-well-formed, well-formed, count};
 ghost use Rattle.formula.specs.Node.{children-at, fields-at, node-size, tree-in};
@@ -15,6 +15,7 @@ ghost use Rattle.writer.specs.Over.{over};
 ghost use Rattle.reader.specs.Read.{written};
 ghost use Rattle.formula.specs.Operator.{same-kind};
 ghost use Rattle.formula.specs.Path.{_▸_};
+ghost use Rattle.lower.specs.Cells.{Packs, Small, cursor-in, cursor-of, layout-of, low-of, site-at, value-of};
 ghost use Rattle.lower.specs.Piece.{Says, kind-if, further, arms-answer, arms-bytes, without-operands, Lists, arm, branch-piece, context-of, finish-piece, kids, leaf, own-piece, operands-piece, past, place, term-piece, inner-count};
 ghost use Rattle.lower.specs.Ready.{Ready};
 ghost use Rattle.lower.specs.Leaf.{Loads};
@@ -26,6 +27,7 @@ use layout::HEADER_SIZE;
 use layout::RECORD_SIZE;
 use layout::SLOT_SIZE;
 use reader::NODE_SIZE;
+use reader::wide;
 use refusals::INVALID_INPUT;
 use refusals::OUTSIDE_DOMAIN;
 use refusals::UNKNOWN_SYMBOL;
@@ -66,10 +68,85 @@ pub struct Value {
     pub dynamic: bool,
 }
 
-// A lowered node, or a refusal: its number and the number of its path's record.
+// A lowered part, or a refusal: its number and the number of its path's record.
 pub enum Low {
     Done(Value, Cursor),
     Fault(u8, usize),
+}
+
+// ---- one number for a lowered part
+
+// What is next free is lent on in six cells: node, register, instruction, path record, list entry, and the path record of a
+// refusal. The parts of a formula hand up a number, which `opened` reads as what it stands for; both are put in line.
+
+// From here on a number is a refusal.
+const FAULT: usize = 0x4000_0000_0000_0000;
+
+// A register has 20 bits of a number.
+const REGISTERS: usize = 1048576;
+
+fn opened(n: usize, c: &[usize; 6]) -> Low
+    ensures { λ r. ⌜ r ≡ low-of n (now (c .entry)) ⌝ }
+{
+    if n < FAULT {
+        return Low::Done(
+            Value {
+                a: n / 4 % REGISTERS,
+                b: n / 4 / REGISTERS % REGISTERS,
+                c: n / 4 / REGISTERS / REGISTERS,
+                boolean: n / 2 % 2 == 1,
+                dynamic: n % 2 == 1,
+            },
+            Cursor {
+                node: c[0],
+                reg: c[1],
+                code: c[2],
+                path: c[3],
+                entry: c[4],
+            },
+        );
+    }
+    Low::Fault(((n - FAULT) % 256) as u8, c[5])
+}
+
+fn bit(x: bool) -> usize
+    ensures { λ r. ⌜ (r ≡ cond x 1 0) × (r < 2) ⌝ }
+{
+    if x { 1 } else { 0 }
+}
+
+fn number(v: Value) -> usize
+    requires { ⌜ Small v ⌝ }
+    ensures { λ r. ⌜ (value-of r ≡ v) × (r < 2 ^ 62) ⌝ }
+{
+    4 * (v.a + REGISTERS * (v.b + REGISTERS * v.c)) + 2 * bit(v.boolean) + bit(v.dynamic)
+}
+
+fn keep(c: &mut [usize; 6], e: Cursor)
+    requires { ⌜ length (now c) ≡ 6 ⌝ }
+    ensures { λ _. ⌜ (cursor-of (now (c .exit)) ≡ e) × (length (now (c .exit)) ≡ 6) ⌝ }
+{
+    c[0] = e.node;
+    c[1] = e.reg;
+    c[2] = e.code;
+    c[3] = e.path;
+    c[4] = e.entry;
+}
+
+fn closed(r: Low, c: &mut [usize; 6]) -> usize
+    requires { ⌜ Packs r × (length (now c) ≡ 6) ⌝ }
+    ensures { λ n. ⌜ (low-of n (now (c .exit)) ≡ r) × (length (now (c .exit)) ≡ 6) ⌝ }
+{
+    match r {
+        Low::Done(v, e) => {
+            keep(c, e);
+            number(v)
+        }
+        Low::Fault(n, k) => {
+            c[5] = k;
+            FAULT + wide(n)
+        }
+    }
 }
 
 // ---- bytes
@@ -202,12 +279,6 @@ fn unsupported(jumps: bool, varies: bool, generated: bool) -> bool
         return varies;
     }
     false
-}
-
-fn wide(x: u8) -> usize
-    ensures { λ r. ⌜ (r ≡ x) × (r < 256) ⌝ }
-{
-    x as usize
 }
 
 fn opcode(kind: u8, operator: u8) -> usize
@@ -439,87 +510,135 @@ fn finish(p: &mut [u8], l: Layout, s: Site, f: reader::Fields, v: Value, c: Curs
 
 // ---- the cycle
 
+// Each part takes where path records and list entries begin (`l`), the path's record and the length of its text (`k`, `long`),
+// the levels left, the node's byte, the next path record, and the cells.
+
 // Children joined by And or Or, one step below a site: one is itself, none is the constant that ends such a chain.
 fn lower(
     b: &[u8],
     p: &mut [u8],
     kinds: &[u8],
-    l: Layout,
-    s: Site,
+    l: &[usize; 3],
+    k: usize,
+    long: usize,
     step: usize,
     conjunction: bool,
     left: usize,
     d: usize,
-    c: Cursor,
-) -> Low
-    requires { ⌜ Ready l (now p) s c (instruction-count (arm (now b) d conjunction left (c .node))) (path-count (arm (now b) d conjunction left (c .node))) (entry-count (arm (now b) d conjunction left (c .node))) ⌝ }
-    requires { ⌜ (all-well-formed (kids (now b) d left (c .node)) ≡ true) × (step < 65539) × (left < 65536) ⌝ }
-    ensures { λ r. ⌜ Says (term-piece (context-of (now (kinds .entry)) (l .generated)) (arm (now (b .entry)) d conjunction left (c .node)) (place l (now (p .entry)) s ▸ step-of step) (s .path) c (past (now (b .entry)) d left (c .node))) l c (now (p .entry)) (now (p .exit)) r ⌝ }
+    at: usize,
+    path: usize,
+    c: &mut [usize; 6],
+) -> usize
+    requires { ⌜ Ready (layout-of (now l)) (now p) (site-at k long) (cursor-in at path (now c)) (instruction-count (arm (now b) d conjunction left at)) (path-count (arm (now b) d conjunction left at)) (entry-count (arm (now b) d conjunction left at)) ⌝ }
+    requires { ⌜ (all-well-formed (kids (now b) d left at) ≡ true) × (step < 65539) × (left < 65536) × (length (now c) ≡ 6) ⌝ }
+    ensures { λ r. ⌜ Says (term-piece (context-of (now (kinds .entry)) (layout-of (now (l .entry)) .generated)) (arm (now (b .entry)) d conjunction left at) (place (layout-of (now (l .entry))) (now (p .entry)) (site-at k long) ▸ step-of step) k (cursor-in at path (now (c .entry))) (past (now (b .entry)) d left at)) (layout-of (now (l .entry))) (cursor-in at path (now (c .entry))) (now (p .entry)) (now (p .exit)) (low-of r (now (c .exit))) × (length (now (c .exit)) ≡ 6) ⌝ }
 {
-    let own = c.path;
-    let site = enter(p, l, s, step, own);
-    let next = Cursor {
-        node: c.node,
-        reg: c.reg,
-        code: c.code,
-        path: own + 1,
-        entry: c.entry,
+    let y = Layout {
+        paths: l[0],
+        lists: l[1],
+        generated: l[2] != 0,
     };
+    let s = Site {
+        path: k,
+        length: long,
+    };
+    let site = enter(p, y, s, step, path);
+    let next = path + 1;
     if left == 0 {
+        let e = Cursor {
+            node: at,
+            reg: c[1],
+            code: c[2],
+            path: next,
+            entry: c[4],
+        };
         if conjunction {
-            return constant(p, site, 0, true, next);
+            let r = constant(p, site, 0, true, e);
+            return closed(r, c);
         }
-        return constant(p, site, 0x3ff0_0000_0000_0000, true, next);
+        let r = constant(p, site, 0x3ff0_0000_0000_0000, true, e);
+        return closed(r, c);
     }
     if left == 1 {
-        return node(b, p, kinds, l, site, d, next);
+        return node(b, p, kinds, l, site.path, site.length, d, at, next, c);
     }
-    link(b, p, kinds, l, site, conjunction, left, d, next)
+    link(b, p, kinds, l, site.path, site.length, conjunction, left, d, at, next, c)
 }
 
 // A node at its own site.
-pub fn node(b: &[u8], p: &mut [u8], kinds: &[u8], l: Layout, s: Site, d: usize, c: Cursor) -> Low
-    requires { ⌜ Ready l (now p) s c (instruction-count (term (tree-in d (now b) (c .node)))) (inner-count (term (tree-in d (now b) (c .node)))) (entry-count (term (tree-in d (now b) (c .node)))) ⌝ }
-    requires { ⌜ well-formed (tree-in d (now b) (c .node)) ≡ true ⌝ }
-    ensures { λ r. ⌜ Says (own-piece (context-of (now (kinds .entry)) (l .generated)) (term (tree-in d (now (b .entry)) (c .node))) (place l (now (p .entry)) s) (s .path) c (c .node + node-size * size (tree-in d (now (b .entry)) (c .node)))) l c (now (p .entry)) (now (p .exit)) r ⌝ }
+fn node(
+    b: &[u8],
+    p: &mut [u8],
+    kinds: &[u8],
+    l: &[usize; 3],
+    k: usize,
+    long: usize,
+    d: usize,
+    at: usize,
+    path: usize,
+    c: &mut [usize; 6],
+) -> usize
+    requires { ⌜ Ready (layout-of (now l)) (now p) (site-at k long) (cursor-in at path (now c)) (instruction-count (term (tree-in d (now b) at))) (inner-count (term (tree-in d (now b) at))) (entry-count (term (tree-in d (now b) at))) ⌝ }
+    requires { ⌜ (well-formed (tree-in d (now b) at) ≡ true) × (length (now c) ≡ 6) ⌝ }
+    ensures { λ r. ⌜ Says (own-piece (context-of (now (kinds .entry)) (layout-of (now (l .entry)) .generated)) (term (tree-in d (now (b .entry)) at)) (place (layout-of (now (l .entry))) (now (p .entry)) (site-at k long)) k (cursor-in at path (now (c .entry))) (at + node-size * size (tree-in d (now (b .entry)) at))) (layout-of (now (l .entry))) (cursor-in at path (now (c .entry))) (now (p .entry)) (now (p .exit)) (low-of r (now (c .exit))) × (length (now (c .exit)) ≡ 6) ⌝ }
 {
-    let at = c.node;
     let f = reader::node(b, at);
-    let next = Cursor {
-        node: at + NODE_SIZE,
-        reg: c.reg,
-        code: c.code,
-        path: c.path,
-        entry: c.entry,
+    let next = at + NODE_SIZE;
+    let y = Layout {
+        paths: l[0],
+        lists: l[1],
+        generated: l[2] != 0,
+    };
+    let s = Site {
+        path: k,
+        length: long,
     };
     if f.kind < 3 {
-        return lower_leaf(p, kinds, l, s, f, next);
+        let e = Cursor {
+            node: next,
+            reg: c[1],
+            code: c[2],
+            path: path,
+            entry: c[4],
+        };
+        let r = lower_leaf(p, kinds, y, s, f, e);
+        return closed(r, c);
     }
     if f.kind == 6 {
         if f.children < 2 {
-            return Low::Fault(INVALID_INPUT, s.path);
+            return closed(Low::Fault(INVALID_INPUT, k), c);
         }
         let conjunction = f.operator == 0;
-        return link(b, p, kinds, l, s, conjunction, f.children, d - 1, next);
+        return link(b, p, kinds, l, k, long, conjunction, f.children, d - 1, next, path, c);
     }
     let choice = chooses(f);
     if choice {
         if f.children == 3 {
-            let a = lower(b, p, kinds, l, s, 0, true, 1, d - 1, next);
-            let Low::Done(v, e) = a else {
-                return a;
+            let n = lower(b, p, kinds, l, k, long, 0, true, 1, d - 1, next, path, c);
+            let a = opened(n, c);
+            let Low::Done(v, _) = a else {
+                return n;
             };
-            return branch(b, p, kinds, l, s, v, true, 1, 1, d - 1, e);
+            return branch(b, p, kinds, l, k, long, v, true, 1, 1, d - 1, c[0], c[3], c);
         }
-        return Low::Fault(INVALID_INPUT, s.path);
+        return closed(Low::Fault(INVALID_INPUT, k), c);
     }
     let want = takes(f.kind, f.operator);
     let lists = listing(f.kind, f.operator);
-    let o = operands(b, p, kinds, l, s, want, lists, 0, f.children, d - 1, next);
-    let Low::Done(w, g) = o else {
-        return o;
+    let m = operands(b, p, kinds, l, k, long, want, lists, 0, f.children, d - 1, next, path, c);
+    let o = opened(m, c);
+    let Low::Done(w, _) = o else {
+        return m;
     };
-    finish(p, l, s, f, w, g)
+    let g = Cursor {
+        node: c[0],
+        reg: c[1],
+        code: c[2],
+        path: c[3],
+        entry: c[4],
+    };
+    let r = finish(p, y, s, f, w, g);
+    closed(r, c)
 }
 
 // And or Or of at least two children: the first is a condition.
@@ -527,39 +646,40 @@ fn link(
     b: &[u8],
     p: &mut [u8],
     kinds: &[u8],
-    l: Layout,
-    s: Site,
+    l: &[usize; 3],
+    k: usize,
+    long: usize,
     conjunction: bool,
     left: usize,
     d: usize,
-    c: Cursor,
-) -> Low
-    requires { ⌜ Ready l (now p) s c (instruction-count (arm (now b) d conjunction left (c .node))) (inner-count (arm (now b) d conjunction left (c .node))) (entry-count (arm (now b) d conjunction left (c .node))) ⌝ }
-    requires { ⌜ (all-well-formed (kids (now b) d left (c .node)) ≡ true) × (2 ≤ left) × (left < 65536) ⌝ }
-    ensures { λ r. ⌜ Says (own-piece (context-of (now (kinds .entry)) (l .generated)) (arm (now (b .entry)) d conjunction left (c .node)) (place l (now (p .entry)) s) (s .path) c (past (now (b .entry)) d left (c .node))) l c (now (p .entry)) (now (p .exit)) r ⌝ }
+    at: usize,
+    path: usize,
+    c: &mut [usize; 6],
+) -> usize
+    requires { ⌜ Ready (layout-of (now l)) (now p) (site-at k long) (cursor-in at path (now c)) (instruction-count (arm (now b) d conjunction left at)) (inner-count (arm (now b) d conjunction left at)) (entry-count (arm (now b) d conjunction left at)) ⌝ }
+    requires { ⌜ (all-well-formed (kids (now b) d left at) ≡ true) × (2 ≤ left) × (left < 65536) × (length (now c) ≡ 6) ⌝ }
+    ensures { λ r. ⌜ Says (own-piece (context-of (now (kinds .entry)) (layout-of (now (l .entry)) .generated)) (arm (now (b .entry)) d conjunction left at) (place (layout-of (now (l .entry))) (now (p .entry)) (site-at k long)) k (cursor-in at path (now (c .entry))) (past (now (b .entry)) d left at)) (layout-of (now (l .entry))) (cursor-in at path (now (c .entry))) (now (p .entry)) (now (p .exit)) (low-of r (now (c .exit))) × (length (now (c .exit)) ≡ 6) ⌝ }
 {
-    let a = lower(b, p, kinds, l, s, 0, true, 1, d, c);
-    let Low::Done(v, e) = a else {
-        return a;
+    let n = lower(b, p, kinds, l, k, long, 0, true, 1, d, at, path, c);
+    let a = opened(n, c);
+    let Low::Done(v, _) = a else {
+        return n;
     };
     if conjunction {
-        return branch(b, p, kinds, l, s, v, conjunction, left - 1, 0, d, e);
+        return branch(b, p, kinds, l, k, long, v, conjunction, left - 1, 0, d, c[0], c[3], c);
     }
-    branch(b, p, kinds, l, s, v, conjunction, 0, left - 1, d, e)
+    branch(b, p, kinds, l, k, long, v, conjunction, 0, left - 1, d, c[0], c[3], c)
 }
 
 // So many registers and instructions further.
-fn ahead(c: Cursor, n: usize) -> Cursor
-    requires { ⌜ (c .reg + n < 2 ^ 64) × (c .code + n < 2 ^ 64) ⌝ }
-    ensures { λ r. ⌜ r ≡ further c n ⌝ }
+fn ahead(c: &mut [usize; 6], n: usize)
+    requires { ⌜ (getD (now c) 1 0 + n < 2 ^ 64) × (getD (now c) 2 0 + n < 2 ^ 64) × (length (now c) ≡ 6) ⌝ }
+    ensures { λ _. ⌜ ((at : ℕ) (path : ℕ) → cursor-in at path (now (c .exit)) ≡ further (cursor-in at path (now (c .entry))) n) × (length (now (c .exit)) ≡ 6) ⌝ }
 {
-    Cursor {
-        node: c.node,
-        reg: c.reg + n,
-        code: c.code + n,
-        path: c.path,
-        entry: c.entry,
-    }
+    let reg = c[1] + n;
+    let code = c[2] + n;
+    c[1] = reg;
+    c[2] = code;
 }
 
 // The end of both arms: the jump over the second one, its copy, and what they come to.
@@ -596,40 +716,62 @@ fn branch(
     b: &[u8],
     p: &mut [u8],
     kinds: &[u8],
-    l: Layout,
-    s: Site,
+    l: &[usize; 3],
+    k: usize,
+    long: usize,
     v: Value,
     conjunction: bool,
     yes: usize,
     no: usize,
     d: usize,
-    c: Cursor,
-) -> Low
-    requires { ⌜ Ready l (now p) s c (4 + instruction-count (arm (now b) d conjunction yes (c .node)) + instruction-count (arm (now b) d conjunction no (past (now b) d yes (c .node)))) (path-count (arm (now b) d conjunction yes (c .node)) + path-count (arm (now b) d conjunction no (past (now b) d yes (c .node)))) (entry-count (arm (now b) d conjunction yes (c .node)) + entry-count (arm (now b) d conjunction no (past (now b) d yes (c .node)))) ⌝ }
-    requires { ⌜ (all-well-formed (kids (now b) d yes (c .node)) ≡ true) × (all-well-formed (kids (now b) d no (past (now b) d yes (c .node))) ≡ true) × (yes < 65536) × (no < 65536) ⌝ }
-    ensures { λ r. ⌜ Says (branch-piece (context-of (now (kinds .entry)) (l .generated)) v (arm (now (b .entry)) d conjunction yes (c .node)) (arm (now (b .entry)) d conjunction no (past (now (b .entry)) d yes (c .node))) (place l (now (p .entry)) s) (s .path) c (past (now (b .entry)) d no (past (now (b .entry)) d yes (c .node)))) l c (now (p .entry)) (now (p .exit)) r ⌝ }
+    at: usize,
+    path: usize,
+    c: &mut [usize; 6],
+) -> usize
+    requires { ⌜ Ready (layout-of (now l)) (now p) (site-at k long) (cursor-in at path (now c)) (4 + instruction-count (arm (now b) d conjunction yes at) + instruction-count (arm (now b) d conjunction no (past (now b) d yes at))) (path-count (arm (now b) d conjunction yes at) + path-count (arm (now b) d conjunction no (past (now b) d yes at))) (entry-count (arm (now b) d conjunction yes at) + entry-count (arm (now b) d conjunction no (past (now b) d yes at))) ⌝ }
+    requires { ⌜ (all-well-formed (kids (now b) d yes at) ≡ true) × (all-well-formed (kids (now b) d no (past (now b) d yes at)) ≡ true) × (yes < 65536) × (no < 65536) × (length (now c) ≡ 6) ⌝ }
+    ensures { λ r. ⌜ Says (branch-piece (context-of (now (kinds .entry)) (layout-of (now (l .entry)) .generated)) v (arm (now (b .entry)) d conjunction yes at) (arm (now (b .entry)) d conjunction no (past (now (b .entry)) d yes at)) (place (layout-of (now (l .entry))) (now (p .entry)) (site-at k long)) k (cursor-in at path (now (c .entry))) (past (now (b .entry)) d no (past (now (b .entry)) d yes at))) (layout-of (now (l .entry))) (cursor-in at path (now (c .entry))) (now (p .entry)) (now (p .exit)) (low-of r (now (c .exit))) × (length (now (c .exit)) ≡ 6) ⌝ }
 {
-    let k = s.path;
     if v.boolean {
-        let bad = unsupported(true, v.dynamic, l.generated);
+        let generated = l[2] != 0;
+        let bad = unsupported(true, v.dynamic, generated);
         if bad {
-            return Low::Fault(UNSUPPORTED, k);
+            return closed(Low::Fault(UNSUPPORTED, k), c);
         }
-        let first = ahead(c, 1);
-        let a = lower(b, p, kinds, l, s, 1, conjunction, yes, d, first);
-        let Low::Done(y, e) = a else {
-            return a;
+        let reg = c[1];
+        let code = c[2];
+        ahead(c, 1);
+        let m = lower(b, p, kinds, l, k, long, 1, conjunction, yes, d, at, path, c);
+        let a = opened(m, c);
+        let Low::Done(y, _) = a else {
+            return m;
         };
-        put_slot(p, c.code, 3, 0, c.reg, v.a, 0, e.code + 2, k);
+        let e = Cursor {
+            node: c[0],
+            reg: c[1],
+            code: c[2],
+            path: c[3],
+            entry: c[4],
+        };
+        put_slot(p, code, 3, 0, reg, v.a, 0, e.code + 2, k);
         put_slot(p, e.code, 2, 0, e.reg, y.a, 0, 0, k);
-        let second = ahead(e, 2);
-        let o = lower(b, p, kinds, l, s, 2, conjunction, no, d, second);
-        let Low::Done(z, g) = o else {
-            return o;
+        ahead(c, 2);
+        let n = lower(b, p, kinds, l, k, long, 2, conjunction, no, d, e.node, e.path, c);
+        let o = opened(n, c);
+        let Low::Done(z, _) = o else {
+            return n;
         };
-        return join(p, k, v, y, z, e, g);
+        let g = Cursor {
+            node: c[0],
+            reg: c[1],
+            code: c[2],
+            path: c[3],
+            entry: c[4],
+        };
+        let r = join(p, k, v, y, z, e, g);
+        return closed(r, c);
     }
-    Low::Fault(WRONG_TYPE, k)
+    closed(Low::Fault(WRONG_TYPE, k), c)
 }
 
 // An operation without children, or past its last one.
@@ -653,34 +795,48 @@ fn operands(
     b: &[u8],
     p: &mut [u8],
     kinds: &[u8],
-    l: Layout,
-    s: Site,
+    l: &[usize; 3],
+    k: usize,
+    long: usize,
     want: bool,
     lists: bool,
     i: usize,
     left: usize,
     d: usize,
-    c: Cursor,
-) -> Low
-    requires { ⌜ Ready l (now p) s c (instruction-counts (terms (kids (now b) d left (c .node)))) (path-counts (terms (kids (now b) d left (c .node)))) (entry-counts (terms (kids (now b) d left (c .node))) + cond lists (i + left) 0) ⌝ }
-    requires { ⌜ (all-well-formed (kids (now b) d left (c .node)) ≡ true) × (i + left < 65536) ⌝ }
-    ensures { λ r. ⌜ Lists l lists (terms (kids (now (b .entry)) d left (c .node))) i (operands-piece (context-of (now (kinds .entry)) (l .generated)) want (terms (kids (now (b .entry)) d left (c .node))) (place l (now (p .entry)) s) i (s .path) c (past (now (b .entry)) d left (c .node))) c (now (p .entry)) (now (p .exit)) r ⌝ }
+    at: usize,
+    path: usize,
+    c: &mut [usize; 6],
+) -> usize
+    requires { ⌜ Ready (layout-of (now l)) (now p) (site-at k long) (cursor-in at path (now c)) (instruction-counts (terms (kids (now b) d left at))) (path-counts (terms (kids (now b) d left at))) (entry-counts (terms (kids (now b) d left at)) + cond lists (i + left) 0) ⌝ }
+    requires { ⌜ (all-well-formed (kids (now b) d left at) ≡ true) × (i + left < 65536) × (length (now c) ≡ 6) ⌝ }
+    ensures { λ r. ⌜ Lists (layout-of (now (l .entry))) lists (terms (kids (now (b .entry)) d left at)) i (operands-piece (context-of (now (kinds .entry)) (layout-of (now (l .entry)) .generated)) want (terms (kids (now (b .entry)) d left at)) (place (layout-of (now (l .entry))) (now (p .entry)) (site-at k long)) i k (cursor-in at path (now (c .entry))) (past (now (b .entry)) d left at)) (cursor-in at path (now (c .entry))) (now (p .entry)) (now (p .exit)) (low-of r (now (c .exit))) × (length (now (c .exit)) ≡ 6) ⌝ }
 {
     if left == 0 {
-        return no_operands(c);
+        let r = no_operands(
+            Cursor {
+                node: at,
+                reg: c[1],
+                code: c[2],
+                path: path,
+                entry: c[4],
+            },
+        );
+        return closed(r, c);
     }
-    let a = lower(b, p, kinds, l, s, 3 + i, true, 1, d, c);
-    let Low::Done(v, e) = a else {
-        return a;
+    let m = lower(b, p, kinds, l, k, long, 3 + i, true, 1, d, at, path, c);
+    let a = opened(m, c);
+    let Low::Done(v, _) = a else {
+        return m;
     };
-    let rest = operands(b, p, kinds, l, s, want, lists, i + 1, left - 1, d, e);
-    let Low::Done(w, g) = rest else {
-        return rest;
+    let n = operands(b, p, kinds, l, k, long, want, lists, i + 1, left - 1, d, c[0], c[3], c);
+    let rest = opened(n, c);
+    let Low::Done(w, _) = rest else {
+        return n;
     };
     let alike = same(v.boolean, want);
     let first = v.a;
-    list_entry(p, lists, l.lists, g.entry + i, first);
-    Low::Done(
+    list_entry(p, lists, l[1], c[4] + i, first);
+    number(
         Value {
             a: first,
             b: w.a,
@@ -688,6 +844,17 @@ fn operands(
             boolean: all(alike, w.boolean),
             dynamic: any(v.dynamic, w.dynamic, false),
         },
-        g,
     )
+}
+
+// A whole formula's node.
+pub fn root(b: &[u8], p: &mut [u8], kinds: &[u8], l: Layout, s: Site, d: usize, c: Cursor) -> Low
+    requires { ⌜ Ready l (now p) s c (instruction-count (term (tree-in d (now b) (c .node)))) (inner-count (term (tree-in d (now b) (c .node)))) (entry-count (term (tree-in d (now b) (c .node)))) ⌝ }
+    requires { ⌜ well-formed (tree-in d (now b) (c .node)) ≡ true ⌝ }
+    ensures { λ r. ⌜ Says (own-piece (context-of (now (kinds .entry)) (l .generated)) (term (tree-in d (now (b .entry)) (c .node))) (place l (now (p .entry)) s) (s .path) c (c .node + node-size * size (tree-in d (now (b .entry)) (c .node)))) l c (now (p .entry)) (now (p .exit)) r ⌝ }
+{
+    let y = [l.paths, l.lists, bit(l.generated)];
+    let mut cells = [0, c.reg, c.code, 0, c.entry, 0];
+    let n = node(b, p, kinds, &y, s.path, s.length, d, c.node, c.path, &mut cells);
+    opened(n, &cells)
 }

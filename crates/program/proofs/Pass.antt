@@ -211,10 +211,6 @@ pub short-header : (b : List ℕ) → length b < 32 → false ≡ header-ok b
 unfolding header-ok
 short-header b l = rw (lt-leb 32 (length b) l)
 
-pub valid-size : (b : List ℕ) → valid (program-at b) ≡ true → 32 + 24 * code-count b + 12 * path-total b ≤ length b
-unfolding entry-at
-valid-size b v = let r = header-room b (and-l _ _ (valid-is b ∙ v)) in omega arith
-
 -- ---- the table that the paths' text is written from
 
 module _ (b : List ℕ) (code k : ℕ) (e : code ≡ code-count b) where

@@ -5,7 +5,6 @@ use Prim.Native.Nat.{ℕ, _+_, _≤_}
 use native.Mathlib.Omega.{arith}
 use lib.ListN.{length, List·getD-eq-default}
 use Rattle.formula.specs.Text.{byte-at, half-at, word-at, long-at}
-use Rattle.formula.specs.Node.{fields-at}
 
 module _ (b : List ℕ) where
   pub byte-past : (at : ℕ) → length b ≤ at → byte-at b at ≡ 0
@@ -22,8 +21,3 @@ module _ (b : List ℕ) where
   pub long-past : (at : ℕ) → length b ≤ at → long-at b at ≡ 0
   unfolding long-at
   long-past at h = omega (arith, word-past at h, word-past (at + 4) (omega arith))
-
-  pub fields-past : (at : ℕ) → length b ≤ at → fields-at b at ≡ record { kind = 0; operator = 0; children = 0; symbol-number = 0; value = 0 }
-  unfolding fields-at
-  fields-past at h =
-      rw (byte-past at h, byte-past (at + 1) (omega arith), half-past (at + 2) (omega arith), word-past (at + 4) (omega arith), long-past (at + 8) (omega arith))

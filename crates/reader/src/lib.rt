@@ -1,6 +1,6 @@
 ghost use mathlib.Core.Path.{_≡_};
 ghost use mathlib.Core.Bool.{true, _&&_};
-ghost use Prim.Native.Nat.{_+_, _*_, _^_, _<_};
+ghost use Prim.Native.Nat.{_+_, _*_, _^_, _≤_, _<_};
 ghost use lib.ListN.{length};
 ghost use lib.Dec.{ltb, eqb};
 ghost use Rattle.formula.specs.Text.{byte-at, half-at, word-at, long-at};
@@ -18,8 +18,29 @@ pub fn wide(x: u8) -> usize
     x as usize
 }
 
-// The little-endian number of 1, 2, 4 or 8 bytes from a place on; there is 0 past the end. A number of 4 bytes that are all
-// there takes one test.
+// The little-endian number of 2, 4 or 8 bytes that are all there.
+fn known_half(b: &[u8], at: usize) -> usize
+    requires { ⌜ at + 2 ≤ length (now b) ⌝ }
+    ensures { λ r. ⌜ (r ≡ half-at (now (b .entry)) at) × (r < 65536) ⌝ }
+{
+    wide(b[at]) + 256 * wide(b[at + 1])
+}
+
+fn known_word(b: &[u8], at: usize) -> usize
+    requires { ⌜ at + 4 ≤ length (now b) ⌝ }
+    ensures { λ r. ⌜ (r ≡ word-at (now (b .entry)) at) × (r < 2 ^ 32) ⌝ }
+{
+    known_half(b, at) + 65536 * known_half(b, at + 2)
+}
+
+fn known_long(b: &[u8], at: usize) -> u64
+    requires { ⌜ at + 8 ≤ length (now b) ⌝ }
+    ensures { λ r. ⌜ r ≡ long-at (now (b .entry)) at ⌝ }
+{
+    known_word(b, at) as u64 + 4294967296 * (known_word(b, at + 4) as u64)
+}
+
+// The same of 1, 2, 4 or 8 bytes, where there is 0 past the end. A number of 4 bytes that are all there takes one test.
 pub fn byte(b: &[u8], at: usize) -> u8
     ensures { λ r. ⌜ r ≡ byte-at (now (b .entry)) at ⌝ }
 {
@@ -43,10 +64,7 @@ pub fn word(b: &[u8], at: usize) -> usize
 {
     if at < b.len() {
         if 4 <= b.len() - at {
-            return wide(b[at])
-                + 256 * wide(b[at + 1])
-                + 65536 * wide(b[at + 2])
-                + 16777216 * wide(b[at + 3]);
+            return known_word(b, at);
         }
         return half(b, at) + 65536 * half(b, at + 2);
     }
@@ -71,25 +89,17 @@ pub struct Fields {
     pub value: u64,
 }
 
-// The fields of the node at a byte.
+// The fields of the node at a byte, whose bytes are there.
 pub fn node(b: &[u8], at: usize) -> Fields
+    requires { ⌜ at + 16 ≤ length (now b) ⌝ }
     ensures { λ r. ⌜ (written r ≡ fields-at (now (b .entry)) at) × (r .children < 65536) ⌝ }
 {
-    if at < b.len() {
-        return Fields {
-            kind: byte(b, at),
-            operator: byte(b, at + 1),
-            children: half(b, at + 2),
-            symbol: word(b, at + 4),
-            value: long(b, at + 8),
-        };
-    }
     Fields {
-        kind: 0,
-        operator: 0,
-        children: 0,
-        symbol: 0,
-        value: 0,
+        kind: b[at],
+        operator: b[at + 1],
+        children: known_half(b, at + 2),
+        symbol: known_word(b, at + 4),
+        value: known_long(b, at + 8),
     }
 }
 
@@ -195,21 +205,28 @@ fn extent_of(b: &[u8], at: usize, levels: usize) -> Extent
     Extent::To(end)
 }
 
-// Whether the bytes are a formula of at most so many nodes and levels. The nodes are counted first, so that long bytes are
-// not gone into.
-pub fn within_limits(b: &[u8], nodes: usize, levels: usize) -> bool
+// Whether a formula has at most so many nodes and levels. The nodes are counted first, so that long bytes are not gone into.
+pub fn is_small(b: &[u8], nodes: usize, levels: usize) -> bool
+    requires { ⌜ is-some (formula-of (now b)) ≡ true ⌝ }
     ensures { λ r. ⌜ r ≡ limited nodes levels (formula-of (now (b .entry))) ⌝ }
 {
     if b.len() / NODE_SIZE > nodes {
         return false;
     }
+    let whole = extent_of(b, 0, levels);
+    let Extent::To(_) = whole else {
+        return false;
+    };
+    true
+}
+
+// Whether the bytes are a formula of at most so many nodes and levels.
+pub fn within_limits(b: &[u8], nodes: usize, levels: usize) -> bool
+    ensures { λ r. ⌜ r ≡ limited nodes levels (formula-of (now (b .entry))) ⌝ }
+{
     let ok = is_formula(b);
     if ok {
-        let whole = extent_of(b, 0, levels);
-        let Extent::To(_) = whole else {
-            return false;
-        };
-        return true;
+        return is_small(b, nodes, levels);
     }
     false
 }

@@ -1,17 +1,14 @@
 use mathlib.Core.Path.{refl, ap}
-use mathlib.Core.Option.{none, some}
+use mathlib.Core.Option.{Option, none, some}
 use native.Mathlib.Omega.{arith}
 use lib.ListN.{length, take}
+use Rattle.formula.specs.Formula.{Formula}
 use Rattle.formula.specs.Path.{root}
+use Rattle.reader.specs.Read.{is-some}
 use Rattle.compile.proofs.Entries.{above-limit, all-fit, early, faults-left, limit-of, path-kept, path-rooted, prefix, prefix-long, refusal-of, source-of, within-table, written}
 use borrow.Author.Needs.{needs}
 use Rattle.compile.proofs.compile.Statement.{statement}
 use Rattle.compile.proofs.compile.Tie as tie
-use Rattle.compile.proofs.compile.Reads as reads
-use Rattle.compile.proofs.compile.Lts as lts
-use Rattle.compile.proofs.prepare.Reads as prepare-reads
-use Rattle.compile.proofs.within.Reads as within-reads
-use Rattle.compile.proofs.write.Reads as write-reads
 
 prepare-requires : tie.Need-prepare-requires
 prepare-requires c κs = search needs
@@ -22,13 +19,13 @@ enum-known-reading c = search needs
 enum-known-reading-2 : tie.Need-enum-known-reading-2
 enum-known-reading-2 c = search needs
 
-within-requires : tie.Need-within-requires
-within-requires c κs =
+within-known-requires : tie.Need-within-known-requires
+within-known-requires c κs =
     let args = c .before .before .before .before .before .before .before .before .before .args in
     let prepare = c .before .before .before .before .prepare in
     let S = source-of (args .formula .now) (args .names .now) (length (args .path .now)) (length (args .program .now)) (prepare .result)
     (prepare .ensures) (c .before .before .reading2 .given .0 .0) (c .before .before .reading2 .given .1) in
-    omega (arith, S .places)
+    (omega (arith, S .places), ap (λ (o : Option Formula). is-some o) (S .formed))
 
 array-share-prefix-kinds : tie.Need-array-share-prefix-kinds
 array-share-prefix-kinds c =
@@ -53,7 +50,7 @@ write-requires c κs =
     let args = c .before .before .before .before .before .before .before .before .before .before .before .before .before .before .before .before .before .args in
     let prepare = c .before .before .before .before .before .before .before .before .before .before .before .before .prepare in
     let reading2 = c .before .before .before .before .before .before .before .before .before .before .reading2 in
-    let within = c .before .before .before .before .before .before .before .within in
+    let within = c .before .before .before .before .before .before .before .within-known in
     let if1 = c .before .before .before .before .if1 in
     let S = source-of (args .formula .now) (args .names .now) (length (args .path .now)) (length (args .program .now)) (prepare .result)
     (prepare .ensures) (reading2 .given .0 .0) (reading2 .given .1) in
@@ -71,7 +68,7 @@ returns c =
     let args = c .before .before .before .before .before .before .before .before .before .before .before .before .before .before .before .before .before .before .before .before .before .before .args in
     let prepare = c .before .before .before .before .before .before .before .before .before .before .before .before .before .before .before .before .before .prepare in
     let reading2 = c .before .before .before .before .before .before .before .before .before .before .before .before .before .before .before .reading2 in
-    let within = c .before .before .before .before .before .before .before .before .before .before .before .before .within in
+    let within = c .before .before .before .before .before .before .before .before .before .before .before .before .within-known in
     let if1 = c .before .before .before .before .before .before .before .before .before .if1 in
     let S = source-of (args .formula .now) (args .names .now) (length (args .path .now)) (length (args .program .now)) (prepare .result)
     (prepare .ensures) (reading2 .given .0 .0) (reading2 .given .1) in
@@ -103,7 +100,7 @@ returns-3 c =
     let reading2 = c .before .before .before .before .before .before .reading2 in
     let S = source-of (args .formula .now) (args .names .now) (length (args .path .now)) (length (args .program .now)) (prepare .result)
     (prepare .ensures) (reading2 .given .0 .0) (reading2 .given .1) in
-    let within = c .before .before .before .within in
+    let within = c .before .before .before .within-known in
     early _ 4 (some root) (args .path .now) _ (args .program .now) (above-limit S (within .result) (within .ensures .0) (c .if1 .left)) (omega arith)
     (path-rooted (args .path .now) (within .last .1 .0) (within .result) (within .ensures .1) (c .if1 .left))
 
@@ -114,7 +111,7 @@ compile-spec =
     prepare-requires
     enum-known-reading
     enum-known-reading-2
-    within-requires
+    within-known-requires
     array-share-prefix-kinds
     slice-aggregate-write
     write-requires

@@ -62,8 +62,8 @@ put-record-requires c κs =
           (args .generated) (args .code) (args .records) (args .entries) (pre .0) (pre .1 .0) (pre .1 .1) (pre .1 .2),
     )
 
-node-requires : tie.Need-node-requires
-node-requires c κs =
+root-requires : tie.Need-root-requires
+root-requires c κs =
     let args = c .before .before .before .before .before .before .before .before .before .args in
     let pre = c .before .before .before .before .before .before .before .before .before .pre in
     let put-record = c .before .before .before .put-record in (
@@ -83,12 +83,12 @@ put-header-requires c κs =
     let args = c .before .before .before .before .before .before .before .before .before .before .before .before .before .before .before .before .before .args in
     let pre = c .before .before .before .before .before .before .before .before .before .before .before .before .before .before .before .before .before .pre in
     let put-record = c .before .before .before .before .before .before .before .before .before .before .before .put-record in
-    let node = c .before .before .before .before .before .before .before .node in
+    let root = c .before .before .before .before .before .before .before .root in
     omega (
       arith,
       whole.all-room (args .b .now) (args .d) (length (args .path .now)) (args .p .now) (args .kinds .now) (args .generated) (args .code)
           (args .records) (args .entries) (pre .0) (pre .1 .0) (pre .1 .1) (pre .1 .2),
-      node .kept .1 .0,
+      root .kept .1 .0,
       put-record .kept .0,
     )
 
@@ -121,13 +121,13 @@ zero-from-requires c κs =
     let args = c .before .before .before .before .before .before .before .before .before .before .before .before .before .before .before .before .before .before .before .before .before .args in
     let pre = c .before .before .before .before .before .before .before .before .before .before .before .before .before .before .before .before .before .before .before .before .before .pre in
     let put-record = c .before .before .before .before .before .before .before .before .before .before .before .before .before .before .before .put-record in
-    let node = c .before .before .before .before .before .before .before .before .before .before .before .node in
+    let root = c .before .before .before .before .before .before .before .before .before .before .before .root in
     omega (
       arith,
       whole.all-room (args .b .now) (args .d) (length (args .path .now)) (args .p .now) (args .kinds .now) (args .generated) (args .code)
           (args .records) (args .entries) (pre .0) (pre .1 .0) (pre .1 .1) (pre .1 .2),
       c .before .before .before .put-header .kept .0,
-      node .kept .1 .0,
+      root .kept .1 .0,
       put-record .kept .0,
     )
 
@@ -140,12 +140,12 @@ write-path-requires c κs =
     let pre = c .before .before .before .before .before .before .before .before .before .before .before .before .before .before .before .before .before .pre in
     let good = c .before .before .before .before .before .before .before .before .before .before .before .before .before .before .before .before .before .good in
     let put-record = c .before .before .before .before .before .before .before .before .before .before .before .put-record in
-    let node = c .before .before .before .before .before .before .before .node in
+    let root = c .before .before .before .before .before .before .before .root in
     let a2 = c .before .before .before .a2 in
     (whole.writes (args .b .now) (args .d) (length (args .path .now)) (args .p .now) (args .kinds .now) (args .generated) (args .code) (args .records)
-    (args .entries) (pre .0) (pre .1 .0) (pre .1 .1) (pre .1 .2) (put-record .last .0) (put-record .ensures) (node .last .1 .0) (node .result)
-    (node .ensures) (a2 .given .0 .0) (a2 .given .0 .1 .0) (a2 .given .1) (pre .0 .places)
-    (omega (arith, node .kept .1 .0, put-record .kept .0, good .1 .0 .0)) .0)
+    (args .entries) (pre .0) (pre .1 .0) (pre .1 .1) (pre .1 .2) (put-record .last .0) (put-record .ensures) (root .last .1 .0) (root .result)
+    (root .ensures) (a2 .given .0 .0) (a2 .given .0 .1 .0) (a2 .given .1) (pre .0 .places)
+    (omega (arith, root .kept .1 .0, put-record .kept .0, good .1 .0 .0)) .0)
 
 zero-from-requires-2 : tie.Need-zero-from-requires-2
 zero-from-requires-2 c κs = search needs
@@ -158,13 +158,13 @@ returns c =
     let args = c .before .before .before .before .before .before .before .before .before .before .before .before .before .before .before .before .before .before .before .before .before .before .before .before .args in
     let pre = c .before .before .before .before .before .before .before .before .before .before .before .before .before .before .before .before .before .before .before .before .before .before .before .before .pre in
     let put-record = c .before .before .before .before .before .before .before .before .before .before .before .before .before .before .before .before .before .before .put-record in
-    let node = c .before .before .before .before .before .before .before .before .before .before .before .before .before .before .node in
+    let root = c .before .before .before .before .before .before .before .before .before .before .before .before .before .before .root in
     let a = c .before .before .before .before .before .before .before .before .before .before .a in
     let kind-of = c .before .before .before .before .before .before .before .before .kind-of in
     let put-header = c .before .before .before .before .before .before .put-header in
     whole.program-answers (args .b .now) (args .d) (length (args .path .now)) (args .p .now) (args .kinds .now) (args .generated) (args .code)
-    (args .records) (args .entries) (pre .0) (pre .1 .0) (pre .1 .1) (pre .1 .2) (put-record .last .0) (put-record .ensures) (node .last .1 .0)
-    (node .result) (node .ensures) (a .given .0 .0) (a .given .0 .1 .0) (a .given .1) (kind-of .result) (kind-of .ensures) (put-header .last .0)
+    (args .records) (args .entries) (pre .0) (pre .1 .0) (pre .1 .1) (pre .1 .2) (put-record .last .0) (put-record .ensures) (root .last .1 .0)
+    (root .result) (root .ensures) (a .given .0 .0) (a .given .0 .1 .0) (a .given .1) (kind-of .result) (kind-of .ensures) (put-header .last .0)
     (c .before .before .zero-from .last .0) (args .path .now) (put-header .ensures) (c .before .before .zero-from .ensures)
 
 same-length-2 : tie.Need-same-length-2
@@ -179,18 +179,18 @@ returns-2 c =
     let pre = c .before .before .before .before .before .before .before .before .before .before .before .before .before .before .before .before .before .before .before .before .before .before .before .before .pre in
     let good = c .before .before .before .before .before .before .before .before .before .before .before .before .before .before .before .before .before .before .before .before .before .before .before .before .good in
     let put-record = c .before .before .before .before .before .before .before .before .before .before .before .before .before .before .before .before .before .before .put-record in
-    let node = c .before .before .before .before .before .before .before .before .before .before .before .before .before .before .node in
+    let root = c .before .before .before .before .before .before .before .before .before .before .before .before .before .before .root in
     let a2 = c .before .before .before .before .before .before .before .before .before .before .a2 in
     let write-path = c .before .before .before .before .before .before .write-path in
     let fits =
     (whole.writes (args .b .now) (args .d) (length (args .path .now)) (args .p .now) (args .kinds .now) (args .generated) (args .code) (args .records)
-    (args .entries) (pre .0) (pre .1 .0) (pre .1 .1) (pre .1 .2) (put-record .last .0) (put-record .ensures) (node .last .1 .0) (node .result)
-    (node .ensures) (a2 .given .0 .0) (a2 .given .0 .1 .0) (a2 .given .1) (pre .0 .places)
-    (omega (arith, node .kept .1 .0, put-record .kept .0, good .1 .0 .0)) .1) in
+    (args .entries) (pre .0) (pre .1 .0) (pre .1 .1) (pre .1 .2) (put-record .last .0) (put-record .ensures) (root .last .1 .0) (root .result)
+    (root .ensures) (a2 .given .0 .0) (a2 .given .0 .1 .0) (a2 .given .1) (pre .0 .places)
+    (omega (arith, root .kept .1 .0, put-record .kept .0, good .1 .0 .0)) .1) in
     whole.fault-answers (args .b .now) (args .d) (length (args .path .now)) (args .p .now) (args .kinds .now) (args .generated) (args .code)
-    (args .records) (args .entries) (pre .0) (pre .1 .0) (pre .1 .1) (pre .1 .2) (put-record .last .0) (put-record .ensures) (node .last .1 .0)
-    (node .result) (node .ensures) (a2 .given .0 .0) (a2 .given .0 .1 .0) (a2 .given .1) (c .before .before .zero-from2 .last .0) (args .path .now)
-    (write-path .last .1 .1 .1 .0) (omega (arith, node .kept .1 .0, put-record .kept .0)) (c .before .before .zero-from2 .ensures)
+    (args .records) (args .entries) (pre .0) (pre .1 .0) (pre .1 .1) (pre .1 .2) (put-record .last .0) (put-record .ensures) (root .last .1 .0)
+    (root .result) (root .ensures) (a2 .given .0 .0) (a2 .given .0 .1 .0) (a2 .given .1) (c .before .before .zero-from2 .last .0) (args .path .now)
+    (write-path .last .1 .1 .1 .0) (omega (arith, root .kept .1 .0, put-record .kept .0)) (c .before .before .zero-from2 .ensures)
     (write-path .ensures fits)
 
 pub write-counted-spec : {M : Type 1} → statement M
@@ -202,7 +202,7 @@ write-counted-spec =
     mul-lists
     add-lists
     put-record-requires
-    node-requires
+    root-requires
     enum-known-a
     kind-of-requires
     put-header-requires

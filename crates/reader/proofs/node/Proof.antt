@@ -1,57 +1,51 @@
-use borrow.Author.Needs.{needs}
 use native.Mathlib.Omega.{arith}
+use Rattle.formula.specs.Node.{fields-at}
+use borrow.Author.Needs.{needs}
 use Rattle.reader.proofs.node.Statement.{statement}
 use Rattle.reader.proofs.node.Tie as tie
-use mathlib.Core.Path.{sym}
-use Rattle.formula.specs.Node.{fields-at}
-use Rattle.reader.proofs.Past.{fields-past}
 
-byte-requires : tie.Need-byte-requires
-byte-requires c κs = search needs
+shared-slice-read-t4 : tie.Need-shared-slice-read-t4
+shared-slice-read-t4 c = search needs
 
-add-byte : tie.Need-add-byte
-add-byte c = search needs
+add-t5 : tie.Need-add-t5
+add-t5 c = search needs
 
-byte-requires-2 : tie.Need-byte-requires-2
-byte-requires-2 c κs = search needs
+shared-slice-read-t7 : tie.Need-shared-slice-read-t7
+shared-slice-read-t7 c = search needs
 
-add-half : tie.Need-add-half
-add-half c = search needs
+add-known-half : tie.Need-add-known-half
+add-known-half c = search needs
 
-half-requires : tie.Need-half-requires
-half-requires c κs = search needs
+known-half-requires : tie.Need-known-half-requires
+known-half-requires c κs = search needs
 
-add-word : tie.Need-add-word
-add-word c = search needs
+add-known-word : tie.Need-add-known-word
+add-known-word c = search needs
 
-word-requires : tie.Need-word-requires
-word-requires c κs = search needs
+known-word-requires : tie.Need-known-word-requires
+known-word-requires c κs = search needs
 
-add-long : tie.Need-add-long
-add-long c = search needs
+add-known-long : tie.Need-add-known-long
+add-known-long c = search needs
 
-long-requires : tie.Need-long-requires
-long-requires c κs = search needs
+known-long-requires : tie.Need-known-long-requires
+known-long-requires c κs = search needs
 
 returns : tie.Need-returns
 unfolding fields-at
 returns c = (cc, omega arith)
 
-returns-2 : tie.Need-returns-2
-returns-2 c = (sym (fields-past (c .before .before .args .b .now) (c .before .before .args .at) (c .if1 .left)), omega arith)
-
 pub node-spec : {M : Type 1} → statement M
 node-spec =
     tie.close
     (tie.spec
-    byte-requires
-    add-byte
-    byte-requires-2
-    add-half
-    half-requires
-    add-word
-    word-requires
-    add-long
-    long-requires
-    returns
-    returns-2)
+    shared-slice-read-t4
+    add-t5
+    shared-slice-read-t7
+    add-known-half
+    known-half-requires
+    add-known-word
+    known-word-requires
+    add-known-long
+    known-long-requires
+    returns)

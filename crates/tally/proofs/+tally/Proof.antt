@@ -1,3 +1,4 @@
+use Rattle.lower.proofs.Kids.{first-well, stands}
 use Rattle.tally.proofs.Weights.{all-counts, deep, first-is, here-well, inner-well, inside, next-inside, next-well, node-small, none-counts, small}
 use native.Mathlib.Omega.{arith}
 use Prim.Native.Nat.{_+_, _-_, _*_}
@@ -39,7 +40,9 @@ tally-returns : (t : ℕ) → tally-lts.Need-returns (tally-calls t) (tally-at t
 tally-returns t c = none-counts (c .before .before .args .b .now) (c .before .before .args .d) (c .before .before .args .left) (c .before .before .args .at) (c .if1 .taken)
 
 tally-node-requires : (t : ℕ) → tally-lts.Need-node-requires (tally-calls t) (tally-at t) tally.Post
-tally-node-requires t c κs = tt
+tally-node-requires t c κs =
+    let args = c .before .before .args in
+    stands (args .b .now) (args .d) (args .at) (first-well (args .b .now) (args .d) (args .left) (args .at) (c .if1 .left) (c .before .before .pre .1)) .inside
 
 tally-sub-tally : (t : ℕ) → tally-lts.Need-sub-tally (tally-calls t) (tally-at t) tally.Post
 tally-sub-tally t c =
