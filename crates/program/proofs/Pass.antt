@@ -199,7 +199,7 @@ module _ (b : List ℕ) where
   valid-records v = and-l _ _ (and-r (header-ok b) _ (valid-is ∙ v))
 
 -- all parts are there
-pub header-room : (b : List ℕ) → header-ok b ≡ true → entry-at b (entry-total b) ≤ length b
+header-room : (b : List ℕ) → header-ok b ≡ true → entry-at b (entry-total b) ≤ length b
 unfolding header-ok
 header-room b e =
     leb-true _ _ (and-l _ _ (and-r (ltb (word-at b 20) 2) _ (and-r (eqb (word-at b 0) magic) _ (and-r (leb 32 (length b)) _ e))))
