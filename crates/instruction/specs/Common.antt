@@ -1,4 +1,4 @@
--- Instructions that are done at once.
+-- Instructions that ask nothing, done at once.
 use mathlib.Core.Path.{_≡_}
 use mathlib.Core.Bool.{true}
 use mathlib.Core.List.{List}
@@ -14,13 +14,13 @@ use Rattle.instruction.specs.Progressing.{Progressed, machine-effect}
 use Rattle.instruction.specs.declared.Effect.the-variants.{Work}
 use Rattle.instruction.specs.declared.Progress.the-variants.{Next}
 
--- a value that is finite is what an instruction with these fields stores, whatever is kept
+-- a value that is finite is what an instruction of this opcode, with x and y as its first two fields, stores, whatever is kept
 abbrev pub Stores : ℕ → ℕ → ℕ → List Float → List Float → Float → Type 0
 Stores op x y inputs regs v =
     finite v ≡ true → (b : List ℕ) (count z n : ℕ) (kept : List Float)
     → Work (Value v) ≡ shown-effect inputs (getD (ops b (x + 4294967296 * y) count x y z) op (jump 0)) n kept regs
 
--- the same of the operation at a byte
+-- the same of an operation whose slot begins at this byte
 abbrev pub Works : List ℕ → ℕ → ℕ → List Float → Float → Type 0
 Works b at op regs v = finite v ≡ true → (4 < op) × ((kept : List Float) → Work (Value v) ≡ operation-at b at op kept regs)
 

@@ -33,7 +33,7 @@ fn quotient(x: f64, y: f64) -> f64
     if y != 0.0 { x / y } else { 0.0 / 0.0 }
 }
 
-// What an instruction with these fields stores if it is finite: a NaN for one that is not common.
+// What an instruction with the fields a and b stores, if it is finite; a NaN for one that is not common.
 fn value(op: u8, a: usize, b: usize, inputs: &[f64], regs: &[f64]) -> f64
     requires { ⌜ (a < 4294967296) × (b < 4294967296) ⌝ }
     ensures { λ r. ⌜ Stores op a b (now (inputs .entry)) (now (regs .entry)) r ⌝ }

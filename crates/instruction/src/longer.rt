@@ -29,7 +29,7 @@ fn remainder(a: f64, b: f64) -> f64
     }
 }
 
-// What the instruction at a byte stores if it is finite: a NaN for one that is none of these.
+// What the instruction at a byte stores, if it is finite; a NaN for one that is none of these.
 fn value(op: u8, p: &[u8], at: usize, regs: &[f64]) -> f64
     requires { ⌜ (at < 1099511627776) × (at + slot-size ≤ length (now p)) ⌝ }
     ensures { λ r. ⌜ Works (now (p .entry)) at op (now (regs .entry)) r ⌝ }
