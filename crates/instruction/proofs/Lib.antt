@@ -2,3 +2,4 @@ pub mod Leaves
 pub mod Extremes
 pub mod Opcodes
 pub mod Done
+pub mod Stores

@@ -1,9 +1,14 @@
 // One instruction of a program's bytes (docs/PROGRAM.md): reads and stores are total, so nothing is asked of the bytes.
+pub mod common;
+pub mod longer;
+
 ghost use mathlib.Core.Path.{_≡_};
-ghost use Prim.Native.Nat.{_<_};
-ghost use lib.ListN.{getD, set};
+ghost use mathlib.Core.Bool.{true};
+ghost use Prim.Native.Nat.{_+_, _<_, _≤_};
+ghost use lib.ListN.{getD, length, set};
 ghost use Rattle.arithmetic.specs.Value.{0f};
 ghost use Rattle.arithmetic.specs.Extremum.{held};
+ghost use Rattle.formula.specs.Text.{word-at};
 ghost use Rattle.work.specs.View.{kept-values};
 ghost use Rattle.instruction.specs.Effects.{beyond, effect-at, extremum-at, operation-at};
 ghost use Rattle.instruction.specs.Progressing.{Progressed, machine-effect};
@@ -60,6 +65,17 @@ fn hold(most: bool, earlier: f64, next: f64) -> f64
     floats::extremum::hold_below(earlier, next)
 }
 
+// A number of 4 bytes; where they are known to be there, no test is made.
+fn entry(p: &[u8], at: usize, there: bool) -> usize
+    requires { ⌜ (there ≡ true → at + 4 ≤ length (now p)) ⌝ }
+    ensures { λ r. ⌜ r ≡ word-at (now (p .entry)) at ⌝ }
+{
+    if there {
+        return common::word(p, at);
+    }
+    word(p, at)
+}
+
 // Min or Max of the registers of a list in the program: `count` entries from the entry `a` on.
 fn extremum(most: bool, p: &[u8], count: usize, a: usize, regs: &[f64]) -> f64
     requires { ⌜ (count < 65536) × (a < 4294967296) ⌝ }
@@ -69,10 +85,11 @@ fn extremum(most: bool, p: &[u8], count: usize, a: usize, regs: &[f64]) -> f64
         return 0.0 / 0.0;
     }
     let first = HEADER_SIZE + SLOT_SIZE * word(p, CODE_AT) + RECORD_SIZE * word(p, PATHS_AT);
-    let mut extreme = value_at(regs, word(p, first + ENTRY_SIZE * a));
+    let there = first + ENTRY_SIZE * (a + count) <= p.len();
+    let mut extreme = value_at(regs, entry(p, first + ENTRY_SIZE * a, there));
     let mut i = 1;
     while i < count {
-        let next = value_at(regs, word(p, first + ENTRY_SIZE * (a + i)));
+        let next = value_at(regs, entry(p, first + ENTRY_SIZE * (a + i), there));
         extreme = hold(most, extreme, next);
         i += 1;
     }

@@ -15,25 +15,28 @@ use Rattle.layout.specs.Decode.{code-count, raw-program, result-at}
 use Rattle.work.specs.View.{kept-values}
 use Rattle.work.specs.declared.Kept.{Kept}
 use Rattle.program.proofs.Body.{code-at, code-length, code-past}
+use Rattle.instruction.specs.Common.{Went, not-done}
 use Rattle.instruction.specs.Progressing.{Progressed, effect-of, machine-effect, registers-after}
 use Rattle.instruction.specs.declared.Progress.{Progress}
 use Rattle.instruction.specs.declared.Progress.the-variants as P
 use Rattle.run.specs.Views.{answer-of, reply-of, state-of}
-use Rattle.run.specs.Calls.{Finished, Known-place, replying, steps-at, stopping}
+use Rattle.run.specs.Calls.{Finished, Known-place, Reaches, after, replying, steps-at, stopping}
 use Rattle.run.specs.declared.Answer.{Answer}
 use Rattle.run.specs.declared.Answer.the-variants as A
 use Rattle.run.specs.declared.Pending.the-variants as Pending
 use Rattle.run.specs.declared.Reply.{Reply}
 
--- a reply after d more instructions
-unfoldable pub after : ℕ → Machine.Reply → Machine.Reply
-after d r = record { answer = r .answer; count = d + r .count; state = r .state; registers = r .registers }
-
-pub after-none : (r : Machine.Reply) → after 0 r ≡ r
+after-none : (r : Machine.Reply) → after 0 r ≡ r
 unfolding after
 after-none r =
     let e : 0 + r .count ≡ r .count = omega arith in
     ap (λ (c : ℕ). record { answer = r .answer; count = c; state = r .state; registers = r .registers }) e
+
+after-after : (d e : ℕ) (r : Machine.Reply) → after d (after e r) ≡ after (d + e) r
+unfolding after
+after-after d e r =
+    let f : d + (e + r .count) ≡ d + e + r .count = omega arith in
+    ap (λ (c : ℕ). record { answer = r .answer; count = c; state = r .state; registers = r .registers }) f
 
 after-counted : (inputs : List Float) (P : Program) (d : ℕ) (r : Machine.Reply) → after d (counted binary64 inputs P r) ≡ after (d + 1) r
 unfolding after
@@ -116,12 +119,59 @@ module _ (inputs : List Float) (b : List ℕ) where
   stop-reply left done at code k regs empty {t} {after′} e f l h i T n =
       ap (λ x. reply-of b x after′) (e ∙ ap (λ (x : ℕ). stopping t x done at k empty) f) ∙ stop-is left done at k empty t regs after′ l (omega arith) i T n
 
-  pub next-reply : (left done at m code : ℕ) (kept regs : List Float) (empty : Kept) {t : Progress} (after′ : List Float) → 0 < left → at < code → code ≡ code-count b → kept-values empty ≡ []
-      → t ≡ P.Next m → Progressed b at (machine-effect inputs b at kept regs) t regs after′
-      → after (done + 1) (steps-at inputs b (left - 1) m (kept-values empty) after′) ≡ after done (steps-at inputs b left at kept regs)
-  next-reply left done at m code kept regs empty {t} after′ l h e i f T =
-      ap (λ x. after (done + 1) (steps-at inputs b (left - 1) m x after′)) i
-      ∙ sym (next-is left done at m kept regs after′ l (omega arith) (subst (λ x. Progressed b at (machine-effect inputs b at kept regs) x regs after′) f T))
+  -- ---- how far a call came
+
+  pub reaches-start : (budget at : ℕ) (kept regs : List Float) → Reaches inputs b budget at kept regs budget at kept regs
+  reaches-start budget at kept regs =
+      let e : budget - budget ≡ 0 = omega arith in
+      record { within = omega arith; rest = ap (λ (d : ℕ). after d (steps-at inputs b budget at kept regs)) e ∙ after-none _ }
+
+  module _ {budget position left at : ℕ} {kept regs kept′ regs′ : List Float} (R : Reaches inputs b budget position kept regs left at kept′ regs′) where
+    -- one instruction more
+    pub reaches-next : (code m : ℕ) {t : Progress} {after′ : List Float} → 0 < left → at < code → code ≡ code-count b → t ≡ P.Next m
+        → Progressed b at (machine-effect inputs b at kept′ regs′) t regs′ after′ → Reaches inputs b budget position kept regs (left - 1) m [] after′
+    reaches-next code m {t} {after′} l h e f T =
+        let w = R .within in
+        let z : budget - (left - 1) ≡ budget - left + 1 = omega arith in
+        record {
+          within = omega arith;
+          rest = ap (λ (d : ℕ). after d (steps-at inputs b (left - 1) m [] after′)) z
+              ∙ sym (next-is left (budget - left) at m kept′ regs′ after′ l (omega arith) (subst (λ x. Progressed b at (machine-effect inputs b at kept′ regs′) x regs′ after′) f T))
+              ∙ R .rest;
+        }
+
+    -- a common instruction more, or another, which changes nothing
+    pub reaches-common : (code m : ℕ) {after′ : List Float} → 0 < left → at < code → code ≡ code-count b → Went inputs b at regs′ m after′ → (m ≡ not-done → ⊥)
+        → Reaches inputs b budget position kept regs (left - 1) m [] after′
+    reaches-common code m l h e W n = reaches-next code m l h e refl (W .done n kept′)
+
+    pub reaches-other : (m : ℕ) {after′ : List Float} → Went inputs b at regs′ m after′ → m ≡ not-done → Reaches inputs b budget position kept regs left at kept′ after′
+    reaches-other m W e = subst (λ x. Reaches inputs b budget position kept regs left at kept′ x) (sym (W .undone e)) R
+
+    pub reaches-same : {left′ at′ : ℕ} {regs″ : List Float} → regs″ ≡ regs′ → left′ ≡ left → at′ ≡ at → Reaches inputs b budget position kept regs left′ at′ kept′ regs″
+    reaches-same e f g = rw (e, f, g) R
+
+    -- no budget is left
+    pub reaches-all : left ≤ 0 → after budget (steps-at inputs b left at kept′ regs′) ≡ steps-at inputs b budget position kept regs
+    reaches-all l = let e : budget ≡ budget - left = omega arith in ap (λ (d : ℕ). after d (steps-at inputs b left at kept′ regs′)) e ∙ R .rest
+
+    -- from there on
+    pub reaches-on : {left′ at′ : ℕ} {kept″ regs″ : List Float} → Reaches inputs b left at kept′ regs′ left′ at′ kept″ regs″ → Reaches inputs b budget position kept regs left′ at′ kept″ regs″
+    reaches-on {left′} {at′} {kept″} {regs″} S =
+        let w = R .within in
+        let v = S .within in
+        let z : budget - left′ ≡ budget - left + (left - left′) = omega arith in
+        record {
+          within = omega arith;
+          rest = ap (λ (d : ℕ). after d (steps-at inputs b left′ at′ kept″ regs″)) z
+              ∙ sym (after-after (budget - left) (left - left′) (steps-at inputs b left′ at′ kept″ regs″))
+              ∙ ap (after (budget - left)) (S .rest) ∙ R .rest;
+        }
+
+  -- where nothing is kept
+  pub reaches-bare : {budget position left at : ℕ} {regs regs′ : List Float} (k : Kept) → k .count ≡ 0 → Reaches inputs b budget position [] regs left at [] regs′
+      → Reaches inputs b budget position (kept-values k) regs left at (kept-values k) regs′
+  reaches-bare k e R = rw e R
 
   -- ---- the place of a Domain
 

@@ -4,7 +4,7 @@ use mathlib.Core.Bool.{Bool, true, false, not}
 use mathlib.Core.List.{List, [], _∷_, _++_}
 use mathlib.Core.Logic.{_⊎_}
 use mathlib.Core.Option.{Option, none, some}
-use Prim.Native.Nat.{ℕ, _<_, _≤_}
+use Prim.Native.Nat.{ℕ, _+_, _-_, _≤_, _<_}
 use lib.ListN.{getD, take}
 use lib.Ieee.{Float, binary64}
 use Rattle.arithmetic.specs.Value.{0f}
@@ -48,6 +48,15 @@ Long-enough C = (room : ℕ) → path-room ≤ room → C room
 
 unfoldable pub steps-at : List Float → List ℕ → ℕ → ℕ → List Float → List Float → Machine.Reply
 steps-at inputs b budget at kept regs = Machine.steps binary64 inputs (raw-program b) budget at kept regs
+
+-- a reply after d more instructions
+unfoldable pub after : ℕ → Machine.Reply → Machine.Reply
+after d r = record { answer = r .answer; count = d + r .count; state = r .state; registers = r .registers }
+
+-- a call came so far: what is left of its budget, from there on, is the rest of it
+pub record Reaches (inputs : List Float) (b : List ℕ) (budget position : ℕ) (kept regs : List Float) (left at : ℕ) (kept′ regs′ : List Float) : Type 0 where
+  pub within : left ≤ budget
+  pub rest : after (budget - left) (steps-at inputs b left at kept′ regs′) ≡ steps-at inputs b budget position kept regs
 
 unfoldable pub unfit-at : List Float → List ℕ → List Float → ℕ → Bool
 unfit-at inputs b regs budget = Machine.unfit binary64 inputs (raw-program b) regs budget

@@ -1,8 +1,9 @@
 // Run and resume of a program's bytes (reference `evaluate_into`).
 ghost use mathlib.Core.Path.{_≡_};
 ghost use mathlib.Core.Bool.{true, not, _||_};
+ghost use mathlib.Core.List.{[]};
 ghost use mathlib.Core.Option.{none};
-ghost use Prim.Native.Nat.{_≤_};
+ghost use Prim.Native.Nat.{_<_, _≤_};
 ghost use lib.ListN.{length};
 ghost use lib.Dec.{ltb};
 ghost use lib.Ieee.{binary64};
@@ -13,17 +14,20 @@ ghost use Rattle.meaning.specs.Work.{elementary, power, same-bits};
 ghost use Rattle.machine.specs.Program.{valid};
 ghost use Rattle.machine.specs.Machine.{fresh, number-of, place-of};
 ghost use Rattle.machine.specs.Progress.{Lawful};
-ghost use Rattle.layout.specs.Decode.{code-count, program-at};
+ghost use Rattle.layout.specs.Decode.{code-count, program-at, slot-at};
 ghost use Rattle.work.specs.View.{kept-values};
 ghost use Rattle.instruction.specs.declared.Effect.the-variants.{Work};
 ghost use Rattle.run.specs.Views.{Hands-back, Writable, answer-of, pending-of, refusal-number, reply-of, state-of, supplied-of};
-ghost use Rattle.run.specs.Calls.{Finished, Known-place, putting, refusing, replying, resume-at, run-at, Long-enough, Settled, stale-at, steps-at, stopping, supplying, unasked, unfit-at};
+ghost use Rattle.run.specs.Calls.{Finished, Known-place, Reaches, putting, refusing, replying, resume-at, run-at, Long-enough, Settled, stale-at, steps-at, stopping, supplying, unasked, unfit-at};
 use instruction::Effect;
 use instruction::Progress;
+use instruction::common::NOT_DONE;
 use layout::CODE_AT;
+use layout::HEADER_SIZE;
 use layout::INPUTS_AT;
 use layout::REGISTERS_AT;
 use layout::RESULT_AT;
+use layout::SLOT_SIZE;
 use program::word;
 use refusals::INVALID_INPUT;
 use refusals::NO_PROGRAM;
@@ -115,6 +119,77 @@ fn stopped(t: Progress, code: usize, done: usize, at: usize, kept: Kept, none: K
     }
 }
 
+// Where a run stands, and what is left of its budget.
+struct Place {
+    at: usize,
+    left: usize,
+}
+
+// Common instructions from a position on, nothing kept: to the code's end, the budget's, or the first that is another.
+fn straight(
+    p: &[u8],
+    inputs: &[f64],
+    regs: &mut [f64],
+    code: usize,
+    budget: usize,
+    position: usize,
+) -> Place
+    requires { ⌜ (code ≡ code-count (now p)) × (code < 4294967296) × (slot-at code ≤ length (now p)) ⌝ }
+    ensures { λ r. ⌜ Reaches (now (inputs .entry)) (now (p .entry)) budget position [] (now (regs .entry)) (r .left) (r .at) [] (now (regs .exit)) ⌝ }
+{
+    let mut at = position;
+    let mut left = budget;
+    while 0 < left {
+        if code <= at {
+            return Place { at: at, left: left };
+        }
+        let to = instruction::common::step(p, at, inputs, regs);
+        if to == NOT_DONE {
+            return Place { at: at, left: left };
+        }
+        at = to;
+        left -= 1;
+    }
+    Place { at: at, left: left }
+}
+
+// The same to a question, a Domain, Hill or the density. Where slots are missing, nothing is done.
+fn along(
+    p: &[u8],
+    inputs: &[f64],
+    regs: &mut [f64],
+    code: usize,
+    budget: usize,
+    position: usize,
+) -> Place
+    requires { ⌜ (code ≡ code-count (now p)) × (code < 4294967296) ⌝ }
+    ensures { λ r. ⌜ Reaches (now (inputs .entry)) (now (p .entry)) budget position [] (now (regs .entry)) (r .left) (r .at) [] (now (regs .exit)) ⌝ }
+{
+    let mut at = position;
+    let mut left = budget;
+    if p.len() < HEADER_SIZE + SLOT_SIZE * code {
+        return Place { at: at, left: left };
+    }
+    while 0 < left {
+        let s = straight(p, inputs, regs, code, left, at);
+        at = s.at;
+        left = s.left;
+        if code <= at {
+            return s;
+        }
+        if left == 0 {
+            return s;
+        }
+        let to = instruction::longer::step(p, at, regs);
+        if to == NOT_DONE {
+            return s;
+        }
+        at = to;
+        left -= 1;
+    }
+    Place { at: at, left: left }
+}
+
 // "Spent means that the whole budget was completed and code remains": the code's end is looked at first, then the budget,
 // then the instruction.
 pub fn steps(
@@ -131,26 +206,30 @@ pub fn steps(
     let code = word(p, CODE_AT);
     let none = work::fresh();
     let mut left = budget;
-    let mut done = 0;
     let mut at = position;
     let mut k = kept;
+    if k.count == 0 {
+        let s = along(p, inputs, regs, code, budget, position);
+        at = s.at;
+        left = s.left;
+    }
     while 0 < left {
         if code <= at {
-            return finished(p, regs, code, done);
+            return finished(p, regs, code, budget - left);
         }
         let t = instruction::step(p, at, inputs, regs, k);
         let Progress::Next(to) = t else {
-            return stopped(t, code, done, at, k, none);
+            return stopped(t, code, budget - left, at, k, none);
         };
-        at = to;
-        k = none;
-        left -= 1;
-        done += 1;
+        k.count = 0;
+        let s = along(p, inputs, regs, code, left - 1, to);
+        at = s.at;
+        left = s.left;
     }
     if code <= at {
-        return finished(p, regs, code, done);
+        return finished(p, regs, code, budget);
     }
-    replied(Answer::Spent, done, at, k, Pending::Nothing)
+    replied(Answer::Spent, budget, at, k, Pending::Nothing)
 }
 
 // ---- refusals

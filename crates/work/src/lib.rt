@@ -7,6 +7,7 @@ mod operator;
 ghost use mathlib.Core.Path.{_≡_};
 ghost use mathlib.Core.List.{[], _∷_, _++_};
 ghost use lib.ListN.{take};
+ghost use Rattle.arithmetic.specs.Value.{truth-value};
 ghost use Rattle.meaning.specs.Work.{advance};
 ghost use Rattle.work.specs.View.{shown, kept-values};
 ghost use Rattle.work.specs.Opcode.{work-of};
@@ -73,6 +74,13 @@ pub fn keep(kept: Kept, value: f64) -> Kept
     }
     k.count = n + 1;
     k
+}
+
+// "truth values and comparisons 1.0 or 0.0"
+pub fn truth_value(b: bool) -> f64
+    ensures { λ r. ⌜ r ≡ truth-value b ⌝ }
+{
+    if b { 1.0 } else { 0.0 }
 }
 
 // The work of an opcode on its first three arguments; the run itself holds the values of a longer Min or Max.

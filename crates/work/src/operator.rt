@@ -2,19 +2,12 @@
 ghost use mathlib.Core.Path.{_≡_};
 ghost use Prim.Native.Nat.{_≤_, _<_};
 ghost use lib.Ieee.{binary64};
-ghost use Rattle.arithmetic.specs.Value.{truth-value};
 ghost use Rattle.meaning.specs.Work.{advance, power-defined};
 ghost use Rattle.work.specs.View.{shown, kept-values};
 ghost use Rattle.work.specs.Opcode.{work-of};
 use crate::Kept;
 use crate::Outcome;
-
-// "truth values and comparisons 1.0 or 0.0"
-fn truth_value(b: bool) -> f64
-    ensures { λ r. ⌜ r ≡ truth-value b ⌝ }
-{
-    if b { 1.0 } else { 0.0 }
-}
+use crate::truth_value;
 
 pub fn unary(opcode: usize, x: f64, y: f64, z: f64, kept: Kept) -> Outcome
     requires { ⌜ opcode < 8 ⌝ }

@@ -1,7 +1,9 @@
 use mathlib.Core.Path.{_≡_, sym, ap, _∙_}
-use Prim.Native.Nat.{_+_, _-_, _≤_}
+use Prim.Native.Nat.{_+_, _*_, _-_, _≤_}
 use native.Mathlib.Omega.{arith}
 use borrow.Author.Needs.{needs}
+use borrow.Author.Tests.{leb-true}
+use lib.ListN.{length}
 use lib.Ieee.{div, ofBits}
 use Rattle.formula.specs.Text.{word-at}
 use Rattle.instruction.specs.Effects.{extremum-at}
@@ -10,14 +12,16 @@ use Rattle.instruction.proofs.extremum.Statement.{statement}
 use Rattle.instruction.proofs.extremum.Tie as tie
 
 abbrev Inv-loop : tie.InvT-loop
-Inv-loop most p count a regs first extreme₀ i₀ extreme i = (i ≤ count) × (extremum-at most p count a regs ≡ extreme-left most p count a regs extreme i)
+Inv-loop most p count a regs first there extreme₀ i₀ extreme i = (i ≤ count) × (extremum-at most p count a regs ≡ extreme-left most p count a regs extreme i)
 
 abbrev μ-loop : tie.MeasureT-loop
-μ-loop most p count a regs first extreme₀ i₀ extreme i = count - i
+μ-loop most p count a regs first there extreme₀ i₀ extreme i = count - i
 
 returns : tie.Need-returns Inv-loop μ-loop
 unfolding div ofBits
-returns c = extreme-none (c .before .before .before .args .most) (c .before .before .before .args .p .now) (c .before .before .before .args .count) (c .before .before .before .args .a) (c .before .before .before .args .regs .now) (c .if1 .taken)
+returns c =
+    let args = c .before .before .before .args in
+    extreme-none (args .most) (args .p .now) (args .count) (args .a) (args .regs .now) (c .if1 .taken)
 
 word-requires : tie.Need-word-requires Inv-loop μ-loop
 word-requires c κs = search needs
@@ -37,14 +41,28 @@ mul-first-2 c = omega arith
 add-first-2 : tie.Need-add-first-2 Inv-loop μ-loop
 add-first-2 c = omega arith
 
-mul-word : tie.Need-mul-word Inv-loop μ-loop
-mul-word c = omega arith
+add-there : tie.Need-add-there Inv-loop μ-loop
+add-there c = omega arith
 
-add-word : tie.Need-add-word Inv-loop μ-loop
-add-word c = omega arith
+mul-there : tie.Need-mul-there Inv-loop μ-loop
+mul-there c = omega arith
 
-word-requires-3 : tie.Need-word-requires-3 Inv-loop μ-loop
-word-requires-3 c κs = search needs
+add-there-2 : tie.Need-add-there-2 Inv-loop μ-loop
+add-there-2 c = omega arith
+
+mul-entry : tie.Need-mul-entry Inv-loop μ-loop
+mul-entry c = omega arith
+
+add-entry : tie.Need-add-entry Inv-loop μ-loop
+add-entry c = omega arith
+
+entry-requires : tie.Need-entry-requires Inv-loop μ-loop
+entry-requires c κs =
+    let args = c .before .before .before .before .before .args in
+    let if1 = c .before .before .if1 in
+    λ t.
+    let h = leb-true (32 + 24 * c .before .word .result + 12 * c .word2 .result + 4 * (args .a + args .count)) (length (args .p .now)) t in
+    let z = if1 .left in omega arith
 
 value-at-requires : tie.Need-value-at-requires Inv-loop μ-loop
 value-at-requires c κs = search needs
@@ -55,25 +73,31 @@ loop-holds c =
     let if1 = c .before .before .before .before .if1 in
     let word = c .before .before .before .word in
     let word2 = c .before .before .word2 in
-    let word3 = c .before .word3 in (
+    let entry = c .before .entry in (
       omega arith,
-      extreme-start (args .most) (args .p .now) (args .count) (args .a) (args .regs .now) (c .value-at .result) (word3 .result) (if1 .left)
+      extreme-start (args .most) (args .p .now) (args .count) (args .a) (args .regs .now) (c .value-at .result) (entry .result) (if1 .left)
           (c .value-at .ensures)
-          (word3 .ensures .0
+          (entry .ensures
           ∙ ap (word-at (args .p .now)) (list-place (args .p .now) (word .result) (word2 .result) (args .a) (word .ensures .0) (word2 .ensures .0))),
     )
 
-add-word-2 : tie.Need-add-word-2 Inv-loop μ-loop
-add-word-2 c = omega arith
+add-entry-2 : tie.Need-add-entry-2 Inv-loop μ-loop
+add-entry-2 c = omega arith
 
-mul-word-2 : tie.Need-mul-word-2 Inv-loop μ-loop
-mul-word-2 c = omega arith
+mul-entry-2 : tie.Need-mul-entry-2 Inv-loop μ-loop
+mul-entry-2 c = omega arith
 
-add-word-3 : tie.Need-add-word-3 Inv-loop μ-loop
-add-word-3 c = omega arith
+add-entry-3 : tie.Need-add-entry-3 Inv-loop μ-loop
+add-entry-3 c = omega arith
 
-word-requires-4 : tie.Need-word-requires-4 Inv-loop μ-loop
-word-requires-4 c κs = search needs
+entry-requires-2 : tie.Need-entry-requires-2 Inv-loop μ-loop
+entry-requires-2 c κs =
+    let args = c .before .before .before .before .before .before .before .before .before .args in
+    let word = c .before .before .before .before .before .word in
+    let word2 = c .before .before .before .before .word2 in
+    λ t.
+    let h = leb-true (32 + 24 * word .result + 12 * word2 .result + 4 * (args .a + args .count)) (length (args .p .now)) t in
+    let z = c .loop-test .taken in omega arith
 
 value-at-requires-2 : tie.Need-value-at-requires-2 Inv-loop μ-loop
 value-at-requires-2 c κs = search needs
@@ -94,13 +118,13 @@ loop-again c =
     let word2 = c .before .before .before .before .before .before .before .word2 in
     let loop = c .before .before .before .before .loop in
     let loop-test = c .before .before .before .loop-test in
-    let word4 = c .before .before .word4 in
+    let entry2 = c .before .before .entry2 in
     let value-at2 = c .before .value-at2 in (
       omega arith,
       loop .inv .1
-          ∙ extreme-step (args .most) (args .p .now) (args .count) (args .a) (args .regs .now) (loop .extreme) (value-at2 .result) (loop .i) (word4 .result)
+          ∙ extreme-step (args .most) (args .p .now) (args .count) (args .a) (args .regs .now) (loop .extreme) (value-at2 .result) (loop .i) (entry2 .result)
           (loop-test .taken) (value-at2 .ensures)
-          (word4 .ensures .0
+          (entry2 .ensures
           ∙ ap (word-at (args .p .now)) (list-place (args .p .now) (word .result) (word2 .result) (args .a + loop .i) (word .ensures .0) (word2 .ensures .0)))
           ∙ ap (λ x. extreme-left (args .most) (args .p .now) (args .count) (args .a) (args .regs .now) x (loop .i + 1)) (sym (c .hold .ensures)),
     )
@@ -124,15 +148,18 @@ extremum-spec =
     word-requires-2
     mul-first-2
     add-first-2
-    mul-word
-    add-word
-    word-requires-3
+    add-there
+    mul-there
+    add-there-2
+    mul-entry
+    add-entry
+    entry-requires
     value-at-requires
     loop-holds
-    add-word-2
-    mul-word-2
-    add-word-3
-    word-requires-4
+    add-entry-2
+    mul-entry-2
+    add-entry-3
+    entry-requires-2
     value-at-requires-2
     hold-requires
     add-i

@@ -1,6 +1,6 @@
 use lib.Ieee.{ofBits}
-use Rattle.work.proofs.operator.truth_value.Statement.{statement}
-use Rattle.work.proofs.operator.truth_value.Tie as tie
+use Rattle.work.proofs.truth_value.Statement.{statement}
+use Rattle.work.proofs.truth_value.Tie as tie
 
 returns : tie.Need-returns
 unfolding ofBits
