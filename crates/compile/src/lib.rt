@@ -26,7 +26,7 @@ use refusals::EXPRESSION_LIMIT;
 use refusals::MALFORMED_LINE;
 use refusals::NO_FORMULA;
 use refusals::SLICE_TOO_SHORT;
-use tally::tally;
+use tally::count;
 use writer::put_word;
 use writer::zero_from;
 ghost use mathlib.Core.Path.{_≡_};
@@ -158,7 +158,7 @@ pub fn write(
     requires { ⌜ Fits (now b) d (length (now p)) (length (now path)) ⌝ }
     ensures { λ r. ⌜ (r ≡ answer-to (fault (context-of (now (kinds .entry)) generated) (term (tree-in d (now (b .entry)) 0)) root)) × (now (p .exit) ≡ slice-after (context-of (now (kinds .entry)) generated) (tree-in d (now (b .entry)) 0) (fault (context-of (now (kinds .entry)) generated) (term (tree-in d (now (b .entry)) 0)) root) (now (p .entry))) × (now (path .exit) ≡ placed (fault-place (fault (context-of (now (kinds .entry)) generated) (term (tree-in d (now (b .entry)) 0)) root)) (now (path .entry))) ⌝ }
 {
-    let t = tally(b, d, 1, 0);
+    let t = count(b, d);
     write_counted(b, p, path, kinds, generated, d, t.code, t.paths, t.entries)
 }
 

@@ -25,7 +25,7 @@ use Rattle.tally.specs.Weight.{more, one, weight}
 
 -- ---- where nodes end
 
-kids-end : (b : List ℕ) (d : ℕ) → ((at : ℕ) → well-formed (tree-in d b at) ≡ true → at + node-size * size (tree-in d b at) ≤ length b)
+pub kids-end : (b : List ℕ) (d : ℕ) → ((at : ℕ) → well-formed (tree-in d b at) ≡ true → at + node-size * size (tree-in d b at) ≤ length b)
     → (left at : ℕ) → at ≤ length b → all-well-formed (kids b d left at) ≡ true → past b d left at ≤ length b
 kids-end b d tree zero at h w = omega (arith, past-none b d 0 at refl)
 kids-end b d tree (suc k) at h w =
@@ -221,7 +221,7 @@ none-counts b d left at e =
     let k : last ≡ kids b d left at = sym (kids-none b d at left e) in
     λ j. record { node = x j; code = instruction-counts (terms (k j)); paths = path-counts (terms (k j)); entries = entry-counts (terms (k j)) }
 
-abbrev Small : Counts → Type 0
+abbrev pub Small : Counts → Type 0
 Small t = (t .code < 2 ^ 63) × (t .paths < 2 ^ 63) × (t .entries < 2 ^ 63)
 
 -- counts of nodes that stand in a slice are no overflow

@@ -1,5 +1,5 @@
 -- A node's counts, by its fields and the counts of its children.
-use mathlib.Core.Bool.{cond}
+use mathlib.Core.Bool.{Bool, cond, false, not}
 use Prim.Native.Nat.{ℕ, _+_, _-_, _*_}
 use lib.Dec.{eqb, ltb}
 use Rattle.reader.specs.declared.Fields.{Fields}
@@ -23,3 +23,7 @@ weight f t =
     (cond (eqb (f .kind) 6) (cond (ltb n 2) (one t) (more t (5 * (n - 1)) (2 * (n - 1)) 0))
     (cond (chooses-at (f .kind) (f .operator)) (cond (eqb n 3) (more t 4 1 0) (one t))
     (cond (listing-at (f .kind) (f .operator)) (more t 1 1 n) (more t 1 1 0))))
+
+-- And, Or and Ifelse with a wrong count drop their children
+unfoldable pub drops-at : Fields → Bool
+drops-at f = cond (eqb (f .kind) 6) (ltb (f .children) 2) (cond (chooses-at (f .kind) (f .operator)) (not (eqb (f .children) 3)) false)

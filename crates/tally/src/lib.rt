@@ -1,13 +1,14 @@
-// What the program of a formula's nodes needs, counted in one pass: instructions, path records, list entries.
+// What the program of a formula's nodes needs: instructions, path records, list entries.
 ghost use mathlib.Core.Path.{_≡_};
 ghost use mathlib.Core.Bool.{true};
 ghost use Prim.Native.Nat.{_^_, _<_};
-ghost use Rattle.formula.specs.Formula.{all-well-formed};
+ghost use Rattle.formula.specs.Node.{tree-in};
+ghost use Rattle.formula.specs.Formula.{all-well-formed, well-formed};
 ghost use Rattle.formula.specs.Term.{terms};
 ghost use Rattle.machine.specs.Lower.{instruction-counts};
 ghost use Rattle.layout.specs.Image.{path-counts, entry-counts};
 ghost use Rattle.lower.specs.Piece.{kids, past};
-ghost use Rattle.tally.specs.Weight.{more, weight};
+ghost use Rattle.tally.specs.Weight.{drops-at, more, weight};
 
 // The byte after some nodes, and what they need.
 pub struct Counts {
@@ -82,4 +83,56 @@ pub fn tally(b: &[u8], d: usize, left: usize, at: usize) -> Counts
     let first = weigh(f, inner);
     let rest = tally(b, d, left - 1, first.node);
     grown(rest, first.code, first.paths, first.entries)
+}
+
+// Whether a node's children are dropped.
+fn drops(f: reader::Fields) -> bool
+    ensures { λ r. ⌜ r ≡ drops-at f ⌝ }
+{
+    if f.kind == 6 {
+        return f.children < 2;
+    }
+    if lower::chooses(f) {
+        return f.children != 3;
+    }
+    false
+}
+
+// The whole formula's tree, in one pass over its nodes as long as none drops its children: what each needs by itself.
+pub fn count(b: &[u8], d: usize) -> Counts
+    requires { ⌜ well-formed (tree-in d (now b) 0) ≡ true ⌝ }
+    ensures { λ r. ⌜ (r .code ≡ instruction-counts (terms (kids (now (b .entry)) d 1 0))) × (r .paths ≡ path-counts (terms (kids (now (b .entry)) d 1 0))) × (r .entries ≡ entry-counts (terms (kids (now (b .entry)) d 1 0))) ⌝ }
+{
+    let mut at = 0;
+    let mut owed = 1;
+    let mut code = 0;
+    let mut paths = 0;
+    let mut entries = 0;
+    while owed > 0 {
+        let f = reader::node(b, at);
+        let lost = drops(f);
+        if lost {
+            return tally(b, d, 1, 0);
+        }
+        let own = weigh(
+            f,
+            Counts {
+                node: 0,
+                code: 0,
+                paths: 0,
+                entries: 0,
+            },
+        );
+        code += own.code;
+        paths += own.paths;
+        entries += own.entries;
+        owed = owed - 1 + f.children;
+        at += reader::NODE_SIZE;
+    }
+    Counts {
+        node: at,
+        code: code,
+        paths: paths,
+        entries: entries,
+    }
 }
