@@ -17,7 +17,7 @@ use Rattle.machine.specs.Compile.{accepted, compile, own-context}
 use Rattle.derivative.specs.Derive.{derive, derived, generated-context}
 use Rattle.layout.specs.Decode.{program-at}
 use Rattle.claim.specs.Claim.{Fulfils, History, after, ready, refusal, start}
-use Rattle.play.specs.Listed.{call-at, calls-from, first-call}
+use Rattle.demand.specs.Listed.{call-at, calls-from, first-call}
 
 -- "Take a formula that compiles, or its derivative by a named symbol where one is given": its context and its term
 pub data Source : Context → Term → Type 0 where

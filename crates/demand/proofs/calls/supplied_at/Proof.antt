@@ -1,7 +1,7 @@
-use Rattle.play.proofs.Loops.{no-value, one-value}
+use Rattle.demand.proofs.Loops.{no-value, one-value}
 use borrow.Author.Needs.{needs}
-use Rattle.play.proofs.supplied_at.Statement.{statement}
-use Rattle.play.proofs.supplied_at.Tie as tie
+use Rattle.demand.proofs.calls.supplied_at.Statement.{statement}
+use Rattle.demand.proofs.calls.supplied_at.Tie as tie
 
 byte-requires : tie.Need-byte-requires
 byte-requires c κs = search needs

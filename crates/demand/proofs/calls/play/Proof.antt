@@ -5,11 +5,11 @@ use borrow.Author.Needs.{needs}
 use lib.ListN.{length}
 use lib.Seq.{length-take-le}
 use Rattle.run.specs.Views.{supplied-of}
-use Rattle.play.specs.Listed.{Played}
-use Rattle.play.proofs.Loops.{again-long, left-at, left-end, left-start, left-step, seen}
-use Rattle.play.proofs.Lasts.{demand}
-use Rattle.play.proofs.play.Statement.{statement}
-use Rattle.play.proofs.play.Tie as tie
+use Rattle.demand.specs.Listed.{Played}
+use Rattle.demand.proofs.Loops.{again-long, left-at, left-end, left-start, left-step, seen}
+use Rattle.demand.proofs.Lasts.{demand}
+use Rattle.demand.proofs.calls.play.Statement.{statement}
+use Rattle.demand.proofs.calls.play.Tie as tie
 
 abbrev Inv-loop : tie.InvT-loop
 Inv-loop p inputs regs₀ path₀ rooms budgets flags values n first r₀ i₀ regs path r i = (length regs ≡ length regs₀) × (length path ≡ n) × (left-at inputs p n rooms budgets flags values (seen p r regs path) i ≡ left-at inputs p n rooms budgets flags values (seen p r₀ regs₀ path₀) 1)

@@ -17,7 +17,7 @@ use Rattle.layout.specs.Decode.{program-at}
 use Rattle.run.specs.Views.{answer-of, reply-of, state-of}
 use Rattle.run.specs.Calls.{resume-at, run-at}
 use Rattle.run.specs.declared.Reply.{Reply}
-use Rattle.play.specs.Listed.{Played, calls-from, noted, play-at, playing, room-at, value-at}
+use Rattle.demand.specs.Listed.{Played, calls-from, noted, play-at, playing, room-at, value-at}
 
 pub no-value : (flags : List ℕ) (values : List Float) (i f : ℕ) → f ≡ getD flags i 0 → f ≡ 0 → none ≡ value-at flags values i
 no-value flags values i f e z = rw (eq-eqb (getD flags i 0) 0 (sym e ∙ z))

@@ -1,8 +1,8 @@
 use mathlib.Core.Path.{sym}
 use Rattle.instruction.proofs.Leaves.{getD-past}
 use borrow.Author.Needs.{needs}
-use Rattle.play.proofs.budget_at.Statement.{statement}
-use Rattle.play.proofs.budget_at.Tie as tie
+use Rattle.demand.proofs.calls.budget_at.Statement.{statement}
+use Rattle.demand.proofs.calls.budget_at.Tie as tie
 
 mul-result : tie.Need-mul-result
 mul-result c = search needs

@@ -3,8 +3,8 @@ ghost use mathlib.Core.Path.{_≡_};
 ghost use Prim.Native.Nat.{_≤_};
 ghost use lib.ListN.{getD, length};
 ghost use Rattle.run.specs.Views.{reply-of, supplied-of};
-ghost use Rattle.play.specs.Listed.{play-at, room-at, value-at};
-ghost use Rattle.play.specs.Owed.{Demand};
+ghost use Rattle.demand.specs.Listed.{play-at, room-at, value-at};
+ghost use Rattle.demand.specs.Last.{Demand};
 use run::Reply;
 use run::Supplied;
 

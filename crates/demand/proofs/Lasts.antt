@@ -12,9 +12,9 @@ use Rattle.machine.specs.Lower.{program}
 use Rattle.machine.specs.Machine.{Answer, Call, Reply, asks, gives, outside, refused, resume, run, spent}
 use Rattle.claim.specs.Claim.{Calls, Fulfils, History, Lists, Resumes, after, noted, refusal, start}
 use Rattle.claim.proofs.Demand.{derivative-demand, formula-demand}
-use Rattle.play.specs.Listed.{Played, call-at, calls-from, first-call, play-at, playing, room-at}
-use Rattle.play.specs.Listed as Listed
-use Rattle.play.specs.Owed.{Demand, Last, Source, begun, compiled, differentiated, resumed}
+use Rattle.demand.specs.Listed.{Played, call-at, calls-from, first-call, play-at, playing, room-at}
+use Rattle.demand.specs.Listed as Listed
+use Rattle.demand.specs.Last.{Demand, Last, Source, begun, compiled, differentiated, resumed}
 
 sourced : (C : Context) (t : Term) → Source C t → Lists binary64 C t
 sourced _ _ (compiled formula names p q f symbols e) = formula-demand formula names p q f symbols e

@@ -1,8 +1,8 @@
 use native.Mathlib.Omega.{arith}
-use Rattle.play.proofs.Loops.{no-room}
+use Rattle.demand.proofs.Loops.{no-room}
 use borrow.Author.Needs.{needs}
-use Rattle.play.proofs.room_at.Statement.{statement}
-use Rattle.play.proofs.room_at.Tie as tie
+use Rattle.demand.proofs.calls.room_at.Statement.{statement}
+use Rattle.demand.proofs.calls.room_at.Tie as tie
 
 mul-if2 : tie.Need-mul-if2
 mul-if2 c = search needs
