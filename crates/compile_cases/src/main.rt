@@ -5,43 +5,13 @@
 // and program slice; the answer, 0 for a program, else the refusal; the path text's length and the byte after the text; the
 // program's length and the byte after the program. Then come the formula, the name line, the text and the program. Numbers
 // have 4 bytes, the least first.
+use cases::Tally;
+use cases::cut;
+use cases::fill;
+use cases::holds;
+use cases::plus;
+use cases::say;
 use compile::Answer;
-use std::num;
-
-// The slices are filled with it before each call.
-const FILL: u8 = 170;
-
-fn plus(a: usize, b: usize) -> usize {
-    num::wrapping_add_usize(a, b)
-}
-
-fn fill(slice: &mut [u8]) {
-    let mut i = 0;
-    while i < slice.len() {
-        slice[i] = FILL;
-        i += 1;
-    }
-}
-
-// Byte i of a slice that begins with the `length` bytes recorded at a place and is `rest` after them.
-fn expected(b: &[u8], at: usize, length: usize, rest: u8, i: usize) -> u8 {
-    if i < length {
-        return reader::byte(b, plus(at, i));
-    }
-    rest
-}
-
-fn same_bytes(b: &[u8], at: usize, length: usize, rest: u8, slice: &[u8]) -> bool {
-    let mut i = 0;
-    while i < slice.len() {
-        if reader::byte(slice, i) == expected(b, at, length, rest, i) {
-            i += 1;
-        } else {
-            return false;
-        }
-    }
-    length <= slice.len()
-}
 
 fn number(a: Answer) -> usize {
     match a {
@@ -57,8 +27,8 @@ fn same_case(b: &[u8], at: usize, from: usize, a: Answer, path: &[u8], program: 
     let length = reader::word(b, plus(at, 28));
     let after = reader::byte(b, plus(at, 32));
     number(a) == reader::word(b, plus(at, 16))
-        && (same_bytes(b, from, text, after_text, path)
-            && same_bytes(b, plus(from, text), length, after, program))
+        && (holds(path, b, from, text, after_text)
+            && holds(program, b, plus(from, text), length, after))
 }
 
 // Compiles the formula at `from`, with the name line after it up to `end`.
@@ -80,16 +50,12 @@ fn case_from(b: &[u8], at: usize, from: usize, path: &mut [u8], program: &mut [u
     same_case(b, at, end, a, path, program)
 }
 
-fn case_at(b: &[u8], at: usize, path: &mut [u8], program: &mut [u8]) -> bool {
-    let n = reader::word(b, plus(at, 8));
-    let m = reader::word(b, plus(at, 12));
-    if path.len() < n {
-        return false;
-    }
-    if program.len() < m {
-        return false;
-    }
-    case_from(b, at, plus(at, 36), &mut path[..n], &mut program[..m])
+fn case_at(b: &[u8], at: usize) -> bool {
+    let mut path = [0u8; 8200];
+    let mut program = [0u8; 65536];
+    let n = cut(reader::word(b, plus(at, 8)), 8200);
+    let m = cut(reader::word(b, plus(at, 12)), 65536);
+    case_from(b, at, plus(at, 36), &mut path[0..n], &mut program[0..m])
 }
 
 // Where the next case begins.
@@ -100,39 +66,22 @@ fn next(b: &[u8], at: usize) -> usize {
     plus(program, reader::word(b, plus(at, 28)))
 }
 
-// Says which case differs.
-fn say(i: usize) {
-    io::write_all(1, b"differs: case ");
-    io::print_decimal(1, i as u64);
-    io::write_all(1, b"\n");
-}
-
-// Runs so many cases and says how many differ.
-fn all_cases(b: &[u8], cases: usize, path: &mut [u8], program: &mut [u8]) -> u64 {
+fn all_cases(b: &[u8], count: usize) -> Tally {
+    let mut t = cases::begin();
     let mut at = 4;
-    let mut differ: u64 = 0;
     let mut i = 0;
-    while i < cases {
-        let same = case_at(b, at, path, program);
-        if !same {
-            say(i);
-            differ = num::wrapping_add_u64(differ, 1);
-        }
+    while i < count {
+        t = cases::counted(t, case_at(b, at), 0);
         at = next(b, at);
         i += 1;
     }
-    differ
+    t
 }
 
 fn main() {
     let mut b = [0u8; 327680];
-    let mut path = [0u8; 8200];
-    let mut program = [0u8; 65536];
     io::read_full(0, &mut b);
-    let cases = reader::word(&b, 0);
-    let differ = all_cases(&b, cases, &mut path, &mut program);
-    io::print_decimal(1, cases as u64);
-    io::write_all(1, b" cases, ");
-    io::print_decimal(1, differ);
-    io::write_all(1, b" differ\n");
+    let t = all_cases(&b, reader::word(&b, 0));
+    say(t.cases, b" cases, ");
+    say(t.wrong, b" differ\n");
 }

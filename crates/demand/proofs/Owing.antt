@@ -24,8 +24,8 @@ use Rattle.derive.specs.declared.Answer as Deriving
 use Rattle.derive.specs.declared.Answer.the-variants as Derives
 use Rattle.run.specs.Views.{reply-of}
 use Rattle.run.specs.declared.Reply as Declared
-use Rattle.play.specs.Listed.{play-at}
-use Rattle.play.specs.Owed.{Demand}
+use Rattle.demand.specs.Listed.{play-at}
+use Rattle.demand.specs.Last.{Demand}
 use Rattle.demand.specs.Made.{Made, answer-of, made, make, of-compiled, of-derived, place-of, program-left, refused, tree-left}
 use Rattle.demand.specs.Owed.{Owes}
 use Rattle.demand.specs.declared.Making.{Making}

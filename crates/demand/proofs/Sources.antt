@@ -25,7 +25,7 @@ use Rattle.derivative.specs.Derive as Derive
 use Rattle.derivative.proofs.Derived.{derived-compiles, derived-formula}
 use Rattle.compile.proofs.Back.{formula-back, formula-writable, known, written-literals}
 use Rattle.derive.proofs.Writable.{derivative-writable}
-use Rattle.play.specs.Owed.{Source, compiled, differentiated}
+use Rattle.demand.specs.Last.{Source, compiled, differentiated}
 use Rattle.demand.specs.Made.{made, make, of-compiled, of-derived, program-left, refused}
 use Rattle.demand.specs.declared.Wanted.{Wanted}
 use Rattle.demand.specs.declared.Wanted.the-variants as Wanted

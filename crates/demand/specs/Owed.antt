@@ -12,8 +12,8 @@ use Rattle.formula.specs.Term.{term}
 use Rattle.machine.specs.Lower.{register-count}
 use Rattle.run.specs.Views.{reply-of}
 use Rattle.run.specs.declared.Reply as Declared
-use Rattle.play.specs.Listed.{play-at}
-use Rattle.play.specs.Owed.{Last, Within}
+use Rattle.demand.specs.Listed.{play-at}
+use Rattle.demand.specs.Last.{Last, Within}
 use Rattle.demand.specs.Made.{Made, made, refused}
 use Rattle.demand.specs.declared.Played.{Played}
 use Rattle.demand.specs.declared.Played.the-variants.{Refused, Replied}

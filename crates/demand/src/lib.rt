@@ -1,12 +1,14 @@
 // Demand 3 as the contract of a function over lent slices: compile or derive, and a list of calls on the program that it wrote.
+pub mod calls;
+
 ghost use mathlib.Core.Path.{_≡_};
 ghost use lib.ListN.{length};
 ghost use Rattle.formula.specs.Path.{placed};
 ghost use Rattle.demand.specs.Made.{answer-of, make, place-of, program-left, tree-left};
 ghost use Rattle.demand.specs.Owed.{Owes};
+use calls::play;
 use compile::compile;
 use derive::derive;
-use play::play;
 use run::Reply;
 
 // "a formula that compiles, or its derivative by a named symbol where one is given"

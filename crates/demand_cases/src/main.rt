@@ -6,26 +6,25 @@
 // inputs. For its calls come each one's path room, each one's budget, a byte each for whether a value is supplied, and the values; then
 // for each call 18 numbers, its answer, the cells after it and the length of the path's text, then that text and the registers after it.
 // A refusal of compile or derive stands there as the answer of one call.
-ghost use Prim.Native.Nat.{_≤_};
-ghost use lib.ListN.{length};
+use cases::FILL;
+use cases::Tally;
+use cases::all;
+use cases::cell;
+use cases::cut;
+use cases::fill;
+use cases::holds;
+use cases::is_left;
+use cases::read_values;
+use cases::same_cells;
+use cases::same_values;
+use cases::say;
+use cases::size;
+use cases::take;
 use demand::Played;
 use floats::value::bits_of;
 use floats::value::of_bits;
 use run::Answer;
 use run::Reply;
-
-// A slice that was not written holds what it was filled with.
-const FILL: u8 = 170;
-
-// ---- bytes and numbers
-
-fn fill(b: &mut [u8]) {
-    let mut i = 0;
-    while i < b.len() {
-        b[i] = FILL;
-        i += 1;
-    }
-}
 
 fn fill_values(xs: &mut [f64], x: f64) {
     let mut i = 0;
@@ -35,90 +34,12 @@ fn fill_values(xs: &mut [f64], x: f64) {
     }
 }
 
-// Whether the bytes from one place to another, or to the end, are this one.
-fn all_between(b: &[u8], from: usize, to: usize, byte: u8) -> bool {
-    let mut i = from;
-    while i < to {
-        if i >= b.len() {
-            return true;
-        }
-        if b[i] != byte {
-            return false;
-        }
-        i += 1;
-    }
-    true
-}
-
-fn begins(b: &[u8], text: &[u8], n: usize) -> bool {
-    let mut i = 0;
-    while i < n {
-        if reader::byte(b, i) != reader::byte(text, i) {
-            return false;
-        }
-        i += 1;
-    }
-    true
-}
-
-fn number(b: &[u8], i: usize) -> u64 {
-    if i < 4096 {
-        return reader::long(b, 8 * i);
-    }
-    0
-}
-
-fn size(b: &[u8], i: usize) -> usize {
-    number(b, i) as usize
-}
-
 fn read_sizes(b: &[u8], out: &mut [usize]) {
     let mut i = 0;
     while i < out.len() {
         out[i] = size(b, i);
         i += 1;
     }
-}
-
-fn read_values(b: &[u8], out: &mut [f64]) {
-    let mut i = 0;
-    while i < out.len() {
-        out[i] = of_bits(number(b, i));
-        i += 1;
-    }
-}
-
-fn same_values(b: &[u8], xs: &[f64]) -> bool {
-    let mut i = 0;
-    while i < xs.len() {
-        let bits = bits_of(xs[i]);
-        if bits != number(b, i) {
-            return false;
-        }
-        i += 1;
-    }
-    true
-}
-
-fn same_cells(b: &[u8], at: usize, cells: &[u64]) -> bool
-    requires { ⌜ at ≤ 64 ⌝ }
-{
-    let mut i = 0;
-    while i < cells.len() {
-        if cells[i] != number(b, at + i) {
-            return false;
-        }
-        i += 1;
-    }
-    true
-}
-
-// Reads n bytes to the start of a buffer; false at the end of the input, or where they don't fit.
-fn take(b: &mut [u8], n: usize) -> bool {
-    if b.len() < n {
-        return false;
-    }
-    io::read_full(0, &mut b[..n]) == n
 }
 
 // ---- one case
@@ -141,25 +62,30 @@ fn head_of(b: &[u8]) -> Head {
     Head {
         formula: size(b, 0),
         names: size(b, 1),
-        symbol: number(b, 2),
+        symbol: cell(b, 2),
         path: size(b, 3),
         tree: size(b, 4),
         program: size(b, 5),
         answer: size(b, 6),
         inputs: size(b, 7),
         registers: size(b, 8),
-        held: number(b, 9),
+        held: cell(b, 9),
         calls: size(b, 10),
     }
 }
 
 // The path slice: a text and zeros to the end of what was lent, or not written.
 fn is_placed(path: &[u8], text: &[u8], n: usize, room: usize) -> bool {
-    if n > 0 {
-        return begins(path, text, n)
-            && (all_between(path, n, room, 0) && all_between(path, room, path.len(), FILL));
-    }
-    all_between(path, 0, path.len(), FILL)
+    let lent = cut(room, path.len());
+    is_left(&path[0..lent], text, 0, n, false) && holds(&path[lent..], text, 0, 0, FILL)
+}
+
+// Fills the slices anew.
+fn refill(held: u64, tree: &mut [u8], program: &mut [u8], registers: &mut [f64], path: &mut [u8]) {
+    fill(tree);
+    fill(program);
+    fill_values(registers, of_bits(held));
+    fill(path);
 }
 
 // ---- by the machine's own state
@@ -178,10 +104,7 @@ fn by_machine(
     flags: &[u8],
     values: &[f64],
 ) -> Played {
-    fill(path);
-    fill(tree);
-    fill(program);
-    fill_values(registers, of_bits(h.held));
+    refill(h.held, tree, program, registers, path);
     let wanted = if h.symbol < 4294967296 {
         demand::Wanted::Derivative(h.symbol as usize)
     } else {
@@ -205,16 +128,15 @@ fn by_machine(
 
 // An answer as recorded: its number, the value's bits, the question.
 fn is_answer(b: &[u8], answer: Answer) -> bool {
-    let n = number(b, 0);
+    let n = cell(b, 0);
     match answer {
-        Answer::Value(v) => n == 0 && bits_of(v) == number(b, 16),
+        Answer::Value(v) => n == 0 && bits_of(v) == cell(b, 16),
         Answer::Elementary(f, x) => {
-            n == 100 && (number(b, 12) == 1 + f as u64 && bits_of(x) == number(b, 13))
+            n == 100 && (cell(b, 12) == 1 + f as u64 && bits_of(x) == cell(b, 13))
         }
         Answer::Power(x, y) => {
             n == 100
-                && (number(b, 12) == 17
-                    && (bits_of(x) == number(b, 13) && bits_of(y) == number(b, 14)))
+                && (cell(b, 12) == 17 && (bits_of(x) == cell(b, 13) && bits_of(y) == cell(b, 14)))
         }
         Answer::Spent => n == 101,
         Answer::Domain(k) => n == 9,
@@ -224,11 +146,11 @@ fn is_answer(b: &[u8], answer: Answer) -> bool {
 
 // A refused call completes nothing, and leaves the cells' count.
 fn is_count(b: &[u8], count: usize) -> bool {
-    let n = number(b, 0);
+    let n = cell(b, 0);
     if n == 1 || (n == 5 || n == 11) {
         return count == 0;
     }
-    count as u64 == number(b, 15)
+    count as u64 == cell(b, 15)
 }
 
 // The reply as recorded, or compile's or derive's refusal.
@@ -259,10 +181,7 @@ fn by_host(
     values: &[f64],
     cells: &mut [u64],
 ) -> usize {
-    fill(path);
-    fill(tree);
-    fill(program);
-    fill_values(registers, of_bits(h.held));
+    refill(h.held, tree, program, registers, path);
     let wanted = if h.symbol < 4294967296 {
         hosted::Wanted::Derivative(h.symbol as u32)
     } else {
@@ -289,13 +208,9 @@ fn by_host(
 
 // ---- lists
 
-fn all(a: bool, b: bool, c: bool) -> bool {
-    a && (b && c)
-}
-
 // Registers and path slice after the last call, as recorded. A call writes to the 8,192 bytes that it was lent, compile and derive
 // write to the whole slice.
-fn is_left(
+fn is_after(
     b: &[u8],
     text: &[u8],
     after: &[u8],
@@ -304,7 +219,7 @@ fn is_left(
     path: &[u8],
 ) -> bool {
     let room = if refusal == 0 { 8192 } else { path.len() };
-    same_values(after, registers) && is_placed(path, text, size(b, 17), room)
+    same_values(after, 0, registers) && is_placed(path, text, size(b, 17), room)
 }
 
 fn as_played(
@@ -339,8 +254,8 @@ fn as_played(
         values,
     );
     let first = is_played(b, h.answer, p);
-    let second = is_left(b, text, after, h.answer, registers, path);
-    all(first, second, true)
+    let second = is_after(b, text, after, h.answer, registers, path);
+    all(first, second)
 }
 
 fn as_hosted(
@@ -378,8 +293,8 @@ fn as_hosted(
     );
     let first = n == size(b, 0);
     let second = same_cells(b, 1, cells);
-    let third = is_left(b, text, after, h.answer, registers, path);
-    all(first, second, third)
+    let third = is_after(b, text, after, h.answer, registers, path);
+    all(first, all(second, third))
 }
 
 // A list whose record was read, played both ways.
@@ -436,7 +351,7 @@ fn both(
         values,
         cells,
     );
-    all(first, second, true)
+    all(first, second)
 }
 
 // Reads what is recorded of a list's last call; false also at the end of the input.
@@ -447,7 +362,7 @@ fn read_last(b: &mut [u8], text: &mut [u8], after: &mut [u8], registers: usize) 
     let first = take(b, 144);
     let second = take(text, size(b, 17));
     let third = take(after, 8 * registers);
-    all(first, second, third)
+    all(first, all(second, third))
 }
 
 fn beginning(
@@ -487,7 +402,7 @@ fn beginning(
         values,
         &mut cells,
     );
-    all(first, second, true)
+    all(first, second)
 }
 
 // Whether every beginning of the list is as recorded.
@@ -519,25 +434,28 @@ fn beginnings(
             registers,
             path,
             rooms,
-            &budgets[..k],
+            &budgets[0..k],
             flags,
             values,
         );
-        right = all(right, same, true);
+        right = all(right, same);
     }
     right
 }
 
 // ---- reading
 
-// A length, cut to what there is: a record that asks for more is not played as recorded.
-fn cut(n: usize, most: usize) -> usize
-    ensures { λ r. ⌜ r ≤ most ⌝ }
-{
-    if n < most {
-        return n;
-    }
-    most
+// Reads n values, 256 at most.
+fn take_values(n: usize, b: &mut [u8], out: &mut [f64]) -> bool {
+    let read = take(b, 8 * cut(n, 256));
+    read_values(b, 0, out);
+    read
+}
+
+fn take_sizes(n: usize, b: &mut [u8], out: &mut [usize]) -> bool {
+    let read = take(b, 8 * cut(n, 256));
+    read_sizes(b, out);
+    read
 }
 
 // Reads so many inputs, and a list of so many calls.
@@ -551,18 +469,12 @@ fn read_list(
     flags: &mut [u8],
     values: &mut [f64],
 ) -> bool {
-    let count = cut(count, 256);
-    let n = cut(calls, 16);
-    let first = take(b, 8 * count);
-    read_values(b, inputs);
-    let second = take(b, 8 * n);
-    read_sizes(b, rooms);
-    let third = take(b, 8 * n);
-    read_sizes(b, budgets);
-    let fourth = take(flags, n);
-    let fifth = take(b, 8 * n);
-    read_values(b, values);
-    all(all(first, second, third), fourth, fifth)
+    let first = take_values(count, b, inputs);
+    let second = take_sizes(calls, b, rooms);
+    let third = take_sizes(calls, b, budgets);
+    let fourth = take(flags, calls);
+    let fifth = take_values(calls, b, values);
+    all(all(first, second), all(third, all(fourth, fifth)))
 }
 
 // A case whose formula, names, tree, program and path slices are just as long as it says.
@@ -591,15 +503,15 @@ fn listed(
         names,
         tree,
         program,
-        &inputs[..i],
-        &mut registers[..r],
+        &inputs[0..i],
+        &mut registers[0..r],
         path,
         rooms,
-        &budgets[..k],
+        &budgets[0..k],
         flags,
         values,
     );
-    all(first, second, true)
+    all(first, second)
 }
 
 fn with_list(
@@ -651,13 +563,13 @@ fn case_in(
     let q = cut(h.path, path.len());
     let third = with_list(
         h,
-        &formula[..f],
-        &names[..n],
-        &mut tree[..t],
-        &mut program[..p],
-        &mut path[..q],
+        &formula[0..f],
+        &names[0..n],
+        &mut tree[0..t],
+        &mut program[0..p],
+        &mut path[0..q],
     );
-    all(first, second, third)
+    all(first, all(second, third))
 }
 
 fn one_case(h: Head) -> bool {
@@ -676,67 +588,32 @@ fn one_case(h: Head) -> bool {
     )
 }
 
-// Whether there was a case, whether it is as recorded, and its calls.
-struct Shown {
-    there: bool,
-    right: bool,
-    calls: u64,
-}
-
-fn seen(head: &mut [u8]) -> Shown {
-    let read = take(head, 88);
-    if !read {
-        return Shown {
-            there: false,
-            right: true,
-            calls: 0,
-        };
-    }
-    let right = one_case(head_of(head));
-    Shown {
-        there: true,
-        right: right,
-        calls: number(head, 10),
-    }
-}
-
-fn next_case() -> Shown {
+// What comes after a case that is not as recorded can't be told from it.
+fn next_case(t: Tally) -> Tally {
     let mut head = [0u8; 88];
-    seen(&mut head)
-}
-
-fn plus(a: u64, b: u64) -> u64 {
-    if a < 1_000_000 {
-        if b < 1_000_000 {
-            return a + b;
-        }
+    let read = take(&mut head, 88);
+    if !read {
+        return cases::end(t);
     }
-    1_000_000
+    let right = one_case(head_of(&head));
+    let counted = cases::counted(t, right, cell(&head, 10));
+    if right {
+        return counted;
+    }
+    cases::end(counted)
 }
 
 fn main() {
-    let mut cases: u64 = 0;
-    let mut calls: u64 = 0;
-    let mut right = true;
-    while cases < 1_000_000 {
-        let s = next_case();
-        if !s.there {
+    let mut t = cases::begin();
+    let mut i = 0;
+    while i < cases::MOST {
+        t = next_case(t);
+        if t.ended {
             break;
         }
-        if !s.right {
-            right = false;
-            break;
-        }
-        calls = plus(calls, s.calls);
-        cases += 1;
+        i += 1;
     }
-    io::print_decimal(1, cases);
-    io::write_all(1, b" cases, ");
-    io::print_decimal(1, calls);
-    io::write_all(1, b" calls\n");
-    if right {
-        io::write_all(1, b"ok\n");
-    } else {
-        io::write_all(1, b"wrong: the case after these\n");
-    }
+    say(t.cases, b" cases, ");
+    say(t.calls, b" calls\n");
+    cases::verdict(t);
 }

@@ -9,11 +9,15 @@ ghost use mathlib.Core.Path.{_≡_};
 ghost use mathlib.Core.Bool.{true};
 ghost use Prim.Native.Nat.{_*_, _≤_};
 ghost use lib.ListN.{length};
+use cases::Tally;
+use cases::cut;
+use cases::take;
 use check::same;
 use differentiate::write_derivative;
 use reader::NODE_SIZE;
 use reader::half;
 use reader::is_formula;
+use reader::wide;
 use reader::within_limits;
 use survey::By;
 use survey::Found;
@@ -69,91 +73,43 @@ fn is_right(f: &[u8], by: By, recorded: u8, tree: &[u8], out: &mut [u8]) -> bool
     }
 }
 
-enum Case {
-    Same,
-    Other,
-    Ended,
-}
-
-fn wide(x: u8) -> usize {
-    x as usize
-}
-
-// Reads so many bytes.
-fn fill(b: &mut [u8], n: usize)
-    requires { ⌜ n ≤ length (now b) ⌝ }
-{
-    let start = 0;
-    io::read_full(0, &mut b[start..n]);
-}
-
 fn compare(f: &[u8], n: usize, by: By, recorded: u8, tree: &[u8], m: usize, out: &mut [u8]) -> bool
     requires { ⌜ (n ≤ length (now f)) × (m ≤ length (now tree)) × (m ≤ length (now out)) ⌝ }
 {
-    let start = 0;
-    is_right(
-        &f[start..n],
-        by,
-        recorded,
-        &tree[start..m],
-        &mut out[start..m],
-    )
+    is_right(&f[0..n], by, recorded, &tree[0..m], &mut out[0..m])
 }
 
-fn next_case() -> Case {
+fn next_case(t: Tally) -> Tally {
     let mut head = [0u8; 8];
-    if io::read_full(0, &mut head) < 8 {
-        return Case::Ended;
+    let there = take(&mut head, 8);
+    if !there {
+        return cases::end(t);
     }
-    let nodes = half(&head, 4);
-    let size = half(&head, 6);
-    if nodes > 256 {
-        return Case::Ended;
-    }
-    if size > 1024 {
-        return Case::Ended;
-    }
+    let n = NODE_SIZE * cut(half(&head, 4), 256);
+    let m = NODE_SIZE * cut(half(&head, 6), 1024);
     let mut f = [0u8; 4096];
     let mut tree = [0u8; 16384];
     let mut out = [255u8; 16384];
-    fill(&mut f, NODE_SIZE * nodes);
-    fill(&mut tree, NODE_SIZE * size);
+    take(&mut f, n);
+    take(&mut tree, m);
     let by = By {
         symbol: wide(head[1]),
         state: head[2] == 1,
     };
-    let right = compare(
-        &f,
-        NODE_SIZE * nodes,
-        by,
-        head[0],
-        &tree,
-        NODE_SIZE * size,
-        &mut out,
-    );
-    if right { Case::Same } else { Case::Other }
+    let right = compare(&f, n, by, head[0], &tree, m, &mut out);
+    cases::counted(t, right, 0)
 }
 
 fn main() {
-    let mut cases = 0u64;
-    let mut wrong = 0u64;
-    while cases < 1_000_000 {
-        let c = next_case();
-        match c {
-            Case::Ended => break,
-            Case::Other => {
-                wrong += 1;
-                io::write_all(1, b"wrong: case ");
-                io::print_decimal(1, cases);
-                io::write_all(1, b"\n");
-            }
-            Case::Same => {}
+    let mut t = cases::begin();
+    let mut i = 0;
+    while i < cases::MOST {
+        t = next_case(t);
+        if t.ended {
+            break;
         }
-        cases += 1;
+        i += 1;
     }
-    io::print_decimal(1, cases);
-    io::write_all(1, b" cases\n");
-    if wrong == 0 {
-        io::write_all(1, b"ok\n");
-    }
+    cases::say(t.cases, b" cases\n");
+    cases::verdict(t);
 }

@@ -5,37 +5,8 @@
 // Python's math, and those of Sqrt, Floor, Ceil and the remainder were worked out a second time with whole
 // numbers. The arguments are zeros, subnormals, infinities, NaNs, ends of range, neighbours of squares and of
 // half way cases, negative multiples and remainders too small to move b, and random bits.
-ghost use Prim.Native.Nat.{_≤_, _<_};
-
-// A hexadecimal digit's value; no other byte is in the records.
-fn digit(b: u8) -> u64
-    ensures { λ r. ⌜ r < 16 ⌝ }
-{
-    match b {
-        b'0'..=b'9' => wide(b - b'0'),
-        b'a'..=b'f' => wide(b - b'a') + 10,
-        _ => 0,
-    }
-}
-
-fn wide(b: u8) -> u64
-    ensures { λ r. ⌜ r ≤ b ⌝ }
-{
-    b as u64
-}
-
-// The 16 digits from `at` on.
-fn word(record: &[u8; 50], at: usize) -> u64
-    requires { ⌜ at ≤ 33 ⌝ }
-{
-    let mut n = 0u64;
-    let mut i = 0;
-    while i < 16 {
-        n = n % 0x1000_0000_0000_0000 * 16 + digit(record[at + i]);
-        i += 1;
-    }
-    n
-}
+use cases::Tally;
+use cases::hex;
 
 fn truth(b: bool) -> u64 {
     if b { 1 } else { 0 }
@@ -59,43 +30,33 @@ fn outcome(letter: u8, a: u64, b: u64) -> u64 {
     }
 }
 
-enum Case {
-    Same,
-    Other,
-    Ended,
-}
-
 // The next record's case. One that comes out otherwise is written out.
-fn next_case() -> Case {
+fn next_case(t: Tally) -> Tally {
     let mut record = [0u8; 50];
-    if io::read_full(0, &mut record) < 50 {
-        return Case::Ended;
+    let read = cases::take(&mut record, 50);
+    if !read {
+        return cases::end(t);
     }
-    let a = word(&record, 1);
-    let b = word(&record, 17);
-    if outcome(record[0], a, b) == word(&record, 33) {
-        return Case::Same;
+    let a = hex(&record, 1, 17);
+    let b = hex(&record, 17, 33);
+    let c = hex(&record, 33, 49);
+    let right = outcome(record[0], a.value, b.value) == c.value;
+    if !right {
+        io::write_all(1, &record);
     }
-    io::write_all(1, b"wrong: ");
-    io::write_all(1, &record);
-    Case::Other
+    cases::counted(t, right, 0)
 }
 
 fn main() {
-    let mut cases = 0u64;
-    let mut wrong = 0u64;
-    while cases < 1_000_000 {
-        let c = next_case();
-        match c {
-            Case::Ended => break,
-            Case::Other => wrong += 1,
-            Case::Same => {}
+    let mut t = cases::begin();
+    let mut i = 0;
+    while i < cases::MOST {
+        t = next_case(t);
+        if t.ended {
+            break;
         }
-        cases += 1;
+        i += 1;
     }
-    io::print_decimal(1, cases);
-    io::write_all(1, b" cases\n");
-    if wrong == 0 {
-        io::write_all(1, b"ok\n");
-    }
+    cases::say(t.cases, b" cases\n");
+    cases::verdict(t);
 }

@@ -15,8 +15,8 @@ use Rattle.formula.specs.Path.{placed}
 use Rattle.machine.specs.Machine.{Call, Reply, State, place-of, resume, run}
 use Rattle.layout.specs.Decode.{program-at}
 use Rattle.run.specs.Calls.{resume-at, run-at}
-use Rattle.play.proofs.Loops.{again-long}
-use Rattle.play.specs.Listed.{Played, call-at, calls-from, first-call, noted, play-at, playing, room-at, value-at}
+use Rattle.demand.proofs.Loops.{again-long}
+use Rattle.demand.specs.Listed.{Played, call-at, calls-from, first-call, noted, play-at, playing, room-at, value-at}
 use Rattle.vebrostin.specs.Cells.{number-of, question-cells, question-of, state-in}
 use Rattle.vebrostin.specs.Calls.{Carries, Leaves, Outcome, after, is-refused, report-length, resume-outcome, run-outcome, short, state-length, told, untouched, with-room, written}
 use Rattle.vebrostin.proofs.Asking.{resume-asks, run-asks}

@@ -23,8 +23,8 @@ use Rattle.derivative.specs.Derive.{Derived, derive, derived, formula-refused}
 use Rattle.derivative.specs.Derive as Derive
 use Rattle.compile.specs.Entry as Entry
 use Rattle.derive.specs.Outcome as Entered
-use Rattle.play.specs.Listed.{play-at}
-use Rattle.play.proofs.Lasts.{demand}
+use Rattle.demand.specs.Listed.{play-at}
+use Rattle.demand.proofs.Lasts.{demand}
 use Rattle.demand.specs.Made.{Made, made, make, of-compiled, of-derived, place-of, program-left, refused, tree-left}
 use Rattle.demand.specs.declared.Wanted as Making
 use Rattle.demand.proofs.Sources.{source}

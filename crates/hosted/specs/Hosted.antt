@@ -6,7 +6,7 @@ use lib.ListN.{drop, length, take}
 use lib.Ieee.{Float}
 use Rattle.refusals.specs.Numbers.{slice-too-short}
 use Rattle.machine.specs.Machine.{Call}
-use Rattle.play.specs.Listed.{calls-from, first-call}
+use Rattle.demand.specs.Listed.{calls-from, first-call}
 use Rattle.demand.specs.Made.{Made, made, refused}
 use Rattle.demand.specs.declared.Wanted as Making
 use Rattle.demand.specs.declared.Wanted.the-variants as Makes

@@ -12,8 +12,8 @@ use Rattle.formula.specs.Path.{placed}
 use Rattle.formula.specs.Term.{term}
 use Rattle.machine.specs.Lower.{register-count}
 use Rattle.machine.specs.Machine.{Reply}
-use Rattle.play.specs.Listed.{Played, play-at}
-use Rattle.play.specs.Owed.{Last, Within}
+use Rattle.demand.specs.Listed.{Played, play-at}
+use Rattle.demand.specs.Last.{Last, Within}
 use Rattle.demand.specs.Made.{Made, made, place-of, refused}
 use Rattle.vebrostin.specs.Cells.{number-of, question-cells, question-of, state-in, value-cell}
 use Rattle.vebrostin.specs.Calls.{Leaves, is-refused}

@@ -8,8 +8,12 @@ ghost use lib.ListN.{length};
 ghost use Rattle.legs_cases.specs.Listed.{Copies, Feeds-all, Lists};
 ghost use Rattle.lines.specs.Calls.{Feedable};
 ghost use Rattle.lines.specs.Owed.{Roomy, memory};
+use cases::Tally;
+use cases::cut;
+use cases::holds;
+use cases::plus;
+use cases::say;
 use lines::Stage;
-use std::num;
 use writer::put_bytes;
 
 // The length of the whole output; or it is longer than the slice for it.
@@ -166,25 +170,8 @@ fn list(readable: bool, formula: &[u8], input: &[u8], block: usize, all: &mut [u
 
 // ---- the record
 
-fn plus(a: usize, b: usize) -> usize {
-    num::wrapping_add_usize(a, b)
-}
-
-// Whether the n bytes at a place of the record are the first of a slice.
-fn same_bytes(b: &[u8], at: usize, n: usize, slice: &[u8]) -> bool {
-    let mut i = 0;
-    while i < n {
-        if reader::byte(b, plus(at, i)) == reader::byte(slice, i) {
-            i += 1;
-        } else {
-            return false;
-        }
-    }
-    true
-}
-
 // Whether the output of the case is as recorded.
-fn is_same(b: &[u8], from: usize, middle: usize, end: usize, at: usize, all: &mut [u8]) -> bool {
+fn is_same(b: &[u8], from: usize, middle: usize, end: usize, at: usize) -> bool {
     if middle < from {
         return false;
     }
@@ -194,20 +181,22 @@ fn is_same(b: &[u8], from: usize, middle: usize, end: usize, at: usize, all: &mu
     if b.len() < end {
         return false;
     }
+    let mut all = [0u8; 65536];
     let block = reader::word(b, plus(at, 4));
     let readable = reader::word(b, at) == 1;
-    let listed = list(readable, &b[from..middle], &b[middle..end], block, all);
+    let listed = list(readable, &b[from..middle], &b[middle..end], block, &mut all);
     let Listing::Length(n) = listed else {
         return false;
     };
-    n == reader::word(b, plus(at, 16)) && same_bytes(b, end, n, all)
+    let n = cut(n, 65536);
+    n == reader::word(b, plus(at, 16)) && holds(&all[0..n], b, end, n, 0)
 }
 
-fn case_at(b: &[u8], at: usize, all: &mut [u8]) -> bool {
+fn case_at(b: &[u8], at: usize) -> bool {
     let from = plus(at, 20);
     let middle = plus(from, reader::word(b, plus(at, 8)));
     let end = plus(middle, reader::word(b, plus(at, 12)));
-    is_same(b, from, middle, end, at, all)
+    is_same(b, from, middle, end, at)
 }
 
 // Where the next case begins.
@@ -217,38 +206,22 @@ fn next(b: &[u8], at: usize) -> usize {
     plus(output, reader::word(b, plus(at, 16)))
 }
 
-// Says which case differs.
-fn say(i: usize) {
-    io::write_all(1, b"differs: case ");
-    io::print_decimal(1, i as u64);
-    io::write_all(1, b"\n");
-}
-
-// Runs so many cases and says how many differ.
-fn all_cases(b: &[u8], cases: usize, all: &mut [u8]) -> u64 {
+fn all_cases(b: &[u8], count: usize) -> Tally {
+    let mut t = cases::begin();
     let mut at = 4;
-    let mut differ: u64 = 0;
     let mut i = 0;
-    while i < cases {
-        let same = case_at(b, at, all);
-        if !same {
-            say(i);
-            differ = num::wrapping_add_u64(differ, 1);
-        }
+    while i < count {
+        t = cases::counted(t, case_at(b, at), 0);
         at = next(b, at);
         i += 1;
     }
-    differ
+    t
 }
 
 fn main() {
     let mut b = [0u8; 327680];
-    let mut all = [0u8; 65536];
     io::read_full(0, &mut b);
-    let cases = reader::word(&b, 0);
-    let differ = all_cases(&b, cases, &mut all);
-    io::print_decimal(1, cases as u64);
-    io::write_all(1, b" cases, ");
-    io::print_decimal(1, differ);
-    io::write_all(1, b" differ\n");
+    let t = all_cases(&b, reader::word(&b, 0));
+    say(t.cases, b" cases, ");
+    say(t.wrong, b" differ\n");
 }

@@ -8,39 +8,20 @@
 ghost use mathlib.Core.Path.{_≡_};
 ghost use Prim.Native.Nat.{_≤_, _<_};
 ghost use lib.ListN.{length};
+use cases::Tally;
+use cases::cut;
+use cases::holds;
+use cases::plus;
 use std::num;
 
-struct Tally {
-    cases: u32,
-    wrong: u32,
-}
-
-// One case more, and whether it came out as recorded.
-fn counted(t: Tally, right: bool) -> Tally {
-    let cases = num::wrapping_add_u32(t.cases, 1);
-    if right {
-        return Tally {
-            cases: cases,
-            wrong: t.wrong,
-        };
-    }
-    io::write_all(1, b"wrong: case ");
-    io::print_decimal(1, cases as u64);
-    io::write_all(1, b"\n");
-    let wrong = num::wrapping_add_u32(t.wrong, 1);
-    Tally {
-        cases: cases,
-        wrong: wrong,
-    }
-}
-
-fn line_end(text: &[u8], at: usize) -> usize
+// Where a byte next stands, or the end.
+fn find(text: &[u8], at: usize, byte: u8) -> usize
     requires { ⌜ at ≤ length (now text) ⌝ }
     ensures { λ r. ⌜ (at ≤ r) × (r ≤ length (now (text .entry))) ⌝ }
 {
     let mut end = at;
     while end < text.len() {
-        if text[end] == b'\n' {
+        if text[end] == byte {
             return end;
         }
         end += 1;
@@ -53,12 +34,9 @@ fn after_space(line: &[u8], at: usize) -> usize
     requires { ⌜ at ≤ length (now line) ⌝ }
     ensures { λ r. ⌜ (at ≤ r) × (r ≤ length (now (line .entry))) ⌝ }
 {
-    let mut end = at;
-    while end < line.len() {
-        if line[end] == b' ' {
-            return end + 1;
-        }
-        end += 1;
+    let end = find(line, at, b' ');
+    if end < line.len() {
+        return end + 1;
     }
     end
 }
@@ -80,28 +58,35 @@ fn number(line: &[u8], at: usize) -> u64
     n
 }
 
-fn digit(b: u8) -> u8
-    ensures { λ r. ⌜ r < 16 ⌝ }
-{
-    if b < b'a' {
-        return num::wrapping_sub_u8(b, 48) % 16;
-    }
-    num::wrapping_sub_u8(b, 87) % 16
+fn byte_of(hex: &[u8], k: usize) -> u8 {
+    let d = cases::hex(hex, plus(k, k), plus(plus(k, k), 2));
+    (d.value % 256) as u8
 }
 
 // The bytes that pairs of digits stand for, and how many there are.
 fn unhex(hex: &[u8], out: &mut [u8]) -> usize
     ensures { λ r. ⌜ r ≤ length (now (out .entry)) ⌝ }
 {
+    let n = cut(hex.len() / 2, out.len());
     let mut k = 0;
-    while k < out.len() {
-        if hex.len() / 2 <= k {
-            return k;
-        }
-        out[k] = digit(hex[2 * k]) * 16 + digit(hex[2 * k + 1]);
+    while k < n {
+        out[k] = byte_of(hex, k);
         k += 1;
     }
-    k
+    n
+}
+
+// The byte k where the first of n nodes stands `first` times and the last from the node `middle` on.
+fn repeated_byte(nodes: &[u8], n: usize, first: usize, middle: usize, k: usize) -> u8 {
+    let i = k / 16;
+    let mut from: usize = 0;
+    if i >= first {
+        from = num::wrapping_sub_usize(plus(i, 1), first);
+    }
+    if i >= middle {
+        from = num::wrapping_sub_usize(n, 1);
+    }
+    reader::byte(nodes, from % 65536 * 16 + k % 16)
 }
 
 // The nodes, the first of them `first` times and the last `last` times, and how many bytes that is.
@@ -109,25 +94,14 @@ fn repeated(nodes: &[u8], first: usize, last: usize, out: &mut [u8]) -> usize
     ensures { λ r. ⌜ r ≤ length (now (out .entry)) ⌝ }
 {
     let n = nodes.len() / 16;
-    let middle = num::wrapping_add_usize(first, num::wrapping_sub_usize(n, 2));
-    let total = num::wrapping_add_usize(middle, last);
+    let middle = plus(first, num::wrapping_sub_usize(n, 2));
+    let end = cut(16 * cut(plus(middle, last), 65536), out.len());
     let mut k = 0;
-    while k < out.len() {
-        let i = k / 16;
-        if i >= total {
-            return k;
-        }
-        let mut from: usize = 0;
-        if i >= first {
-            from = num::wrapping_sub_usize(num::wrapping_add_usize(i, 1), first);
-        }
-        if i >= middle {
-            from = num::wrapping_sub_usize(n, 1);
-        }
-        out[k] = reader::byte(nodes, from % 65536 * 16 + k % 16);
+    while k < end {
+        out[k] = repeated_byte(nodes, n, first, middle, k);
         k += 1;
     }
-    k
+    end
 }
 
 fn mark(yes: bool) -> u8 {
@@ -159,7 +133,7 @@ fn same_marks(line: &[u8], m: Marks) -> bool {
 fn formula_case(line: &[u8], work: &mut [u8]) -> bool {
     let at = after_space(line, 0);
     let n = unhex(&line[at..], work);
-    let m = judged(&work[..n]);
+    let m = judged(&work[0..n]);
     same_marks(line, m)
 }
 
@@ -171,24 +145,24 @@ fn repeated_case(line: &[u8], work: &mut [u8]) -> bool {
     let last = number(line, b) as usize;
     let mut nodes = [0u8; 256];
     let k = unhex(&line[at..], &mut nodes);
-    let n = repeated(&nodes[..k], first, last, work);
-    let m = judged(&work[..n]);
+    let n = repeated(&nodes[0..k], first, last, work);
+    let m = judged(&work[0..n]);
     same_marks(line, m)
 }
 
-// The kinds as digits, from the third byte of the line on.
+// The kind i as recorded: a digit from the third byte of the line on, and zero past the count.
+fn recorded_kind(line: &[u8], count: usize, i: usize) -> u8 {
+    if i < count {
+        return num::wrapping_sub_u8(reader::byte(line, plus(i, 2)), 48);
+    }
+    0
+}
+
 fn same_kinds(line: &[u8], count: usize, kinds: &[u8; 256]) -> bool {
     let mut i = 0;
     while i < 256 {
-        let kind = kinds[i];
-        if i < count {
-            if reader::byte(line, i + 2) != num::wrapping_add_u8(kind, 48) {
-                return false;
-            }
-        } else {
-            if kind != 0 {
-                return false;
-            }
+        if kinds[i] != recorded_kind(line, count, i) {
+            return false;
         }
         i += 1;
     }
@@ -201,7 +175,7 @@ fn names_case(line: &[u8]) -> bool {
     let kinds = names.kinds;
     if names.ok {
         if reader::byte(line, 1) == b'1' {
-            if at == num::wrapping_add_usize(names.count, 3) {
+            if at == plus(names.count, 3) {
                 return same_kinds(line, names.count, &kinds);
             }
         }
@@ -210,44 +184,13 @@ fn names_case(line: &[u8]) -> bool {
     reader::byte(line, 1) == b'0' && same_kinds(line, 0, &kinds)
 }
 
-// Whether the 16 digits of a value stand at a place.
-fn same_hex(line: &[u8], at: usize, value: u64) -> bool {
-    let digits = names::hex(value);
-    let mut i = 0;
-    while i < 16 {
-        if reader::byte(line, num::wrapping_add_usize(at, i)) != digits[i] {
-            return false;
-        }
-        i += 1;
-    }
-    true
-}
-
 fn hex_case(line: &[u8]) -> bool {
     let at = after_space(line, 0);
-    let mut value: u64 = 0;
-    let mut i = at;
-    while i < line.len() {
-        let d = names::digit(line[i]);
-        if d == 16 {
-            return reader::byte(line, 1) == b'0';
-        }
-        value = value % 0x1000_0000_0000_0000 * 16 + d;
-        i += 1;
+    let d = cases::hex(line, at, line.len());
+    if d.fine {
+        return reader::byte(line, 1) == b'1' && holds(&names::hex(d.value), line, at, 16, 0);
     }
-    reader::byte(line, 1) == b'1' && same_hex(line, at, value)
-}
-
-// Whether the bytes stand in the line from a place to its end.
-fn ends_with(line: &[u8], at: usize, bytes: &[u8]) -> bool {
-    let mut i = 0;
-    while i < bytes.len() {
-        if reader::byte(line, num::wrapping_add_usize(at, i)) != bytes[i] {
-            return false;
-        }
-        i += 1;
-    }
-    num::wrapping_add_usize(at, i) == line.len()
+    reader::byte(line, 1) == b'0'
 }
 
 fn step_case(line: &[u8]) -> bool {
@@ -256,10 +199,16 @@ fn step_case(line: &[u8]) -> bool {
     line.len() - at == paths::step_length(step)
 }
 
+fn decimal_in(line: &[u8], out: &mut [u8]) -> bool
+    requires { ⌜ 10 ≤ length (now out) ⌝ }
+{
+    let n = writer::put_decimal(out, 0, number(line, 1));
+    line.len() == plus(n, 1) && holds(out, line, 1, n, 0)
+}
+
 fn decimal_case(line: &[u8]) -> bool {
     let mut out = [0u8; 10];
-    let end = writer::put_decimal(&mut out, 0, number(line, 1));
-    ends_with(line, 1, &out[..end])
+    decimal_in(line, &mut out)
 }
 
 fn case_of(line: &[u8], work: &mut [u8]) -> bool {
@@ -275,12 +224,11 @@ fn case_of(line: &[u8], work: &mut [u8]) -> bool {
 }
 
 fn all_cases(text: &[u8], work: &mut [u8]) -> Tally {
-    let mut t = Tally { cases: 0, wrong: 0 };
+    let mut t = cases::begin();
     let mut at = 0;
     while at < text.len() {
-        let end = line_end(text, at);
-        let right = case_of(&text[at..end], work);
-        t = counted(t, right);
+        let end = find(text, at, b'\n');
+        t = cases::counted(t, case_of(&text[at..end], work), 0);
         at = end + 1;
     }
     t
@@ -290,10 +238,7 @@ fn main() {
     let mut text = [0u8; 262144];
     let n = io::read_full(0, &mut text);
     let mut work = [0u8; 262272];
-    let t = all_cases(&text[..n], &mut work);
-    io::print_decimal(1, t.cases as u64);
-    io::write_all(1, b" cases\n");
-    if t.wrong == 0 {
-        io::write_all(1, b"ok\n");
-    }
+    let t = all_cases(&text[0..n], &mut work);
+    cases::say(t.cases, b" cases\n");
+    cases::verdict(t);
 }

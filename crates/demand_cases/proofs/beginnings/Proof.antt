@@ -1,9 +1,8 @@
-use mathlib.Core.Path.{_≡_, refl, sym, _∙_}
-use Prim.Native.Nat.{_+_, _-_}
+use mathlib.Core.Path.{_≡_, refl, _∙_}
+use Prim.Native.Nat.{_-_}
 use native.Mathlib.Omega.{arith}
-use borrow.Author.Needs.{needs}
 use lib.ListN.{length}
-use lib.Seq.{length-take-le}
+use borrow.Author.Needs.{needs}
 use Rattle.demand_cases.proofs.beginnings.Statement.{statement}
 use Rattle.demand_cases.proofs.beginnings.Tie as tie
 
@@ -12,7 +11,8 @@ Inv-loop h formula names tree₀ program₀ inputs registers₀ path₀ rooms bu
     (length tree ≡ length tree₀) × (length program ≡ length program₀) × (length registers ≡ length registers₀) × (length path ≡ length path₀)
 
 abbrev μ-loop : tie.MeasureT-loop
-μ-loop h formula names tree₀ program₀ inputs registers₀ path₀ rooms budgets flags values right₀ k₀ tree program registers path right k = length budgets - k
+μ-loop h formula names tree₀ program₀ inputs registers₀ path₀ rooms budgets flags values right₀ k₀ tree program registers path right k =
+    length budgets - k
 
 loop-holds : tie.Need-loop-holds Inv-loop μ-loop
 loop-holds c = (refl, refl, refl, refl)
@@ -20,8 +20,14 @@ loop-holds c = (refl, refl, refl, refl)
 add-k : tie.Need-add-k Inv-loop μ-loop
 add-k c = omega (arith, c .loop-test .taken, c .before .before .before .before .before .before .before .before .before .before .before .before .before .good .1 .1 .1 .1 .1 .1 .1 .1 .1 .0 .0)
 
-slice-aggregate-beginning : tie.Need-slice-aggregate-beginning Inv-loop μ-loop
-slice-aggregate-beginning c = sym (length-take-le (c .before .before .before .before .before .before .loop .k + 1) (c .before .before .before .before .before .before .before .before .before .before .before .before .before .before .before .before .before .before .args .budgets .now) (omega (arith, c .before .before .before .before .before .loop-test .taken)))
+sub-beginning : tie.Need-sub-beginning Inv-loop μ-loop
+sub-beginning c = omega arith
+
+part-beginning-start : tie.Need-part-beginning-start Inv-loop μ-loop
+part-beginning-start c = omega arith
+
+part-beginning-end : tie.Need-part-beginning-end Inv-loop μ-loop
+part-beginning-end c = omega (arith, c .before .before .before .before .loop-test .taken)
 
 beginning-requires : tie.Need-beginning-requires Inv-loop μ-loop
 beginning-requires c κs = search needs
@@ -33,7 +39,14 @@ loop-less : tie.Need-loop-less Inv-loop μ-loop
 loop-less c = omega (arith, c .before .before .before .before .before .before .before .before .before .before .before .before .before .before .before .loop-test .taken)
 
 loop-again : tie.Need-loop-again Inv-loop μ-loop
-loop-again c = (c .before .before .before .before .before .before .before .before .before .beginning .kept .1 .1 .1 .0 ∙ c .before .before .before .before .before .before .before .before .before .before .before .before .before .before .before .before .loop .inv .0, c .before .before .before .before .before .before .before .before .before .beginning .kept .1 .1 .1 .1 .0 ∙ c .before .before .before .before .before .before .before .before .before .before .before .before .before .before .before .before .loop .inv .1, c .before .before .before .before .before .before .before .before .before .beginning .kept .1 .1 .1 .1 .1 .1 .0 ∙ c .before .before .before .before .before .before .before .before .before .before .before .before .before .before .before .before .loop .inv .2, c .before .before .before .before .before .before .before .before .before .beginning .kept .1 .1 .1 .1 .1 .1 .1 .0 ∙ c .before .before .before .before .before .before .before .before .before .before .before .before .before .before .before .before .loop .inv .3)
+loop-again c =
+    let loop = c .before .before .before .before .before .before .before .before .before .before .before .before .before .before .before .before .loop in
+    let beginning = c .before .before .before .before .before .before .before .before .before .beginning in (
+      beginning .kept .1 .1 .1 .0 ∙ loop .inv .0,
+      beginning .kept .1 .1 .1 .1 .0 ∙ loop .inv .1,
+      beginning .kept .1 .1 .1 .1 .1 .1 .0 ∙ loop .inv .2,
+      beginning .kept .1 .1 .1 .1 .1 .1 .1 .0 ∙ loop .inv .3,
+    )
 
 same-length : tie.Need-same-length Inv-loop μ-loop
 same-length c = c .before .loop .inv .0
@@ -58,7 +71,9 @@ beginnings-spec =
     μ-loop
     loop-holds
     add-k
-    slice-aggregate-beginning
+    sub-beginning
+    part-beginning-start
+    part-beginning-end
     beginning-requires
     all-requires
     loop-less

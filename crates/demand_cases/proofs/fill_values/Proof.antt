@@ -1,8 +1,8 @@
 use mathlib.Core.Path.{_≡_, refl, _∙_}
 use Prim.Native.Nat.{_-_, _≤_}
 use native.Mathlib.Omega.{arith}
-use borrow.Author.Needs.{needs}
 use lib.ListN.{length, length-set}
+use borrow.Author.Needs.{needs}
 use Rattle.demand_cases.proofs.fill_values.Statement.{statement}
 use Rattle.demand_cases.proofs.fill_values.Tie as tie
 
@@ -28,7 +28,7 @@ loop-less : tie.Need-loop-less Inv-loop μ-loop
 loop-less c = omega arith
 
 loop-again : tie.Need-loop-again Inv-loop μ-loop
-loop-again c = (omega (arith, length-set (c .before .loop .xs) (c .before .loop .i) (c .before .before .args .x)), length-set (c .before .loop .xs) (c .before .loop .i) (c .before .before .args .x) ∙ c .before .loop .inv .1)
+loop-again c = let e = length-set (c .before .loop .xs) (c .before .loop .i) (c .before .before .args .x) in (omega (arith, e), e ∙ c .before .loop .inv .1)
 
 same-length : tie.Need-same-length Inv-loop μ-loop
 same-length c = c .before .loop .inv .1

@@ -1,8 +1,8 @@
 use mathlib.Core.Path.{_≡_, refl, _∙_}
 use Prim.Native.Nat.{_-_, _≤_}
 use native.Mathlib.Omega.{arith}
-use borrow.Author.Needs.{needs}
 use lib.ListN.{length, length-set}
+use borrow.Author.Needs.{needs}
 use Rattle.demand_cases.proofs.read_sizes.Statement.{statement}
 use Rattle.demand_cases.proofs.read_sizes.Tie as tie
 
@@ -31,7 +31,7 @@ loop-less : tie.Need-loop-less Inv-loop μ-loop
 loop-less c = omega arith
 
 loop-again : tie.Need-loop-again Inv-loop μ-loop
-loop-again c = (omega (arith, length-set (c .before .before .loop .out) (c .before .before .loop .i) (c .size .result)), length-set (c .before .before .loop .out) (c .before .before .loop .i) (c .size .result) ∙ c .before .before .loop .inv .1)
+loop-again c = let e = length-set (c .before .before .loop .out) (c .before .before .loop .i) (c .size .result) in (omega (arith, e), e ∙ c .before .before .loop .inv .1)
 
 same-length : tie.Need-same-length Inv-loop μ-loop
 same-length c = c .before .loop .inv .1

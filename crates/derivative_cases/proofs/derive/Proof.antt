@@ -8,13 +8,6 @@ use Rattle.differentiate.proofs.Whole.{diff-capped, job-of, own-capped, room-fr
 use borrow.Author.Needs.{needs}
 use Rattle.derivative_cases.proofs.derive.Statement.{statement}
 use Rattle.derivative_cases.proofs.derive.Tie as tie
-use Rattle.derivative_cases.proofs.derive.Reads as reads
-use Rattle.derivative_cases.proofs.derive.Lts as lts
-use Rattle.differentiate.proofs.write_derivative.Reads as write-derivative-reads
-use Rattle.reader.proofs.is_formula.Reads as is-formula-reads
-use Rattle.reader.proofs.within_limits.Reads as within-limits-reads
-use Rattle.survey.proofs.survey_formula.Reads as survey-formula-reads
-use Rattle.survey.proofs.with_primal.Reads as with-primal-reads
 
 is-formula-requires : tie.Need-is-formula-requires
 is-formula-requires c κs = search needs

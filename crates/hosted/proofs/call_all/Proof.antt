@@ -5,7 +5,7 @@ use borrow.Author.Needs.{needs}
 use lib.ListN.{length}
 use lib.Seq.{length-take-le}
 use Rattle.run.specs.Views.{supplied-of}
-use Rattle.play.proofs.Loops.{again-long}
+use Rattle.demand.proofs.Loops.{again-long}
 use Rattle.hosted.proofs.Loops.{Inv, inv-end, inv-start, inv-step}
 use Rattle.hosted.proofs.call_all.Statement.{statement}
 use Rattle.hosted.proofs.call_all.Tie as tie

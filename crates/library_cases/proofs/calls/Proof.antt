@@ -1,13 +1,10 @@
 use mathlib.Core.Path.{_≡_, refl, _∙_}
 use Prim.Native.Nat.{_-_, _≤_}
 use native.Mathlib.Omega.{arith}
-use borrow.Author.Needs.{needs}
 use lib.ListN.{length}
+use borrow.Author.Needs.{needs}
 use Rattle.library_cases.proofs.calls.Statement.{statement}
 use Rattle.library_cases.proofs.calls.Tie as tie
-use Rattle.library_cases.proofs.calls.Reads as reads
-use Rattle.library_cases.proofs.calls.Lts as lts
-use Rattle.library_cases.proofs.call.Reads as call-reads
 
 abbrev Inv-loop : tie.InvT-loop
 Inv-loop count program inputs registers₀ path₀ i₀ registers path i = (i ≤ count) × (length registers ≡ length registers₀) × (length path ≡ length path₀)
@@ -15,35 +12,30 @@ Inv-loop count program inputs registers₀ path₀ i₀ registers path i = (i �
 abbrev μ-loop : tie.MeasureT-loop
 μ-loop count program inputs registers₀ path₀ i₀ registers path i = count - i
 
--- src/main.rt:305:5
 loop-holds : tie.Need-loop-holds Inv-loop μ-loop
 loop-holds c = (omega arith, refl, refl)
 
--- src/main.rt:306:13
 call-requires : tie.Need-call-requires Inv-loop μ-loop
 call-requires c κs = search needs
 
--- src/main.rt:308:13
 same-length : tie.Need-same-length Inv-loop μ-loop
 same-length c = c .before .before .before .before .before .call .kept .1 .1 .0 ∙ c .before .before .before .before .before .before .before .before .before .loop .inv .1
 
--- src/main.rt:308:13
 same-length-2 : tie.Need-same-length-2 Inv-loop μ-loop
 same-length-2 c = c .before .before .before .before .before .call .kept .1 .1 .1 .0 ∙ c .before .before .before .before .before .before .before .before .before .loop .inv .2
 
--- src/main.rt:308:13
 returns : tie.Need-returns Inv-loop μ-loop
 returns c = search needs
 
--- src/main.rt:310:9
 add-i : tie.Need-add-i Inv-loop μ-loop
-add-i c = omega (arith, c .before .before .before .before .before .before .before .before .loop-test .taken, c .before .before .before .before .before .before .before .before .before .before .before .before .before .before .fits .count)
+add-i c =
+    let fits = c .before .before .before .before .before .before .before .before .before .before .before .before .before .before .fits in
+    let loop-test = c .before .before .before .before .before .before .before .before .loop-test in
+    omega (arith, loop-test .taken, fits .count)
 
--- src/main.rt:305:5
 loop-less : tie.Need-loop-less Inv-loop μ-loop
 loop-less c = omega (arith, c .before .before .before .before .before .before .before .before .loop-test .taken)
 
--- src/main.rt:305:5
 loop-again : tie.Need-loop-again Inv-loop μ-loop
 loop-again c =
     let loop = c .before .before .before .before .before .before .before .before .before .loop in
@@ -51,15 +43,12 @@ loop-again c =
     let call = c .before .before .before .before .before .call in
     (omega (arith, loop-test .taken), call .kept .1 .1 .0 ∙ loop .inv .1, call .kept .1 .1 .1 .0 ∙ loop .inv .2)
 
--- src/main.rt:297:1
 same-length-3 : tie.Need-same-length-3 Inv-loop μ-loop
 same-length-3 c = c .before .loop .inv .1
 
--- src/main.rt:297:1
 same-length-4 : tie.Need-same-length-4 Inv-loop μ-loop
 same-length-4 c = c .before .loop .inv .2
 
--- src/main.rt:297:1
 returns-2 : tie.Need-returns-2 Inv-loop μ-loop
 returns-2 c = search needs
 

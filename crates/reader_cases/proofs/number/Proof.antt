@@ -1,8 +1,9 @@
-use Rattle.reader_cases.proofs.number.Statement.{statement}
-use Rattle.reader_cases.proofs.number.Tie as tie
 use Prim.Native.Nat.{_-_, _<_}
 use native.Mathlib.Omega.{arith}
 use lib.ListN.{length}
+use borrow.Author.Needs.{needs}
+use Rattle.reader_cases.proofs.number.Statement.{statement}
+use Rattle.reader_cases.proofs.number.Tie as tie
 
 abbrev Inv-loop : tie.InvT-loop
 Inv-loop line at i₀ n₀ i n = n < 10000000000
@@ -17,7 +18,7 @@ shared-slice-read-wrapping-sub-u8 : tie.Need-shared-slice-read-wrapping-sub-u8 I
 shared-slice-read-wrapping-sub-u8 c = omega arith
 
 wrapping-sub-u8-requires : tie.Need-wrapping-sub-u8-requires Inv-loop μ-loop
-wrapping-sub-u8-requires c κs = tt
+wrapping-sub-u8-requires c κs = search needs
 
 returns : tie.Need-returns Inv-loop μ-loop
 returns c = omega arith

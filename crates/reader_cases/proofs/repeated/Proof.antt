@@ -1,51 +1,40 @@
-use Rattle.reader_cases.proofs.repeated.Statement.{statement}
-use Rattle.reader_cases.proofs.repeated.Tie as tie
-use Prim.Native.Nat.{_-_, _≤_}
 use mathlib.Core.Path.{_≡_, refl, _∙_}
+use Prim.Native.Nat.{_-_, _≤_}
 use native.Mathlib.Omega.{arith}
 use lib.ListN.{length, length-set}
+use borrow.Author.Needs.{needs}
+use Rattle.reader_cases.proofs.repeated.Statement.{statement}
+use Rattle.reader_cases.proofs.repeated.Tie as tie
 
 abbrev Inv-loop : tie.InvT-loop
-Inv-loop nodes first last out₀ n middle total k₀ out k = (k ≤ length out₀) × (length out ≡ length out₀)
+Inv-loop nodes first last out₀ n middle end k₀ out k = length out ≡ length out₀
 
 abbrev μ-loop : tie.MeasureT-loop
-μ-loop nodes first last out₀ n middle total k₀ out k = length out₀ - k
+μ-loop nodes first last out₀ n middle end k₀ out k = end - k
 
 wrapping-sub-usize-requires : tie.Need-wrapping-sub-usize-requires Inv-loop μ-loop
-wrapping-sub-usize-requires c κs = tt
+wrapping-sub-usize-requires c κs = search needs
 
-wrapping-add-usize-requires : tie.Need-wrapping-add-usize-requires Inv-loop μ-loop
-wrapping-add-usize-requires c κs = tt
+plus-requires : tie.Need-plus-requires Inv-loop μ-loop
+plus-requires c κs = search needs
 
-wrapping-add-usize-requires-2 : tie.Need-wrapping-add-usize-requires-2 Inv-loop μ-loop
-wrapping-add-usize-requires-2 c κs = tt
+plus-requires-2 : tie.Need-plus-requires-2 Inv-loop μ-loop
+plus-requires-2 c κs = search needs
+
+cut-requires : tie.Need-cut-requires Inv-loop μ-loop
+cut-requires c κs = search needs
+
+mul-cut : tie.Need-mul-cut Inv-loop μ-loop
+mul-cut c = search needs
+
+cut-requires-2 : tie.Need-cut-requires-2 Inv-loop μ-loop
+cut-requires-2 c κs = search needs
 
 loop-holds : tie.Need-loop-holds Inv-loop μ-loop
-loop-holds c = (omega arith, refl)
+loop-holds c = refl
 
-same-length : tie.Need-same-length Inv-loop μ-loop
-same-length c = c .before .before .loop .inv .1
-
-returns : tie.Need-returns Inv-loop μ-loop
-returns c = omega arith
-
-wrapping-add-usize-requires-3 : tie.Need-wrapping-add-usize-requires-3 Inv-loop μ-loop
-wrapping-add-usize-requires-3 c κs = tt
-
-wrapping-sub-usize-requires-2 : tie.Need-wrapping-sub-usize-requires-2 Inv-loop μ-loop
-wrapping-sub-usize-requires-2 c κs = tt
-
-wrapping-sub-usize-requires-3 : tie.Need-wrapping-sub-usize-requires-3 Inv-loop μ-loop
-wrapping-sub-usize-requires-3 c κs = tt
-
-mul-byte : tie.Need-mul-byte Inv-loop μ-loop
-mul-byte c = omega arith
-
-add-byte : tie.Need-add-byte Inv-loop μ-loop
-add-byte c = omega arith
-
-byte-requires : tie.Need-byte-requires Inv-loop μ-loop
-byte-requires c κs = tt
+repeated-byte-requires : tie.Need-repeated-byte-requires Inv-loop μ-loop
+repeated-byte-requires c κs = search needs
 
 slice-write-out : tie.Need-slice-write-out Inv-loop μ-loop
 slice-write-out c = omega arith
@@ -57,15 +46,13 @@ loop-less : tie.Need-loop-less Inv-loop μ-loop
 loop-less c = omega arith
 
 loop-again : tie.Need-loop-again Inv-loop μ-loop
-loop-again c =
-    let loop = c .before .before .before .before .before .before .loop in
-    (omega arith, length-set (loop .out) (loop .k) (c .byte .result) ∙ loop .inv .1)
+loop-again c = length-set (c .before .before .loop .out) (c .before .before .loop .k) (c .repeated-byte .result) ∙ c .before .before .loop .inv
 
-same-length-2 : tie.Need-same-length-2 Inv-loop μ-loop
-same-length-2 c = c .before .loop .inv .1
+same-length : tie.Need-same-length Inv-loop μ-loop
+same-length c = c .before .loop .inv
 
-returns-2 : tie.Need-returns-2 Inv-loop μ-loop
-returns-2 c = omega arith
+returns : tie.Need-returns Inv-loop μ-loop
+returns c = search needs
 
 pub repeated-spec : {M : Type 1} → statement M
 repeated-spec =
@@ -74,20 +61,16 @@ repeated-spec =
     Inv-loop
     μ-loop
     wrapping-sub-usize-requires
-    wrapping-add-usize-requires
-    wrapping-add-usize-requires-2
+    plus-requires
+    plus-requires-2
+    cut-requires
+    mul-cut
+    cut-requires-2
     loop-holds
-    same-length
-    returns
-    wrapping-add-usize-requires-3
-    wrapping-sub-usize-requires-2
-    wrapping-sub-usize-requires-3
-    mul-byte
-    add-byte
-    byte-requires
+    repeated-byte-requires
     slice-write-out
     add-k
     loop-less
     loop-again
-    same-length-2
-    returns-2)
+    same-length
+    returns)

@@ -1,7 +1,8 @@
-use Rattle.reader_cases.proofs.same_kinds.Statement.{statement}
-use Rattle.reader_cases.proofs.same_kinds.Tie as tie
 use Prim.Native.Nat.{_-_, _≤_}
 use native.Mathlib.Omega.{arith}
+use borrow.Author.Needs.{needs}
+use Rattle.reader_cases.proofs.same_kinds.Statement.{statement}
+use Rattle.reader_cases.proofs.same_kinds.Tie as tie
 
 abbrev Inv-loop : tie.InvT-loop
 Inv-loop line count kinds i₀ i = i ≤ 256
@@ -12,23 +13,14 @@ abbrev μ-loop : tie.MeasureT-loop
 loop-holds : tie.Need-loop-holds Inv-loop μ-loop
 loop-holds c = omega arith
 
-element-copy-out-kind : tie.Need-element-copy-out-kind Inv-loop μ-loop
-element-copy-out-kind c = omega arith
+element-copy-out-if1 : tie.Need-element-copy-out-if1 Inv-loop μ-loop
+element-copy-out-if1 c = search needs
 
-add-byte : tie.Need-add-byte Inv-loop μ-loop
-add-byte c = omega arith
-
-byte-requires : tie.Need-byte-requires Inv-loop μ-loop
-byte-requires c κs = tt
-
-wrapping-add-u8-requires : tie.Need-wrapping-add-u8-requires Inv-loop μ-loop
-wrapping-add-u8-requires c κs = tt
+recorded-kind-requires : tie.Need-recorded-kind-requires Inv-loop μ-loop
+recorded-kind-requires c κs = search needs
 
 returns : tie.Need-returns Inv-loop μ-loop
-returns c = tt
-
-returns-2 : tie.Need-returns-2 Inv-loop μ-loop
-returns-2 c = tt
+returns c = search needs
 
 add-i : tie.Need-add-i Inv-loop μ-loop
 add-i c = omega arith
@@ -39,8 +31,8 @@ loop-less c = omega arith
 loop-again : tie.Need-loop-again Inv-loop μ-loop
 loop-again c = omega arith
 
-returns-3 : tie.Need-returns-3 Inv-loop μ-loop
-returns-3 c = tt
+returns-2 : tie.Need-returns-2 Inv-loop μ-loop
+returns-2 c = search needs
 
 pub same-kinds-spec : {M : Type 1} → statement M
 same-kinds-spec =
@@ -49,13 +41,10 @@ same-kinds-spec =
     Inv-loop
     μ-loop
     loop-holds
-    element-copy-out-kind
-    add-byte
-    byte-requires
-    wrapping-add-u8-requires
+    element-copy-out-if1
+    recorded-kind-requires
     returns
-    returns-2
     add-i
     loop-less
     loop-again
-    returns-3)
+    returns-2)
