@@ -5,7 +5,7 @@ use std::process::Command;
 use vebrostin::slices::{self, PATH, REPORT};
 
 /// The formulas counted, by name.
-const FORMULAS: [&str; 4] = ["arithmetic", "branches", "Min", "powers"];
+const FORMULAS: [&str; 5] = ["flight", "arithmetic", "branches", "Min", "powers"];
 
 /// What is counted: its name here, its name in the table, and whether it is counted for each VM instruction (else for each node).
 const WORKS: [(&str, &str, bool); 7] = [
@@ -20,6 +20,7 @@ const WORKS: [(&str, &str, bool); 7] = [
 
 fn formula(name: &str) -> Vec<u8> {
     match name {
+        "flight" => formulas::flight(),
         "arithmetic" => formulas::arithmetic(128),
         "branches" => formulas::branches(28),
         "Min" => formulas::list(64),
