@@ -28,7 +28,7 @@ use Rattle.instruction.specs.declared.Progress.the-variants as P
 use Rattle.instruction.specs.Progressing.{Progressed, machine-effect}
 use Rattle.instruction.proofs.Done.{value-done}
 use Rattle.instruction.proofs.Opcodes.{lt-or-ge}
-use Rattle.run.specs.Calls.{Reaches, Results, after, putting, single, stale-at, steps-at, unasked, unfit-at}
+use Rattle.run.specs.Calls.{Reaches, Results, after, log-opcode, putting, single, stale-at, steps-at, unasked, unfit-at}
 use Rattle.run.specs.Views.{answer-of, reply-of}
 use Rattle.run.specs.declared.Reply.{Reply}
 use Rattle.run.proofs.Late.{stale-is, stale-past}
@@ -125,14 +125,14 @@ module _ (v : Float) where
 -- ---- the instruction
 
 module _ (inputs : List Float) (b : List ℕ) (at : ℕ) (regs : List Float) (v : Float) where
-  of-log : byte-at b (slot-at at) ≡ 21 → effect-at inputs b at (v ∷ []) regs ≡ Work (Value v)
+  of-log : byte-at b (slot-at at) ≡ log-opcode → effect-at inputs b at (v ∷ []) regs ≡ Work (Value v)
   unfolding effect-at op-at
   of-log e = rw e
 
-  either-log : (f : ℕ) (x : Float) (l : Bool) → eqb f 1 ≡ l → (not l || eqb (byte-at b (slot-at at)) 21) ≡ true
+  either-log : (f : ℕ) (x : Float) (l : Bool) → eqb f 1 ≡ l → (not l || eqb (byte-at b (slot-at at)) log-opcode) ≡ true
       → putting (elementary f x) (effect-at inputs b at [] regs) ≡ true → effect-at inputs b at (v ∷ []) regs ≡ Work (Value v)
   unfolding effect-at
-  either-log f x true e s p = of-log (eqb→eq (byte-at b (slot-at at)) 21 (rw s tt))
+  either-log f x true e s p = of-log (eqb→eq (byte-at b (slot-at at)) log-opcode (rw s tt))
   either-log f x false e s p = of-op v inputs (op-at b at) at regs (elementary f x) (λ z. never (sym e ∙ eq-eqb f 1 z)) p
 
   single-result : (q : Question) → single b at (some q) ≡ true → putting q (effect-at inputs b at [] regs) ≡ true → effect-at inputs b at (v ∷ []) regs ≡ Work (Value v)

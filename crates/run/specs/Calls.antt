@@ -110,10 +110,13 @@ abbrev pub unasked : Effect → Option Question → Option Float → Bool
 unasked e none given = present given
 unasked e (some q) given = not (putting q e)
 
--- a first question, of whose instruction no other can come: Hill and density begin with a Log, and opcode 21 is Log
+-- a first question, of whose instruction no other can come: Hill and density begin with a Log
+abbrev pub log-opcode : ℕ
+log-opcode = 21
+
 abbrev pub single : List ℕ → ℕ → Option Question → Bool
 single b n none = false
-single b n (some (elementary f x)) = not (eqb f 1) || eqb (byte-at b (slot-at n)) 21
+single b n (some (elementary f x)) = not (eqb f 1) || eqb (byte-at b (slot-at n)) log-opcode
 single b n (some (power x y)) = true
 
 -- the value supplied is the instruction's result
