@@ -48,7 +48,7 @@ pub fn value_at(xs: &[f64], i: usize) -> f64
     0.0
 }
 
-fn store(xs: &mut [f64], i: usize, v: f64)
+pub fn store(xs: &mut [f64], i: usize, v: f64)
     ensures { λ r. ⌜ now (xs .exit) ≡ set (now (xs .entry)) i v ⌝ }
 {
     if i < xs.len() {

@@ -1,5 +1,6 @@
 pub mod Tags
 pub mod Looping
 pub mod Late
+pub mod Single
 pub mod Whole
 pub mod Progress

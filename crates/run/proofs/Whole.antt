@@ -43,7 +43,7 @@ pub settled : (b : List ℕ) (room : ℕ) → (ltb room 8192 || valid (program-a
 settled b room e = by (ltb room 8192) (λ t. ltb-true room 8192 t) e
   where
     by : (x : Bool) → (x ≡ true → room < 8192) → (x || valid (program-at b)) ≡ true → Settled b room
-    by true f e = inr (f refl)
+    by true f e = inr (let h = f refl in omega arith)
     by false f e = inl e
 
 pub unsettled : (b : List ℕ) (room : ℕ) → (ltb room 8192 || valid (program-at b)) ≡ false → (8192 ≤ room) × (valid (program-at b) ≡ false)

@@ -1,18 +1,20 @@
 -- The machine's calls on the program that the bytes are, and the parts of them.
 use mathlib.Core.Path.{_≡_}
-use mathlib.Core.Bool.{Bool, true, false, not}
+use mathlib.Core.Bool.{Bool, true, false, not, _||_}
 use mathlib.Core.List.{List, [], _∷_, _++_}
 use mathlib.Core.Logic.{_⊎_}
 use mathlib.Core.Option.{Option, none, some}
 use Prim.Native.Nat.{ℕ, _+_, _-_, _≤_, _<_}
 use lib.ListN.{getD, take}
+use lib.Dec.{eqb}
 use lib.Ieee.{Float, binary64}
-use Rattle.arithmetic.specs.Value.{0f}
+use Rattle.arithmetic.specs.Value.{0f, finite}
+use Rattle.formula.specs.Text.{byte-at}
 use Rattle.formula.specs.Path.{path-room}
 use Rattle.meaning.specs.Work.{Question, elementary, power, same-question}
 use Rattle.machine.specs.Program.{valid}
 use Rattle.machine.specs.Machine as Machine
-use Rattle.layout.specs.Decode.{code-count, path-number, program-at, raw-program, result-at}
+use Rattle.layout.specs.Decode.{code-count, path-number, program-at, raw-program, result-at, slot-at}
 use Rattle.work.specs.declared.Kept.{Kept}
 use Rattle.work.specs.declared.Outcome.the-variants as Outcome
 use Rattle.instruction.specs.declared.Effect.{Effect}
@@ -107,6 +109,22 @@ pub record Finished (b : List ℕ) (done : ℕ) (r : Reply) (regs : List Float) 
 abbrev pub unasked : Effect → Option Question → Option Float → Bool
 unasked e none given = present given
 unasked e (some q) given = not (putting q e)
+
+-- a first question, of whose instruction no other can come: Hill and density begin with a Log
+abbrev pub log-opcode : ℕ
+log-opcode = 21
+
+abbrev pub single : List ℕ → ℕ → Option Question → Bool
+single b n none = false
+single b n (some (elementary f x)) = not (eqb f 1) || eqb (byte-at b (slot-at n)) log-opcode
+single b n (some (power x y)) = true
+
+-- the value supplied is the instruction's result
+pub record Results (b : List ℕ) (at : ℕ) (kept : List Float) (pending : Option Question) (given : Option Float) (v : Float) : Type 0 where
+  pub given-is : given ≡ some v
+  pub is-finite : finite v ≡ true
+  pub none-kept : kept ≡ []
+  pub is-single : single b at pending ≡ true
 
 -- one value more, of nine at most
 abbrev pub supplying : List Float → Option Float → List Float

@@ -1,8 +1,8 @@
 // Run and resume of a program's bytes (reference `evaluate_into`).
 ghost use mathlib.Core.Path.{_≡_};
-ghost use mathlib.Core.Bool.{true, not, _||_};
-ghost use mathlib.Core.List.{[]};
-ghost use mathlib.Core.Option.{none};
+ghost use mathlib.Core.Bool.{true, false, not, _||_};
+ghost use mathlib.Core.List.{[], _∷_};
+ghost use mathlib.Core.Option.{none, some};
 ghost use Prim.Native.Nat.{_<_, _≤_};
 ghost use lib.ListN.{length};
 ghost use lib.Dec.{ltb};
@@ -16,9 +16,11 @@ ghost use Rattle.machine.specs.Machine.{fresh, number-of, place-of};
 ghost use Rattle.machine.specs.Progress.{Lawful};
 ghost use Rattle.layout.specs.Decode.{code-count, program-at, slot-at};
 ghost use Rattle.work.specs.View.{kept-values};
+ghost use Rattle.work.specs.declared.Outcome.the-variants.{Value};
+ghost use Rattle.instruction.specs.Effects.{effect-at};
 ghost use Rattle.instruction.specs.declared.Effect.the-variants.{Work};
 ghost use Rattle.run.specs.Views.{Hands-back, Writable, answer-of, pending-of, refusal-number, reply-of, state-of, supplied-of};
-ghost use Rattle.run.specs.Calls.{Finished, Known-place, Reaches, putting, refusing, replying, resume-at, run-at, Long-enough, Settled, stale-at, steps-at, stopping, supplying, unasked, unfit-at};
+ghost use Rattle.run.specs.Calls.{Finished, Known-place, Reaches, Results, putting, refusing, replying, resume-at, run-at, Long-enough, Settled, single, stale-at, steps-at, stopping, supplying, unasked, unfit-at};
 use instruction::Effect;
 use instruction::Progress;
 use instruction::common::NOT_DONE;
@@ -347,13 +349,91 @@ fn stale(p: &[u8], inputs: &[f64], regs: &[f64], state: State, supplied: Supplie
     other_question(e, pending, supplied)
 }
 
-// The values kept, and one more.
-fn supply(kept: Kept, supplied: Supplied) -> Kept
-    ensures { λ r. ⌜ kept-values r ≡ supplying (kept-values kept) (supplied-of supplied) ⌝ }
+// Whether the instruction that put this question, nothing kept, puts no other. Hill and density begin with a Log.
+fn is_single(p: &[u8], position: usize, pending: Pending) -> bool
+    requires { ⌜ position < 4294967296 ⌝ }
+    ensures { λ r. ⌜ r ≡ single (now (p .entry)) position (pending-of pending) ⌝ }
 {
+    match pending {
+        Pending::Nothing => false,
+        Pending::Elementary(f, x) => {
+            if f != 1 {
+                return true;
+            }
+            reader::byte(p, HEADER_SIZE + SLOT_SIZE * position) == 21
+        }
+        Pending::Power(x, y) => true,
+    }
+}
+
+// Whether the value supplied is the instruction's result.
+fn is_result(p: &[u8], position: usize, kept: Kept, pending: Pending, value: f64) -> bool
+    requires { ⌜ position < 4294967296 ⌝ }
+    ensures { λ r. ⌜ (r ≡ true → Results (now (p .entry)) position (kept-values kept) (pending-of pending) (some value) value) ⌝ }
+{
+    if kept.count != 0 {
+        return false;
+    }
+    let only = is_single(p, position, pending);
+    if only {
+        return floats::value::is_finite(value);
+    }
+    false
+}
+
+// Goes on after an instruction whose result was supplied.
+fn answered(
+    p: &[u8],
+    inputs: &[f64],
+    regs: &mut [f64],
+    budget: usize,
+    position: usize,
+    value: f64,
+) -> Reply
+    requires { ⌜ (0 < budget) × (position < code-count (now p)) × (position < 4294967296) × (finite value ≡ true) × (effect-at (now inputs) (now p) position (value ∷ []) (now regs) ≡ Work (Value value)) ⌝ }
+    ensures reply { λ r. ⌜ reply-of (now (p .entry)) r (now (regs .exit)) ≡ steps-at (now (inputs .entry)) (now (p .entry)) budget position (value ∷ []) (now (regs .entry)) ⌝ }
+    ensures place { λ r. ⌜ Known-place (now (p .entry)) (r .answer) ⌝ }
+{
+    let to = word(p, HEADER_SIZE + SLOT_SIZE * position + 4);
+    instruction::store(regs, to, value);
+    let none = work::fresh();
+    let r = steps(p, inputs, regs, budget - 1, position + 1, none);
+    let answer = r.answer;
+    let state = r.state;
+    Reply {
+        answer: answer,
+        count: r.count + 1,
+        state: state,
+    }
+}
+
+// A state that fits goes on, with the value supplied.
+fn goes(
+    p: &[u8],
+    inputs: &[f64],
+    regs: &mut [f64],
+    budget: usize,
+    state: State,
+    supplied: Supplied,
+) -> Reply
+    requires { ⌜ (0 < budget) × (stale-at (now inputs) (now p) (now regs) (state .position) (kept-values (state .kept)) (pending-of (state .pending)) (supplied-of supplied) ≡ false) ⌝ }
+    ensures reply { λ r. ⌜ reply-of (now (p .entry)) r (now (regs .exit)) ≡ steps-at (now (inputs .entry)) (now (p .entry)) budget (state .position) (supplying (kept-values (state .kept)) (supplied-of supplied)) (now (regs .entry)) ⌝ }
+    ensures place { λ r. ⌜ Known-place (now (p .entry)) (r .answer) ⌝ }
+{
+    let code = word(p, CODE_AT);
+    let position = state.position;
+    let kept = state.kept;
     match supplied {
-        Supplied::Nothing => kept,
-        Supplied::Value(x) => work::keep(kept, x),
+        Supplied::Nothing => steps(p, inputs, regs, budget, position, kept),
+        Supplied::Value(x) => {
+            let pending = state.pending;
+            let direct = is_result(p, position, kept, pending, x);
+            if direct {
+                return answered(p, inputs, regs, budget, position, x);
+            }
+            let k = work::keep(kept, x);
+            steps(p, inputs, regs, budget, position, k)
+        }
     }
 }
 
@@ -436,10 +516,7 @@ fn resume_reply(
     if late {
         return refusal(STALE_STATE, state);
     }
-    let position = state.position;
-    let kept = state.kept;
-    let k = supply(kept, supplied);
-    steps(p, inputs, regs, budget, position, k)
+    goes(p, inputs, regs, budget, state, supplied)
 }
 
 // A run without the check of the bytes. Where they are a program, or the path slice is too short, it is `run`. Otherwise

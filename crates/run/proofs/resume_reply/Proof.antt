@@ -2,6 +2,8 @@ use mathlib.Core.Path.{refl, sym, _∙_}
 use native.Mathlib.Omega.{arith}
 use Rattle.work.specs.View.{kept-values}
 use Rattle.run.specs.Views.{state-of, supplied-of}
+use Rattle.run.specs.Calls.{supplying}
+use Rattle.run.proofs.Single.{budget-left}
 use Rattle.run.proofs.Whole.{refused-back, refused-is, refused-plain, resume-5, resume-11, resume-goes, steps-back, steps-writable}
 use borrow.Author.Needs.{needs}
 use Rattle.run.proofs.resume_reply.Statement.{statement}
@@ -55,33 +57,33 @@ returns-2 c =
       ),
     )
 
-supply-requires : tie.Need-supply-requires
-supply-requires c κs = search needs
-
-steps-requires : tie.Need-steps-requires
-steps-requires c κs = search needs
+goes-requires : tie.Need-goes-requires
+goes-requires c κs =
+    let args = c .before .before .before .before .before .before .before .before .before .before .args in (
+      budget-left (args .inputs .now) (args .p .now) (args .regs .now) (args .budget) (sym (c .before .before .before .before .before .unfit .ensures) ∙ c .before .before .before .before .if1 .left),
+      sym (c .before .before .stale .ensures) ∙ c .before .if2 .left,
+    )
 
 same-length-3 : tie.Need-same-length-3
 same-length-3 c = search needs
 
 returns-3 : tie.Need-returns-3
 returns-3 c =
-    let args = c .before .before .before .before .before .before .before .before .before .before .before .before .before .before .before .args in
-    let unfit = c .before .before .before .before .before .before .before .before .before .before .unfit in
-    let if1 = c .before .before .before .before .before .before .before .before .before .if1 in
-    let stale = c .before .before .before .before .before .before .before .stale in
-    let if2 = c .before .before .before .before .before .before .if2 in
-    let supply = c .before .before .before .before .supply in
-    let steps = c .before .before .steps in
-    let the-kept-values = kept-values (supply .result) in (
-      λ v room l. steps .ensures .0
-          ∙ resume-goes (args .inputs .now) (args .p .now) room (args .budget) (args .regs .now) (supplied-of (args .supplied)) (state-of (args .state))
-          the-kept-values (supply .ensures) l v (sym (unfit .ensures) ∙ if1 .left) (sym (stale .ensures) ∙ if2 .left),
+    let args = c .before .before .before .before .before .before .before .before .before .before .before .before .before .args in
+    let unfit = c .before .before .before .before .before .before .before .before .unfit in
+    let if1 = c .before .before .before .before .before .before .before .if1 in
+    let stale = c .before .before .before .before .before .stale in
+    let if2 = c .before .before .before .before .if2 in
+    let goes = c .before .before .goes in
+    let s = args .state in
+    let ks = supplying (kept-values (s .kept)) (supplied-of (args .supplied)) in (
+      λ v room l. goes .ensures .0
+          ∙ resume-goes (args .inputs .now) (args .p .now) room (args .budget) (args .regs .now) (supplied-of (args .supplied)) (state-of s)
+          ks refl l v (sym (unfit .ensures) ∙ if1 .left) (sym (stale .ensures) ∙ if2 .left),
       (
-        λ v. steps-writable (args .inputs .now) (args .p .now) 8192 (args .budget) (args .state .position) the-kept-values (args .regs .now) _
-            (steps .result) v (omega arith) (steps .ensures .0) (steps .ensures .1),
-        steps-back (args .inputs .now) (args .p .now) (args .budget) (args .state .position) the-kept-values (args .regs .now) _ (steps .result) (args .state)
-            (steps .ensures .0),
+        λ v. steps-writable (args .inputs .now) (args .p .now) 8192 (args .budget) (s .position) ks (args .regs .now) _
+            (goes .result) v (omega arith) (goes .ensures .0) (goes .ensures .1),
+        steps-back (args .inputs .now) (args .p .now) (args .budget) (s .position) ks (args .regs .now) _ (goes .result) s (goes .ensures .0),
       ),
     )
 
@@ -97,7 +99,6 @@ resume-reply-spec =
     refusal-requires-2
     same-length-2
     returns-2
-    supply-requires
-    steps-requires
+    goes-requires
     same-length-3
     returns-3)
