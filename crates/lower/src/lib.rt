@@ -562,7 +562,20 @@ fn lower(
     if left == 1 {
         return node(b, p, kinds, l, site.path, site.length, d, at, next, c);
     }
-    link(b, p, kinds, l, site.path, site.length, conjunction, left, d, at, next, c)
+    link(
+        b,
+        p,
+        kinds,
+        l,
+        site.path,
+        site.length,
+        conjunction,
+        left,
+        d,
+        at,
+        next,
+        c,
+    )
 }
 
 // A node at its own site.
@@ -609,7 +622,20 @@ fn node(
             return closed(Low::Fault(INVALID_INPUT, k), c);
         }
         let conjunction = f.operator == 0;
-        return link(b, p, kinds, l, k, long, conjunction, f.children, d - 1, next, path, c);
+        return link(
+            b,
+            p,
+            kinds,
+            l,
+            k,
+            long,
+            conjunction,
+            f.children,
+            d - 1,
+            next,
+            path,
+            c,
+        );
     }
     let choice = chooses(f);
     if choice {
@@ -625,7 +651,22 @@ fn node(
     }
     let want = takes(f.kind, f.operator);
     let lists = listing(f.kind, f.operator);
-    let m = operands(b, p, kinds, l, k, long, want, lists, 0, f.children, d - 1, next, path, c);
+    let m = operands(
+        b,
+        p,
+        kinds,
+        l,
+        k,
+        long,
+        want,
+        lists,
+        0,
+        f.children,
+        d - 1,
+        next,
+        path,
+        c,
+    );
     let o = opened(m, c);
     let Low::Done(w, _) = o else {
         return m;
@@ -666,9 +707,39 @@ fn link(
         return n;
     };
     if conjunction {
-        return branch(b, p, kinds, l, k, long, v, conjunction, left - 1, 0, d, c[0], c[3], c);
+        return branch(
+            b,
+            p,
+            kinds,
+            l,
+            k,
+            long,
+            v,
+            conjunction,
+            left - 1,
+            0,
+            d,
+            c[0],
+            c[3],
+            c,
+        );
     }
-    branch(b, p, kinds, l, k, long, v, conjunction, 0, left - 1, d, c[0], c[3], c)
+    branch(
+        b,
+        p,
+        kinds,
+        l,
+        k,
+        long,
+        v,
+        conjunction,
+        0,
+        left - 1,
+        d,
+        c[0],
+        c[3],
+        c,
+    )
 }
 
 // So many registers and instructions further.
@@ -756,7 +827,21 @@ fn branch(
         put_slot(p, code, 3, 0, reg, v.a, 0, e.code + 2, k);
         put_slot(p, e.code, 2, 0, e.reg, y.a, 0, 0, k);
         ahead(c, 2);
-        let n = lower(b, p, kinds, l, k, long, 2, conjunction, no, d, e.node, e.path, c);
+        let n = lower(
+            b,
+            p,
+            kinds,
+            l,
+            k,
+            long,
+            2,
+            conjunction,
+            no,
+            d,
+            e.node,
+            e.path,
+            c,
+        );
         let o = opened(n, c);
         let Low::Done(z, _) = o else {
             return n;
@@ -812,15 +897,13 @@ fn operands(
     ensures { λ r. ⌜ Lists (layout-of (now (l .entry))) lists (terms (kids (now (b .entry)) d left at)) i (operands-piece (context-of (now (kinds .entry)) (layout-of (now (l .entry)) .generated)) want (terms (kids (now (b .entry)) d left at)) (place (layout-of (now (l .entry))) (now (p .entry)) (site-at k long)) i k (cursor-in at path (now (c .entry))) (past (now (b .entry)) d left at)) (cursor-in at path (now (c .entry))) (now (p .entry)) (now (p .exit)) (low-of r (now (c .exit))) × (length (now (c .exit)) ≡ 6) ⌝ }
 {
     if left == 0 {
-        let r = no_operands(
-            Cursor {
-                node: at,
-                reg: c[1],
-                code: c[2],
-                path: path,
-                entry: c[4],
-            },
-        );
+        let r = no_operands(Cursor {
+            node: at,
+            reg: c[1],
+            code: c[2],
+            path: path,
+            entry: c[4],
+        });
         return closed(r, c);
     }
     let m = lower(b, p, kinds, l, k, long, 3 + i, true, 1, d, at, path, c);
@@ -828,7 +911,22 @@ fn operands(
     let Low::Done(v, _) = a else {
         return m;
     };
-    let n = operands(b, p, kinds, l, k, long, want, lists, i + 1, left - 1, d, c[0], c[3], c);
+    let n = operands(
+        b,
+        p,
+        kinds,
+        l,
+        k,
+        long,
+        want,
+        lists,
+        i + 1,
+        left - 1,
+        d,
+        c[0],
+        c[3],
+        c,
+    );
     let rest = opened(n, c);
     let Low::Done(w, _) = rest else {
         return n;
@@ -836,15 +934,13 @@ fn operands(
     let alike = same(v.boolean, want);
     let first = v.a;
     list_entry(p, lists, l[1], c[4] + i, first);
-    number(
-        Value {
-            a: first,
-            b: w.a,
-            c: w.b,
-            boolean: all(alike, w.boolean),
-            dynamic: any(v.dynamic, w.dynamic, false),
-        },
-    )
+    number(Value {
+        a: first,
+        b: w.a,
+        c: w.b,
+        boolean: all(alike, w.boolean),
+        dynamic: any(v.dynamic, w.dynamic, false),
+    })
 }
 
 // A whole formula's node.
@@ -855,6 +951,17 @@ pub fn root(b: &[u8], p: &mut [u8], kinds: &[u8], l: Layout, s: Site, d: usize, 
 {
     let y = [l.paths, l.lists, bit(l.generated)];
     let mut cells = [0, c.reg, c.code, 0, c.entry, 0];
-    let n = node(b, p, kinds, &y, s.path, s.length, d, c.node, c.path, &mut cells);
+    let n = node(
+        b,
+        p,
+        kinds,
+        &y,
+        s.path,
+        s.length,
+        d,
+        c.node,
+        c.path,
+        &mut cells,
+    );
     opened(n, &cells)
 }

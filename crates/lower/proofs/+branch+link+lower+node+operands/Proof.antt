@@ -273,6 +273,7 @@ branch-same-length t c = search needs
 
 branch-returns-2 : (t : ℕ) → branch-lts.Need-returns-2 (branch-calls t) (branch-at t) branch.Post
 branch-returns-2 t c =
+    let lower-cells = c .before .before .before .before .before .before .lower .last .1 .1 .1 .1 .1 .1 .1 .1 .1 .1 .1 .1 .0 in
     let args = c .before .before .before .before .before .before .before .before .before .before .before .before .before .before .before .before .before .before .before .before .args in
     let pre = c .before .before .before .before .before .before .before .before .before .before .before .before .before .before .before .before .before .before .before .before .pre in
     let if1 = c .before .before .before .before .before .before .before .before .before .before .before .before .before .before .before .before .if1 in
@@ -287,10 +288,12 @@ branch-returns-2 t c =
     let after-yes = past b (args .d) (args .yes) (args .at) in
     let arms = choices.arms (context-of (args .kinds .now) (layout-of (args .l .now) .generated)) refl (arm b (args .d) conjunction (args .yes) (args .at))
     (arm b (args .d) conjunction (args .no) after-yes) (args .v) after-yes (past b (args .d) (args .no) after-yes) (pre .1 .0) in
-    let begun = choices.begun arms (if1 .taken) (unsupported .result) (unsupported .ensures) (if2 .left) in
-    (choices.first-refused arms begun (lower .last .1 .0) (low-of (lower .result) (lower .last .1 .1 .1 .1 .1 .1 .1 .1 .1 .1 .1 .1 .0)) given3 given2 (refused _ _ _ _ _ _ given3 given2
-    (arm-from _ _ b (args .d) conjunction (args .yes) _ _ _ _ _ _ (further (cursor-in (args .at) (args .path) (args .c .now)) 1) (ahead .ensures .0 (args .at) (args .path)) (lower .ensures .0)) (sym (c .before .before .opened .ensures) ∙ c .enum-told .given .1))
-    (sym (c .before .before .opened .ensures) ∙ c .enum-told .given .1), c .before .before .before .before .before .before .lower .ensures .1)
+    let begun = choices.begun arms (if1 .taken) (unsupported .result) (unsupported .ensures) (if2 .left) in (
+      choices.first-refused arms begun (lower .last .1 .0) (low-of (lower .result) lower-cells) given3 given2 (refused _ _ _ _ _ _ given3 given2
+          (arm-from _ _ b (args .d) conjunction (args .yes) _ _ _ _ _ _ (further (cursor-in (args .at) (args .path) (args .c .now)) 1) (ahead .ensures .0 (args .at) (args .path)) (lower .ensures .0)) (sym (c .before .before .opened .ensures) ∙ c .enum-told .given .1))
+          (sym (c .before .before .opened .ensures) ∙ c .enum-told .given .1),
+      c .before .before .before .before .before .before .lower .ensures .1,
+    )
 
 branch-element-copy-out-t31 : (t : ℕ) → branch-lts.Need-element-copy-out-t31 (branch-calls t) (branch-at t) branch.Post
 branch-element-copy-out-t31 t c = search needs
@@ -309,6 +312,8 @@ branch-element-copy-out-put-slot t c = search needs
 
 branch-add-put-slot : (t : ℕ) → branch-lts.Need-add-put-slot (branch-calls t) (branch-at t) branch.Post
 branch-add-put-slot t c =
+    let a-known = known-done _ _ _ _ _ (c .before .before .before .before .before .before .before .before .before .before .opened .ensures) (c .before .before .before .before .before .before .before .before .a .given .1) in
+    let lower-cells = c .before .before .before .before .before .before .before .before .before .before .before .before .before .before .lower .last .1 .1 .1 .1 .1 .1 .1 .1 .1 .1 .1 .1 .0 in
     let args = c .before .before .before .before .before .before .before .before .before .before .before .before .before .before .before .before .before .before .before .before .before .before .before .before .before .before .before .before .args in
     let pre = c .before .before .before .before .before .before .before .before .before .before .before .before .before .before .before .before .before .before .before .before .before .before .before .before .before .before .before .before .pre in
     let good = c .before .before .before .before .before .before .before .before .before .before .before .before .before .before .before .before .before .before .before .before .before .before .before .before .before .before .before .before .good in
@@ -324,13 +329,15 @@ branch-add-put-slot t c =
     let arms = choices.arms (context-of (args .kinds .now) (layout-of (args .l .now) .generated)) refl (arm b (args .d) conjunction (args .yes) (args .at))
     (arm b (args .d) conjunction (args .no) after-yes) (args .v) after-yes (past b (args .d) (args .no) after-yes) (pre .1 .0) in
     let begun = choices.begun arms (if1 .taken) (unsupported .result) (unsupported .ensures) (if2 .left) in
-    let first = choices.first arms begun (lower .last .1 .0) (a .given .0 .0) (cursor-of (c .before .before .before .before .before .before .before .before .before .before .before .before .before .before .lower .last .1 .1 .1 .1 .1 .1 .1 .1 .1 .1 .1 .1 .0)) (taken _ _ _ _ _ _ (a .given .0 .0)
-    (cursor-of (c .before .before .before .before .before .before .before .before .before .before .before .before .before .before .lower .last .1 .1 .1 .1 .1 .1 .1 .1 .1 .1 .1 .1 .0)) (arm-from _ _ b (args .d) conjunction (args .yes) _ _ _ _ _ _ (further (cursor-in (args .at) (args .path) (args .c .now)) 1) (ahead .ensures .0 (args .at) (args .path)) (lower .ensures .0))
-    (known-done _ _ _ _ _ (c .before .before .before .before .before .before .before .before .before .before .opened .ensures) (c .before .before .before .before .before .before .before .before .a .given .1))) in
+    let first = choices.first arms begun (lower .last .1 .0) (a .given .0 .0) (cursor-of lower-cells) (taken _ _ _ _ _ _ (a .given .0 .0)
+    (cursor-of lower-cells) (arm-from _ _ b (args .d) conjunction (args .yes) _ _ _ _ _ _ (further (cursor-in (args .at) (args .path) (args .c .now)) 1) (ahead .ensures .0 (args .at) (args .path)) (lower .ensures .0))
+    a-known) in
     omega (arith, choices.is-code arms begun first, good .1 .0 .0, (pre .1 .0) .code, (pre .1 .0) .records, (pre .1 .0) .lists)
 
 branch-put-slot-requires : (t : ℕ) → branch-lts.Need-put-slot-requires (branch-calls t) (branch-at t) branch.Post
 branch-put-slot-requires t c κs =
+    let a-known = known-done _ _ _ _ _ (c .before .before .before .before .before .before .before .before .before .before .opened .ensures) (c .before .before .before .before .before .before .before .before .a .given .1) in
+    let lower-cells = c .before .before .before .before .before .before .before .before .before .before .before .before .before .before .lower .last .1 .1 .1 .1 .1 .1 .1 .1 .1 .1 .1 .1 .0 in
     let args = c .before .before .before .before .before .before .before .before .before .before .before .before .before .before .before .before .before .before .before .before .before .before .before .before .before .before .before .before .args in
     let pre = c .before .before .before .before .before .before .before .before .before .before .before .before .before .before .before .before .before .before .before .before .before .before .before .before .before .before .before .before .pre in
     let if1 = c .before .before .before .before .before .before .before .before .before .before .before .before .before .before .before .before .before .before .before .before .before .before .before .before .if1 in
@@ -345,13 +352,15 @@ branch-put-slot-requires t c κs =
     let arms = choices.arms (context-of (args .kinds .now) (layout-of (args .l .now) .generated)) refl (arm b (args .d) conjunction (args .yes) (args .at))
     (arm b (args .d) conjunction (args .no) after-yes) (args .v) after-yes (past b (args .d) (args .no) after-yes) (pre .1 .0) in
     let begun = choices.begun arms (if1 .taken) (unsupported .result) (unsupported .ensures) (if2 .left) in
-    let first = choices.first arms begun (lower .last .1 .0) (a .given .0 .0) (cursor-of (c .before .before .before .before .before .before .before .before .before .before .before .before .before .before .lower .last .1 .1 .1 .1 .1 .1 .1 .1 .1 .1 .1 .1 .0)) (taken _ _ _ _ _ _ (a .given .0 .0)
-    (cursor-of (c .before .before .before .before .before .before .before .before .before .before .before .before .before .before .lower .last .1 .1 .1 .1 .1 .1 .1 .1 .1 .1 .1 .1 .0)) (arm-from _ _ b (args .d) conjunction (args .yes) _ _ _ _ _ _ (further (cursor-in (args .at) (args .path) (args .c .now)) 1) (ahead .ensures .0 (args .at) (args .path)) (lower .ensures .0))
-    (known-done _ _ _ _ _ (c .before .before .before .before .before .before .before .before .before .before .opened .ensures) (c .before .before .before .before .before .before .before .before .a .given .1))) in
+    let first = choices.first arms begun (lower .last .1 .0) (a .given .0 .0) (cursor-of lower-cells) (taken _ _ _ _ _ _ (a .given .0 .0)
+    (cursor-of lower-cells) (arm-from _ _ b (args .d) conjunction (args .yes) _ _ _ _ _ _ (further (cursor-in (args .at) (args .path) (args .c .now)) 1) (ahead .ensures .0 (args .at) (args .path)) (lower .ensures .0))
+    a-known) in
     (omega (arith, choices.n₁′ arms begun first, (pre .1 .0) .code, (pre .1 .0) .records, (pre .1 .0) .lists), omega arith)
 
 branch-put-slot-requires-2 : (t : ℕ) → branch-lts.Need-put-slot-requires-2 (branch-calls t) (branch-at t) branch.Post
 branch-put-slot-requires-2 t c κs =
+    let a-known = known-done _ _ _ _ _ (c .before .before .before .before .before .before .before .before .before .before .before .before .before .before .opened .ensures) (c .before .before .before .before .before .before .before .before .before .before .before .before .a .given .1) in
+    let lower-cells = c .before .before .before .before .before .before .before .before .before .before .before .before .before .before .before .before .before .before .lower .last .1 .1 .1 .1 .1 .1 .1 .1 .1 .1 .1 .1 .0 in
     let args = c .before .before .before .before .before .before .before .before .before .before .before .before .before .before .before .before .before .before .before .before .before .before .before .before .before .before .before .before .before .before .before .before .args in
     let pre = c .before .before .before .before .before .before .before .before .before .before .before .before .before .before .before .before .before .before .before .before .before .before .before .before .before .before .before .before .before .before .before .before .pre in
     let if1 = c .before .before .before .before .before .before .before .before .before .before .before .before .before .before .before .before .before .before .before .before .before .before .before .before .before .before .before .before .if1 in
@@ -362,14 +371,14 @@ branch-put-slot-requires-2 t c κs =
     let a = c .before .before .before .before .before .before .before .before .before .before .before .before .a in
     let b = args .b .now in
     let conjunction = args .conjunction in
-    let a-next = cursor-of (c .before .before .before .before .before .before .before .before .before .before .before .before .before .before .before .before .before .before .lower .last .1 .1 .1 .1 .1 .1 .1 .1 .1 .1 .1 .1 .0) in
+    let a-next = cursor-of lower-cells in
     let context = context-of (args .kinds .now) (layout-of (args .l .now) .generated) in
     let after-yes = past b (args .d) (args .yes) (args .at) in
     let yes-arm = arm b (args .d) conjunction (args .yes) (args .at) in
     let after-no = past b (args .d) (args .no) after-yes in
     let no-arm = arm b (args .d) conjunction (args .no) after-yes in
     let is-taken = taken _ _ _ _ _ _ (a .given .0 .0) a-next
-    (arm-from _ _ b (args .d) conjunction (args .yes) _ _ _ _ _ _ (further (cursor-in (args .at) (args .path) (args .c .now)) 1) (ahead .ensures .0 (args .at) (args .path)) (lower .ensures .0)) (known-done _ _ _ _ _ (c .before .before .before .before .before .before .before .before .before .before .before .before .before .before .opened .ensures) (c .before .before .before .before .before .before .before .before .before .before .before .before .a .given .1)) in
+    (arm-from _ _ b (args .d) conjunction (args .yes) _ _ _ _ _ _ (further (cursor-in (args .at) (args .path) (args .c .now)) 1) (ahead .ensures .0 (args .at) (args .path)) (lower .ensures .0)) a-known in
     let arms = choices.arms context refl yes-arm no-arm (args .v) after-yes after-no (pre .1 .0) in
     let begun = choices.begun arms (if1 .taken) (unsupported .result) (unsupported .ensures) (if2 .left) in
     let first = choices.first arms begun (lower .last .1 .0) (a .given .0 .0) a-next is-taken in (
@@ -387,6 +396,8 @@ branch-put-slot-requires-2 t c κs =
 
 branch-ahead-requires-2 : (t : ℕ) → branch-lts.Need-ahead-requires-2 (branch-calls t) (branch-at t) branch.Post
 branch-ahead-requires-2 t c κs =
+    let a-known = known-done _ _ _ _ _ (c .before .before .before .before .before .before .before .before .before .before .before .before .before .before .before .before .before .before .opened .ensures) (c .before .before .before .before .before .before .before .before .before .before .before .before .before .before .before .before .a .given .1) in
+    let lower-cells = c .before .before .before .before .before .before .before .before .before .before .before .before .before .before .before .before .before .before .before .before .before .before .lower .last .1 .1 .1 .1 .1 .1 .1 .1 .1 .1 .1 .1 .0 in
     let args = c .before .before .before .before .before .before .before .before .before .before .before .before .before .before .before .before .before .before .before .before .before .before .before .before .before .before .before .before .before .before .before .before .before .before .before .before .args in
     let pre = c .before .before .before .before .before .before .before .before .before .before .before .before .before .before .before .before .before .before .before .before .before .before .before .before .before .before .before .before .before .before .before .before .before .before .before .before .pre in
     let good = c .before .before .before .before .before .before .before .before .before .before .before .before .before .before .before .before .before .before .before .before .before .before .before .before .before .before .before .before .before .before .before .before .before .before .before .before .good in
@@ -400,7 +411,7 @@ branch-ahead-requires-2 t c κs =
     let b = args .b .now in
     let a-value = a .given .0 .0 in
     let conjunction = args .conjunction in
-    let a-next = cursor-of (c .before .before .before .before .before .before .before .before .before .before .before .before .before .before .before .before .before .before .before .before .before .before .lower .last .1 .1 .1 .1 .1 .1 .1 .1 .1 .1 .1 .1 .0) in
+    let a-next = cursor-of lower-cells in
     let lower-bytes = lower .last .1 .0 in
     let unsupported-gives = unsupported .result in
     let unsupported-says = unsupported .ensures in
@@ -410,7 +421,7 @@ branch-ahead-requires-2 t c κs =
     let after-no = past b (args .d) (args .no) after-yes in
     let no-arm = arm b (args .d) conjunction (args .no) after-yes in
     let is-taken = taken _ _ _ _ _ _ a-value a-next
-    (arm-from _ _ b (args .d) conjunction (args .yes) _ _ _ _ _ _ (further (cursor-in (args .at) (args .path) (args .c .now)) 1) (ahead .ensures .0 (args .at) (args .path)) (lower .ensures .0)) (known-done _ _ _ _ _ (c .before .before .before .before .before .before .before .before .before .before .before .before .before .before .before .before .before .before .opened .ensures) (c .before .before .before .before .before .before .before .before .before .before .before .before .before .before .before .before .a .given .1)) in
+    (arm-from _ _ b (args .d) conjunction (args .yes) _ _ _ _ _ _ (further (cursor-in (args .at) (args .path) (args .c .now)) 1) (ahead .ensures .0 (args .at) (args .path)) (lower .ensures .0)) a-known in
     let arms = choices.arms context refl yes-arm no-arm (args .v) after-yes after-no ready in
     let begun = choices.begun arms (if1 .taken) unsupported-gives unsupported-says (if2 .left) in
     let first = choices.first arms begun lower-bytes a-value a-next is-taken in (
@@ -441,6 +452,8 @@ branch-ahead-requires-2 t c κs =
 
 branch-lower-requires-2 : (t : ℕ) → branch-lts.Need-lower-requires-2 (branch-calls t) (branch-at t) branch.Post
 branch-lower-requires-2 t c κs =
+    let a-known = known-done _ _ _ _ _ (c .before .before .before .before .before .before .before .before .before .before .before .before .before .before .before .before .before .before .before .before .before .opened .ensures) (c .before .before .before .before .before .before .before .before .before .before .before .before .before .before .before .before .before .before .before .a .given .1) in
+    let lower-cells = c .before .before .before .before .before .before .before .before .before .before .before .before .before .before .before .before .before .before .before .before .before .before .before .before .before .lower .last .1 .1 .1 .1 .1 .1 .1 .1 .1 .1 .1 .1 .0 in
     let pre = c .before .before .before .before .before .before .before .before .before .before .before .before .before .before .before .before .before .before .before .before .before .before .before .before .before .before .before .before .before .before .before .before .before .before .before .before .before .before .before .pre in
     let args = c .before .before .before .before .before .before .before .before .before .before .before .before .before .before .before .before .before .before .before .before .before .before .before .before .before .before .before .before .before .before .before .before .before .before .before .before .before .before .before .args in
     let if1 = c .before .before .before .before .before .before .before .before .before .before .before .before .before .before .before .before .before .before .before .before .before .before .before .before .before .before .before .before .before .before .before .before .before .before .before .if1 in
@@ -452,7 +465,7 @@ branch-lower-requires-2 t c κs =
     let put-slot = c .before .before .before .before .before .before .before .before .before .before .put-slot in
     let put-slot2 = c .before .before .before .before .before .before .put-slot2 in
     let b = args .b .now in
-    let a-next = cursor-of (c .before .before .before .before .before .before .before .before .before .before .before .before .before .before .before .before .before .before .before .before .before .before .before .before .before .lower .last .1 .1 .1 .1 .1 .1 .1 .1 .1 .1 .1 .1 .0) in
+    let a-next = cursor-of lower-cells in
     let conjunction = args .conjunction in
     let ensures = c .before .before .ahead2 .ensures .0 (a-next .node) (a-next .path) in
     let further2 = further a-next 2 in
@@ -462,7 +475,7 @@ branch-lower-requires-2 t c κs =
     let after-no = past b (args .d) (args .no) after-yes in
     let no-arm = arm b (args .d) conjunction (args .no) after-yes in
     let is-taken = taken _ _ _ _ _ _ (a .given .0 .0) a-next
-    (arm-from _ _ b (args .d) conjunction (args .yes) _ _ _ _ _ _ (further (cursor-in (args .at) (args .path) (args .c .now)) 1) (ahead .ensures .0 (args .at) (args .path)) (lower .ensures .0)) (known-done _ _ _ _ _ (c .before .before .before .before .before .before .before .before .before .before .before .before .before .before .before .before .before .before .before .before .before .opened .ensures) (c .before .before .before .before .before .before .before .before .before .before .before .before .before .before .before .before .before .before .before .a .given .1)) in
+    (arm-from _ _ b (args .d) conjunction (args .yes) _ _ _ _ _ _ (further (cursor-in (args .at) (args .path) (args .c .now)) 1) (ahead .ensures .0 (args .at) (args .path)) (lower .ensures .0)) a-known in
     let arms = choices.arms context refl yes-arm no-arm (args .v) after-yes after-no (pre .1 .0) in
     let begun = choices.begun arms (if1 .taken) (unsupported .result) (unsupported .ensures) (if2 .left) in
     let first = choices.first arms begun (lower .last .1 .0) (a .given .0 .0) a-next is-taken in
@@ -500,8 +513,14 @@ branch-same-length-2 t c =
 
 branch-returns-3 : (t : ℕ) → branch-lts.Need-returns-3 (branch-calls t) (branch-at t) branch.Post
 branch-returns-3 t c =
-    let args = c .before .before .before .before .before .before .before .before .before .before .before .before .before .before .before .before .before .before .before .before .before .before .before .before .before .before .before .before .before .before .before .before .before .before .before .before .before .before .before .before .before .before .before .before .before .before .args in
-    let pre = c .before .before .before .before .before .before .before .before .before .before .before .before .before .before .before .before .before .before .before .before .before .before .before .before .before .before .before .before .before .before .before .before .before .before .before .before .before .before .before .before .before .before .before .before .before .before .pre in
+    let far = c .before .before .before .before .before .before .before .before .before .before .before .before .before .before .before .before .before .before .before .before .before .before .before .before .before .before .before .before .before .before in
+    let a-known-opened = c .before .before .before .before .before .before .before .before .before .before .before .before .before .before .before .before .before .before .before .before .before .before .before .before .before .before .before .before .opened in
+    let a-known-given = c .before .before .before .before .before .before .before .before .before .before .before .before .before .before .before .before .before .before .before .before .before .before .before .before .before .before .a in
+    let a-known = known-done _ _ _ _ _ (a-known-opened .ensures) (a-known-given .given .1) in
+    let lower2-cells = c .before .before .before .before .before .before .lower2 .last .1 .1 .1 .1 .1 .1 .1 .1 .1 .1 .1 .1 .0 in
+    let lower-cells = c .before .before .before .before .before .before .before .before .before .before .before .before .before .before .before .before .before .before .before .before .before .before .before .before .before .before .before .before .before .before .before .before .lower .last .1 .1 .1 .1 .1 .1 .1 .1 .1 .1 .1 .1 .0 in
+    let args = far .before .before .before .before .before .before .before .before .before .before .before .before .before .before .before .before .args in
+    let pre = far .before .before .before .before .before .before .before .before .before .before .before .before .before .before .before .before .pre in
     let if1 = c .before .before .before .before .before .before .before .before .before .before .before .before .before .before .before .before .before .before .before .before .before .before .before .before .before .before .before .before .before .before .before .before .before .before .before .before .before .before .before .before .before .before .if1 in
     let unsupported = c .before .before .before .before .before .before .before .before .before .before .before .before .before .before .before .before .before .before .before .before .before .before .before .before .before .before .before .before .before .before .before .before .before .before .before .before .before .before .before .before .unsupported in
     let if2 = c .before .before .before .before .before .before .before .before .before .before .before .before .before .before .before .before .before .before .before .before .before .before .before .before .before .before .before .before .before .before .before .before .before .before .before .before .before .before .before .if2 in
@@ -514,7 +533,7 @@ branch-returns-3 t c =
     let lower2 = c .before .before .before .before .before .before .lower2 in
     let b = args .b .now in
     let conjunction = args .conjunction in
-    let a-next = cursor-of (c .before .before .before .before .before .before .before .before .before .before .before .before .before .before .before .before .before .before .before .before .before .before .before .before .before .before .before .before .before .before .before .before .lower .last .1 .1 .1 .1 .1 .1 .1 .1 .1 .1 .1 .1 .0) in
+    let a-next = cursor-of lower-cells in
     let given4 = sym (c .before .before .opened2 .ensures) ∙ c .enum-told2 .given .1 in
     let given3 = c .enum-told2 .given .0 .0 in
     let given2 = c .enum-told2 .given .0 .1 .0 in
@@ -524,14 +543,16 @@ branch-returns-3 t c =
     let after-no = past b (args .d) (args .no) after-yes in
     let no-arm = arm b (args .d) conjunction (args .no) after-yes in
     let is-taken = taken _ _ _ _ _ _ (a .given .0 .0) a-next
-    (arm-from _ _ b (args .d) conjunction (args .yes) _ _ _ _ _ _ (further (cursor-in (args .at) (args .path) (args .c .now)) 1) (ahead .ensures .0 (args .at) (args .path)) (lower .ensures .0)) (known-done _ _ _ _ _ (c .before .before .before .before .before .before .before .before .before .before .before .before .before .before .before .before .before .before .before .before .before .before .before .before .before .before .before .before .opened .ensures) (c .before .before .before .before .before .before .before .before .before .before .before .before .before .before .before .before .before .before .before .before .before .before .before .before .before .before .a .given .1)) in
+    (arm-from _ _ b (args .d) conjunction (args .yes) _ _ _ _ _ _ (further (cursor-in (args .at) (args .path) (args .c .now)) 1) (ahead .ensures .0 (args .at) (args .path)) (lower .ensures .0)) a-known in
     let arms = choices.arms context refl yes-arm no-arm (args .v) after-yes after-no (pre .1 .0) in
     let begun = choices.begun arms (if1 .taken) (unsupported .result) (unsupported .ensures) (if2 .left) in
     let first = choices.first arms begun (lower .last .1 .0) (a .given .0 .0) a-next is-taken in
-    let copied = choices.copied arms begun first (put-slot .last .0) (put-slot2 .last .0) (put-slot .ensures) (put-slot2 .ensures) in
-    (choices.second-refused arms begun first copied (lower2 .last .1 .0) (low-of (lower2 .result) (lower2 .last .1 .1 .1 .1 .1 .1 .1 .1 .1 .1 .1 .1 .0)) given3 given2 (refused _ _ _ _ _ _ given3 given2 (arm-at _ _
-    b (args .d) conjunction (args .no) _ _ _ _ _ _ (a-next .node) after-yes (choices.is-node arms begun first)
-    (arm-from _ _ b (args .d) conjunction (args .no) _ _ _ _ _ _ (further a-next 2) (ahead2 .ensures .0 (a-next .node) (a-next .path)) (lower2 .ensures .0))) given4) given4, c .before .before .before .before .before .before .lower2 .ensures .1)
+    let copied = choices.copied arms begun first (put-slot .last .0) (put-slot2 .last .0) (put-slot .ensures) (put-slot2 .ensures) in (
+      choices.second-refused arms begun first copied (lower2 .last .1 .0) (low-of (lower2 .result) lower2-cells) given3 given2 (refused _ _ _ _ _ _ given3 given2 (arm-at _ _
+          b (args .d) conjunction (args .no) _ _ _ _ _ _ (a-next .node) after-yes (choices.is-node arms begun first)
+          (arm-from _ _ b (args .d) conjunction (args .no) _ _ _ _ _ _ (further a-next 2) (ahead2 .ensures .0 (a-next .node) (a-next .path)) (lower2 .ensures .0))) given4) given4,
+      c .before .before .before .before .before .before .lower2 .ensures .1,
+    )
 
 branch-element-copy-out-t55-2 : (t : ℕ) → branch-lts.Need-element-copy-out-t55-2 (branch-calls t) (branch-at t) branch.Post
 branch-element-copy-out-t55-2 t c = search needs
@@ -550,12 +571,19 @@ branch-element-copy-out-t49-2 t c = search needs
 
 branch-join-requires : (t : ℕ) → branch-lts.Need-join-requires (branch-calls t) (branch-at t) branch.Post
 branch-join-requires t c κs =
-    let args = c .before .before .before .before .before .before .before .before .before .before .before .before .before .before .before .before .before .before .before .before .before .before .before .before .before .before .before .before .before .before .before .before .before .before .before .before .before .before .before .before .before .before .before .before .before .before .before .before .before .before .before .before .before .args in
-    let pre = c .before .before .before .before .before .before .before .before .before .before .before .before .before .before .before .before .before .before .before .before .before .before .before .before .before .before .before .before .before .before .before .before .before .before .before .before .before .before .before .before .before .before .before .before .before .before .before .before .before .before .before .before .before .pre in
-    let good = c .before .before .before .before .before .before .before .before .before .before .before .before .before .before .before .before .before .before .before .before .before .before .before .before .before .before .before .before .before .before .before .before .before .before .before .before .before .before .before .before .before .before .before .before .before .before .before .before .before .before .before .before .before .good in
-    let if1 = c .before .before .before .before .before .before .before .before .before .before .before .before .before .before .before .before .before .before .before .before .before .before .before .before .before .before .before .before .before .before .before .before .before .before .before .before .before .before .before .before .before .before .before .before .before .before .before .before .before .if1 in
-    let unsupported = c .before .before .before .before .before .before .before .before .before .before .before .before .before .before .before .before .before .before .before .before .before .before .before .before .before .before .before .before .before .before .before .before .before .before .before .before .before .before .before .before .before .before .before .before .before .before .before .unsupported in
-    let if2 = c .before .before .before .before .before .before .before .before .before .before .before .before .before .before .before .before .before .before .before .before .before .before .before .before .before .before .before .before .before .before .before .before .before .before .before .before .before .before .before .before .before .before .before .before .before .before .if2 in
+    let far = c .before .before .before .before .before .before .before .before .before .before .before .before .before .before .before .before .before .before .before .before .before .before .before .before .before .before .before .before .before .before in
+    let a-known-opened = c .before .before .before .before .before .before .before .before .before .before .before .before .before .before .before .before .before .before .before .before .before .before .before .before .before .before .before .before .before .before .before .before .before .before .before .opened in
+    let a-known-given = c .before .before .before .before .before .before .before .before .before .before .before .before .before .before .before .before .before .before .before .before .before .before .before .before .before .before .before .before .before .before .before .before .before .a in
+    let a-known = known-done _ _ _ _ _ (a-known-opened .ensures) (a-known-given .given .1) in
+    let o-known = known-done _ _ _ _ _ (c .before .before .before .before .before .before .before .before .before .opened2 .ensures) (c .before .before .before .before .before .before .before .o .given .1) in
+    let lower2-cells = c .before .before .before .before .before .before .before .before .before .before .before .before .before .lower2 .last .1 .1 .1 .1 .1 .1 .1 .1 .1 .1 .1 .1 .0 in
+    let lower-cells = c .before .before .before .before .before .before .before .before .before .before .before .before .before .before .before .before .before .before .before .before .before .before .before .before .before .before .before .before .before .before .before .before .before .before .before .before .before .before .before .lower .last .1 .1 .1 .1 .1 .1 .1 .1 .1 .1 .1 .1 .0 in
+    let args = far .before .before .before .before .before .before .before .before .before .before .before .before .before .before .before .before .before .before .before .before .before .before .before .args in
+    let pre = far .before .before .before .before .before .before .before .before .before .before .before .before .before .before .before .before .before .before .before .before .before .before .before .pre in
+    let good = far .before .before .before .before .before .before .before .before .before .before .before .before .before .before .before .before .before .before .before .before .before .before .before .good in
+    let if1 = far .before .before .before .before .before .before .before .before .before .before .before .before .before .before .before .before .before .before .before .if1 in
+    let unsupported = far .before .before .before .before .before .before .before .before .before .before .before .before .before .before .before .before .before .unsupported in
+    let if2 = far .before .before .before .before .before .before .before .before .before .before .before .before .before .before .before .before .if2 in
     let ahead = c .before .before .before .before .before .before .before .before .before .before .before .before .before .before .before .before .before .before .before .before .before .before .before .before .before .before .before .before .before .before .before .before .before .before .before .before .before .before .before .before .before .before .ahead in
     let lower = c .before .before .before .before .before .before .before .before .before .before .before .before .before .before .before .before .before .before .before .before .before .before .before .before .before .before .before .before .before .before .before .before .before .before .before .before .before .before .before .lower in
     let a = c .before .before .before .before .before .before .before .before .before .before .before .before .before .before .before .before .before .before .before .before .before .before .before .before .before .before .before .before .before .before .before .before .before .a in
@@ -573,10 +601,10 @@ branch-join-requires t c κs =
     let put-slot-says = put-slot .ensures in
     let put-slot-bytes = put-slot .last .0 in
     let conjunction = args .conjunction in
-    let o-next = cursor-of (c .before .before .before .before .before .before .before .before .before .before .before .before .before .lower2 .last .1 .1 .1 .1 .1 .1 .1 .1 .1 .1 .1 .1 .0) in
+    let o-next = cursor-of lower2-cells in
     let put-slot2-says = put-slot2 .ensures in
     let put-slot2-bytes = put-slot2 .last .0 in
-    let a-next = cursor-of (c .before .before .before .before .before .before .before .before .before .before .before .before .before .before .before .before .before .before .before .before .before .before .before .before .before .before .before .before .before .before .before .before .before .before .before .before .before .before .before .lower .last .1 .1 .1 .1 .1 .1 .1 .1 .1 .1 .1 .1 .0) in
+    let a-next = cursor-of lower-cells in
     let lower-bytes = lower .last .1 .0 in
     let lower2-bytes = lower2 .last .1 .0 in
     let unsupported-gives = unsupported .result in
@@ -587,13 +615,13 @@ branch-join-requires t c κs =
     let after-no = past b (args .d) (args .no) after-yes in
     let no-arm = arm b (args .d) conjunction (args .no) after-yes in
     let is-taken2 = taken _ _ _ _ _ _ a-value a-next
-    (arm-from _ _ b (args .d) conjunction (args .yes) _ _ _ _ _ _ (further (cursor-in (args .at) (args .path) (args .c .now)) 1) (ahead .ensures .0 (args .at) (args .path)) (lower .ensures .0)) (known-done _ _ _ _ _ (c .before .before .before .before .before .before .before .before .before .before .before .before .before .before .before .before .before .before .before .before .before .before .before .before .before .before .before .before .before .before .before .before .before .before .before .opened .ensures) (c .before .before .before .before .before .before .before .before .before .before .before .before .before .before .before .before .before .before .before .before .before .before .before .before .before .before .before .before .before .before .before .before .before .a .given .1)) in
+    (arm-from _ _ b (args .d) conjunction (args .yes) _ _ _ _ _ _ (further (cursor-in (args .at) (args .path) (args .c .now)) 1) (ahead .ensures .0 (args .at) (args .path)) (lower .ensures .0)) a-known in
     let arms = choices.arms context refl yes-arm no-arm (args .v) after-yes after-no ready in
     let begun = choices.begun arms taken2 unsupported-gives unsupported-says left in
     let first = choices.first arms begun lower-bytes a-value a-next is-taken2 in
     let is-taken = taken _ _ _ _ _ _ o-value o-next (arm-at _ _ b (args .d) conjunction (args .no) _ _ _ _ _ _ (a-next .node) after-yes
     (choices.is-node arms begun first)
-    (arm-from _ _ b (args .d) conjunction (args .no) _ _ _ _ _ _ (further a-next 2) (ahead2 .ensures .0 (a-next .node) (a-next .path)) (lower2 .ensures .0))) (known-done _ _ _ _ _ (c .before .before .before .before .before .before .before .before .before .opened2 .ensures) (c .before .before .before .before .before .before .before .o .given .1)) in
+    (arm-from _ _ b (args .d) conjunction (args .no) _ _ _ _ _ _ (further a-next 2) (ahead2 .ensures .0 (a-next .node) (a-next .path)) (lower2 .ensures .0))) o-known in
     let copied = choices.copied arms begun first put-slot-bytes put-slot2-bytes put-slot-says put-slot2-says in
     let second = choices.second arms begun first copied lower2-bytes o-value o-next is-taken in (
       omega (arith, choices.n₄′ arms begun first copied second, choices.is-code arms begun first, ready .code, ready .records, ready .lists),
@@ -621,12 +649,19 @@ branch-join-requires t c κs =
 
 branch-closed-requires-2 : (t : ℕ) → branch-lts.Need-closed-requires-2 (branch-calls t) (branch-at t) branch.Post
 branch-closed-requires-2 t c κs =
-    let args = c .before .before .before .before .before .before .before .before .before .before .before .before .before .before .before .before .before .before .before .before .before .before .before .before .before .before .before .before .before .before .before .before .before .before .before .before .before .before .before .before .before .before .before .before .before .before .before .before .before .before .before .before .before .before .before .before .before .args in
-    let pre = c .before .before .before .before .before .before .before .before .before .before .before .before .before .before .before .before .before .before .before .before .before .before .before .before .before .before .before .before .before .before .before .before .before .before .before .before .before .before .before .before .before .before .before .before .before .before .before .before .before .before .before .before .before .before .before .before .before .pre in
-    let if1 = c .before .before .before .before .before .before .before .before .before .before .before .before .before .before .before .before .before .before .before .before .before .before .before .before .before .before .before .before .before .before .before .before .before .before .before .before .before .before .before .before .before .before .before .before .before .before .before .before .before .before .before .before .before .if1 in
-    let unsupported = c .before .before .before .before .before .before .before .before .before .before .before .before .before .before .before .before .before .before .before .before .before .before .before .before .before .before .before .before .before .before .before .before .before .before .before .before .before .before .before .before .before .before .before .before .before .before .before .before .before .before .before .unsupported in
-    let if2 = c .before .before .before .before .before .before .before .before .before .before .before .before .before .before .before .before .before .before .before .before .before .before .before .before .before .before .before .before .before .before .before .before .before .before .before .before .before .before .before .before .before .before .before .before .before .before .before .before .before .before .if2 in
-    let ahead = c .before .before .before .before .before .before .before .before .before .before .before .before .before .before .before .before .before .before .before .before .before .before .before .before .before .before .before .before .before .before .before .before .before .before .before .before .before .before .before .before .before .before .before .before .before .before .ahead in
+    let far = c .before .before .before .before .before .before .before .before .before .before .before .before .before .before .before .before .before .before .before .before .before .before .before .before .before .before .before .before .before .before in
+    let a-known-opened = c .before .before .before .before .before .before .before .before .before .before .before .before .before .before .before .before .before .before .before .before .before .before .before .before .before .before .before .before .before .before .before .before .before .before .before .before .before .before .before .opened in
+    let a-known-given = c .before .before .before .before .before .before .before .before .before .before .before .before .before .before .before .before .before .before .before .before .before .before .before .before .before .before .before .before .before .before .before .before .before .before .before .before .before .a in
+    let a-known = known-done _ _ _ _ _ (a-known-opened .ensures) (a-known-given .given .1) in
+    let lower2-cells = c .before .before .before .before .before .before .before .before .before .before .before .before .before .before .before .before .before .lower2 .last .1 .1 .1 .1 .1 .1 .1 .1 .1 .1 .1 .1 .0 in
+    let lower-cells-all = c .before .before .before .before .before .before .before .before .before .before .before .before .before .before .before .before .before .before .before .before .before .before .before .before .before .before .before .before .before .before .before .before .before .before .before .before .before .before .before .before .before .before .before .lower .last in
+    let lower-cells = lower-cells-all .1 .1 .1 .1 .1 .1 .1 .1 .1 .1 .1 .1 .0 in
+    let args = far .before .before .before .before .before .before .before .before .before .before .before .before .before .before .before .before .before .before .before .before .before .before .before .before .before .before .before .args in
+    let pre = far .before .before .before .before .before .before .before .before .before .before .before .before .before .before .before .before .before .before .before .before .before .before .before .before .before .before .before .pre in
+    let if1 = far .before .before .before .before .before .before .before .before .before .before .before .before .before .before .before .before .before .before .before .before .before .before .before .if1 in
+    let unsupported = far .before .before .before .before .before .before .before .before .before .before .before .before .before .before .before .before .before .before .before .before .before .unsupported in
+    let if2 = far .before .before .before .before .before .before .before .before .before .before .before .before .before .before .before .before .before .before .before .before .if2 in
+    let ahead = far .before .before .before .before .before .before .before .before .before .before .before .before .before .before .before .before .ahead in
     let lower = c .before .before .before .before .before .before .before .before .before .before .before .before .before .before .before .before .before .before .before .before .before .before .before .before .before .before .before .before .before .before .before .before .before .before .before .before .before .before .before .before .before .before .before .lower in
     let a = c .before .before .before .before .before .before .before .before .before .before .before .before .before .before .before .before .before .before .before .before .before .before .before .before .before .before .before .before .before .before .before .before .before .before .before .before .before .a in
     let left = if2 .left in
@@ -635,7 +670,7 @@ branch-closed-requires-2 t c κs =
     let b = args .b .now in
     let a-value = a .given .0 .0 in
     let conjunction = args .conjunction in
-    let a-next = cursor-of (c .before .before .before .before .before .before .before .before .before .before .before .before .before .before .before .before .before .before .before .before .before .before .before .before .before .before .before .before .before .before .before .before .before .before .before .before .before .before .before .before .before .before .before .lower .last .1 .1 .1 .1 .1 .1 .1 .1 .1 .1 .1 .1 .0) in
+    let a-next = cursor-of lower-cells in
     let lower-bytes = lower .last .1 .0 in
     let unsupported-gives = unsupported .result in
     let unsupported-says = unsupported .ensures in
@@ -645,12 +680,14 @@ branch-closed-requires-2 t c κs =
     let after-no = past b (args .d) (args .no) after-yes in
     let no-arm = arm b (args .d) conjunction (args .no) after-yes in
     let is-taken2 = taken _ _ _ _ _ _ a-value a-next
-    (arm-from _ _ b (args .d) conjunction (args .yes) _ _ _ _ _ _ (further (cursor-in (args .at) (args .path) (args .c .now)) 1) (ahead .ensures .0 (args .at) (args .path)) (lower .ensures .0)) (known-done _ _ _ _ _ (c .before .before .before .before .before .before .before .before .before .before .before .before .before .before .before .before .before .before .before .before .before .before .before .before .before .before .before .before .before .before .before .before .before .before .before .before .before .before .before .opened .ensures) (c .before .before .before .before .before .before .before .before .before .before .before .before .before .before .before .before .before .before .before .before .before .before .before .before .before .before .before .before .before .before .before .before .before .before .before .before .before .a .given .1)) in
+    (arm-from _ _ b (args .d) conjunction (args .yes) _ _ _ _ _ _ (further (cursor-in (args .at) (args .path) (args .c .now)) 1) (ahead .ensures .0 (args .at) (args .path)) (lower .ensures .0)) a-known in
     let arms = choices.arms context refl yes-arm no-arm (args .v) after-yes after-no ready in
     let begun = choices.begun arms taken2 unsupported-gives unsupported-says left in
-    let first = choices.first arms begun lower-bytes a-value a-next is-taken2 in
-    (packs-at (c .before .before .before .join .ensures .0) (arms-packs (args .k) (args .v) a-value (c .before .before .before .before .before .before .before .before .before .before .before .o .given .0 .0) a-next (cursor-of (c .before .before .before .before .before .before .before .before .before .before .before .before .before .before .before .before .before .lower2 .last .1 .1 .1 .1 .1 .1 .1 .1 .1 .1 .1 .1 .0))
-    (omega (arith, choices.is-reg arms begun first, fewer-registers yes-arm, ready .registers, ready .brief))), c .before .before .before .before .before .before .before .before .before .before .before .before .before .before .before .before .before .lower2 .ensures .1)
+    let first = choices.first arms begun lower-bytes a-value a-next is-taken2 in (
+      packs-at (c .before .before .before .join .ensures .0) (arms-packs (args .k) (args .v) a-value (c .before .before .before .before .before .before .before .before .before .before .before .o .given .0 .0) a-next (cursor-of lower2-cells)
+          (omega (arith, choices.is-reg arms begun first, fewer-registers yes-arm, ready .registers, ready .brief))),
+      c .before .before .before .before .before .before .before .before .before .before .before .before .before .before .before .before .before .lower2 .ensures .1,
+    )
 
 branch-same-length-3 : (t : ℕ) → branch-lts.Need-same-length-3 (branch-calls t) (branch-at t) branch.Post
 branch-same-length-3 t c =
@@ -662,13 +699,20 @@ branch-same-length-3 t c =
 
 branch-returns-4 : (t : ℕ) → branch-lts.Need-returns-4 (branch-calls t) (branch-at t) branch.Post
 branch-returns-4 t c =
-    let args = c .before .before .before .before .before .before .before .before .before .before .before .before .before .before .before .before .before .before .before .before .before .before .before .before .before .before .before .before .before .before .before .before .before .before .before .before .before .before .before .before .before .before .before .before .before .before .before .before .before .before .before .before .before .before .before .before .before .before .args in
-    let pre = c .before .before .before .before .before .before .before .before .before .before .before .before .before .before .before .before .before .before .before .before .before .before .before .before .before .before .before .before .before .before .before .before .before .before .before .before .before .before .before .before .before .before .before .before .before .before .before .before .before .before .before .before .before .before .before .before .before .before .pre in
-    let if1 = c .before .before .before .before .before .before .before .before .before .before .before .before .before .before .before .before .before .before .before .before .before .before .before .before .before .before .before .before .before .before .before .before .before .before .before .before .before .before .before .before .before .before .before .before .before .before .before .before .before .before .before .before .before .before .if1 in
-    let unsupported = c .before .before .before .before .before .before .before .before .before .before .before .before .before .before .before .before .before .before .before .before .before .before .before .before .before .before .before .before .before .before .before .before .before .before .before .before .before .before .before .before .before .before .before .before .before .before .before .before .before .before .before .before .unsupported in
-    let if2 = c .before .before .before .before .before .before .before .before .before .before .before .before .before .before .before .before .before .before .before .before .before .before .before .before .before .before .before .before .before .before .before .before .before .before .before .before .before .before .before .before .before .before .before .before .before .before .before .before .before .before .before .if2 in
-    let ahead = c .before .before .before .before .before .before .before .before .before .before .before .before .before .before .before .before .before .before .before .before .before .before .before .before .before .before .before .before .before .before .before .before .before .before .before .before .before .before .before .before .before .before .before .before .before .before .before .ahead in
-    let lower = c .before .before .before .before .before .before .before .before .before .before .before .before .before .before .before .before .before .before .before .before .before .before .before .before .before .before .before .before .before .before .before .before .before .before .before .before .before .before .before .before .before .before .before .before .lower in
+    let far = c .before .before .before .before .before .before .before .before .before .before .before .before .before .before .before .before .before .before .before .before .before .before .before .before .before .before .before .before .before .before in
+    let a-known-opened = c .before .before .before .before .before .before .before .before .before .before .before .before .before .before .before .before .before .before .before .before .before .before .before .before .before .before .before .before .before .before .before .before .before .before .before .before .before .before .before .before .opened in
+    let a-known-given = c .before .before .before .before .before .before .before .before .before .before .before .before .before .before .before .before .before .before .before .before .before .before .before .before .before .before .before .before .before .before .before .before .before .before .before .before .before .before .a in
+    let a-known = known-done _ _ _ _ _ (a-known-opened .ensures) (a-known-given .given .1) in
+    let o-known = known-done _ _ _ _ _ (c .before .before .before .before .before .before .before .before .before .before .before .before .before .before .opened2 .ensures) (c .before .before .before .before .before .before .before .before .before .before .before .before .o .given .1) in
+    let lower2-cells = c .before .before .before .before .before .before .before .before .before .before .before .before .before .before .before .before .before .before .lower2 .last .1 .1 .1 .1 .1 .1 .1 .1 .1 .1 .1 .1 .0 in
+    let lower-cells = far .before .before .before .before .before .before .before .before .before .before .before .before .before .before .lower .last .1 .1 .1 .1 .1 .1 .1 .1 .1 .1 .1 .1 .0 in
+    let args = far .before .before .before .before .before .before .before .before .before .before .before .before .before .before .before .before .before .before .before .before .before .before .before .before .before .before .before .before .args in
+    let pre = far .before .before .before .before .before .before .before .before .before .before .before .before .before .before .before .before .before .before .before .before .before .before .before .before .before .before .before .before .pre in
+    let if1 = far .before .before .before .before .before .before .before .before .before .before .before .before .before .before .before .before .before .before .before .before .before .before .before .before .if1 in
+    let unsupported = far .before .before .before .before .before .before .before .before .before .before .before .before .before .before .before .before .before .before .before .before .before .before .unsupported in
+    let if2 = far .before .before .before .before .before .before .before .before .before .before .before .before .before .before .before .before .before .before .before .before .before .if2 in
+    let ahead = far .before .before .before .before .before .before .before .before .before .before .before .before .before .before .before .before .before .ahead in
+    let lower = far .before .before .before .before .before .before .before .before .before .before .before .before .before .before .lower in
     let a = c .before .before .before .before .before .before .before .before .before .before .before .before .before .before .before .before .before .before .before .before .before .before .before .before .before .before .before .before .before .before .before .before .before .before .before .before .before .before .a in
     let put-slot = c .before .before .before .before .before .before .before .before .before .before .before .before .before .before .before .before .before .before .before .before .before .before .before .before .before .before .before .before .before .put-slot in
     let put-slot2 = c .before .before .before .before .before .before .before .before .before .before .before .before .before .before .before .before .before .before .before .before .before .before .before .before .before .put-slot2 in
@@ -678,21 +722,21 @@ branch-returns-4 t c =
     let join = c .before .before .before .before .join in
     let b = args .b .now in
     let conjunction = args .conjunction in
-    let a-next = cursor-of (c .before .before .before .before .before .before .before .before .before .before .before .before .before .before .before .before .before .before .before .before .before .before .before .before .before .before .before .before .before .before .before .before .before .before .before .before .before .before .before .before .before .before .before .before .lower .last .1 .1 .1 .1 .1 .1 .1 .1 .1 .1 .1 .1 .0) in
+    let a-next = cursor-of lower-cells in
     let context = context-of (args .kinds .now) (layout-of (args .l .now) .generated) in
     let after-yes = past b (args .d) (args .yes) (args .at) in
     let yes-arm = arm b (args .d) conjunction (args .yes) (args .at) in
     let after-no = past b (args .d) (args .no) after-yes in
     let no-arm = arm b (args .d) conjunction (args .no) after-yes in
     let is-taken = taken _ _ _ _ _ _ (a .given .0 .0) a-next
-    (arm-from _ _ b (args .d) conjunction (args .yes) _ _ _ _ _ _ (further (cursor-in (args .at) (args .path) (args .c .now)) 1) (ahead .ensures .0 (args .at) (args .path)) (lower .ensures .0)) (known-done _ _ _ _ _ (c .before .before .before .before .before .before .before .before .before .before .before .before .before .before .before .before .before .before .before .before .before .before .before .before .before .before .before .before .before .before .before .before .before .before .before .before .before .before .before .before .opened .ensures) (c .before .before .before .before .before .before .before .before .before .before .before .before .before .before .before .before .before .before .before .before .before .before .before .before .before .before .before .before .before .before .before .before .before .before .before .before .before .before .a .given .1)) in
+    (arm-from _ _ b (args .d) conjunction (args .yes) _ _ _ _ _ _ (further (cursor-in (args .at) (args .path) (args .c .now)) 1) (ahead .ensures .0 (args .at) (args .path)) (lower .ensures .0)) a-known in
     let arms = choices.arms context refl yes-arm no-arm (args .v) after-yes after-no (pre .1 .0) in
     let begun = choices.begun arms (if1 .taken) (unsupported .result) (unsupported .ensures) (if2 .left) in
     let first = choices.first arms begun (lower .last .1 .0) (a .given .0 .0) a-next is-taken in
     let copied = choices.copied arms begun first (put-slot .last .0) (put-slot2 .last .0) (put-slot .ensures) (put-slot2 .ensures) in
-    let second = choices.second arms begun first copied (lower2 .last .1 .0) (o .given .0 .0) (cursor-of (c .before .before .before .before .before .before .before .before .before .before .before .before .before .before .before .before .before .before .lower2 .last .1 .1 .1 .1 .1 .1 .1 .1 .1 .1 .1 .1 .0)) (taken _ _ _ _ _ _ (o .given .0 .0)
-    (cursor-of (c .before .before .before .before .before .before .before .before .before .before .before .before .before .before .before .before .before .before .lower2 .last .1 .1 .1 .1 .1 .1 .1 .1 .1 .1 .1 .1 .0)) (arm-at _ _ b (args .d) conjunction (args .no) _ _ _ _ _ _ (a-next .node) after-yes (choices.is-node arms begun first)
-    (arm-from _ _ b (args .d) conjunction (args .no) _ _ _ _ _ _ (further a-next 2) (ahead2 .ensures .0 (a-next .node) (a-next .path)) (lower2 .ensures .0))) (known-done _ _ _ _ _ (c .before .before .before .before .before .before .before .before .before .before .before .before .before .before .opened2 .ensures) (c .before .before .before .before .before .before .before .before .before .before .before .before .o .given .1))) in
+    let second = choices.second arms begun first copied (lower2 .last .1 .0) (o .given .0 .0) (cursor-of lower2-cells) (taken _ _ _ _ _ _ (o .given .0 .0)
+    (cursor-of lower2-cells) (arm-at _ _ b (args .d) conjunction (args .no) _ _ _ _ _ _ (a-next .node) after-yes (choices.is-node arms begun first)
+    (arm-from _ _ b (args .d) conjunction (args .no) _ _ _ _ _ _ (further a-next 2) (ahead2 .ensures .0 (a-next .node) (a-next .path)) (lower2 .ensures .0))) o-known) in
     (says-as _ _ _ _ _ (c .closed2 .ensures .0) (choices.both-joined arms begun first copied second (join .last .0) (join .result) (join .ensures .0) (join .ensures .1)), c .closed2 .ensures .1)
 
 branch-closed-requires-3 : (t : ℕ) → branch-lts.Need-closed-requires-3 (branch-calls t) (branch-at t) branch.Post
@@ -744,6 +788,7 @@ link-same-length t c = search needs
 
 link-returns : (t : ℕ) → link-lts.Need-returns (link-calls t) (link-at t) link.Post
 link-returns t c =
+    let lower-cells = c .before .before .before .before .before .before .lower .last .1 .1 .1 .1 .1 .1 .1 .1 .1 .1 .1 .1 .0 in
     let args = c .before .before .before .before .before .before .before .before .before .before .before .before .args in
     let pre = c .before .before .before .before .before .before .before .before .before .before .before .before .pre in
     let lower = c .before .before .before .before .before .before .lower in
@@ -752,11 +797,13 @@ link-returns t c =
     let node = args .at in
     let conjunction = args .conjunction in
     let given3 = c .enum-told .given .0 .0 in
-    let given2 = c .enum-told .given .0 .1 .0 in
-    (split-refused b (args .d) conjunction (yes-of conjunction left) (no-of conjunction left) (arm b (args .d) conjunction left node)
-    (past b (args .d) left node) (link-splits b (args .d) left node conjunction (pre .1 .1 .1))
-    (link-past b (args .d) left node conjunction (pre .1 .1 .1)) (pre .1 .0) (context-of (args .kinds .now) (layout-of (args .l .now) .generated)) (lower .last .1 .0)
-    (low-of (lower .result) (lower .last .1 .1 .1 .1 .1 .1 .1 .1 .1 .1 .1 .1 .0)) given3 given2 (refused _ _ _ _ _ _ given3 given2 (lower .ensures .0) (sym (c .before .before .opened .ensures) ∙ c .enum-told .given .1)) (sym (c .before .before .opened .ensures) ∙ c .enum-told .given .1), c .before .before .before .before .before .before .lower .ensures .1)
+    let given2 = c .enum-told .given .0 .1 .0 in (
+      split-refused b (args .d) conjunction (yes-of conjunction left) (no-of conjunction left) (arm b (args .d) conjunction left node)
+          (past b (args .d) left node) (link-splits b (args .d) left node conjunction (pre .1 .1 .1))
+          (link-past b (args .d) left node conjunction (pre .1 .1 .1)) (pre .1 .0) (context-of (args .kinds .now) (layout-of (args .l .now) .generated)) (lower .last .1 .0)
+          (low-of (lower .result) lower-cells) given3 given2 (refused _ _ _ _ _ _ given3 given2 (lower .ensures .0) (sym (c .before .before .opened .ensures) ∙ c .enum-told .given .1)) (sym (c .before .before .opened .ensures) ∙ c .enum-told .given .1),
+      c .before .before .before .before .before .before .lower .ensures .1,
+    )
 
 link-sub-branch : (t : ℕ) → link-lts.Need-sub-branch (link-calls t) (link-at t) link.Post
 link-sub-branch t c = search needs
@@ -769,6 +816,8 @@ link-element-copy-out-branch-2 t c = search needs
 
 link-branch-requires : (t : ℕ) → link-lts.Need-branch-requires (link-calls t) (link-at t) link.Post
 link-branch-requires t c κs =
+    let a-known = known-done _ _ _ _ _ (c .before .before .before .before .before .before .before .before .opened .ensures) (c .before .before .before .before .before .before .a .given .1) in
+    let lower-cells = c .before .before .before .before .before .before .before .before .before .before .before .before .lower .last .1 .1 .1 .1 .1 .1 .1 .1 .1 .1 .1 .1 .0 in
     let pre = c .before .before .before .before .before .before .before .before .before .before .before .before .before .before .before .before .before .before .pre in
     let args = c .before .before .before .before .before .before .before .before .before .before .before .before .before .before .before .before .before .before .args in
     let lower = c .before .before .before .before .before .before .before .before .before .before .before .before .lower in
@@ -777,7 +826,7 @@ link-branch-requires t c κs =
     let b = args .b .now in
     let node2 = args .at in
     let args2 = args .left - 1 in
-    let a-next = cursor-of (c .before .before .before .before .before .before .before .before .before .before .before .before .lower .last .1 .1 .1 .1 .1 .1 .1 .1 .1 .1 .1 .1 .0) in
+    let a-next = cursor-of lower-cells in
     let conjunction = args .conjunction in
     let node = a-next .node in
     let sym2 = sym (c .before .before .before .before .if1 .taken) in
@@ -786,7 +835,7 @@ link-branch-requires t c κs =
     let context = context-of (args .kinds .now) (layout-of (args .l .now) .generated) in
     let after = past b (args .d) left node2 in
     let whole = arm b (args .d) conjunction left node2 in
-    let is-taken = taken _ _ _ _ _ _ (a .given .0 .0) a-next (lower .ensures .0) (known-done _ _ _ _ _ (c .before .before .before .before .before .before .before .before .opened .ensures) (c .before .before .before .before .before .before .a .given .1)) in
+    let is-taken = taken _ _ _ _ _ _ (a .given .0 .0) a-next (lower .ensures .0) a-known in
     let link-past2 = link-past b (args .d) left node2 conjunction (pre .1 .1 .1) in
     let link-splits2 = link-splits b (args .d) left node2 conjunction (pre .1 .1 .1) in (
       omega (arith, pre .0, pre .1 .1 .1),
@@ -809,6 +858,9 @@ link-same-length-2 t c = search needs
 
 link-returns-2 : (t : ℕ) → link-lts.Need-returns-2 (link-calls t) (link-at t) link.Post
 link-returns-2 t c =
+    let a-known = known-done _ _ _ _ _ (c .before .before .before .before .before .before .before .before .before .before .before .opened .ensures) (c .before .before .before .before .before .before .before .before .before .a .given .1) in
+    let lower-cells = c .before .before .before .before .before .before .before .before .before .before .before .before .before .before .before .lower .last .1 .1 .1 .1 .1 .1 .1 .1 .1 .1 .1 .1 .0 in
+    let branch-cells = c .before .before .branch .last .1 .1 .1 .1 .1 .1 .1 .1 .1 .1 .1 .1 .1 .0 in
     let args = c .before .before .before .before .before .before .before .before .before .before .before .before .before .before .before .before .before .before .before .before .before .args in
     let pre = c .before .before .before .before .before .before .before .before .before .before .before .before .before .before .before .before .before .before .before .before .before .pre in
     let lower = c .before .before .before .before .before .before .before .before .before .before .before .before .before .before .before .lower in
@@ -818,13 +870,15 @@ link-returns-2 t c =
     let left = args .left in
     let b = args .b .now in
     let node = args .at in
-    let conjunction = args .conjunction in
-    (split-done b (args .d) conjunction (yes-of conjunction left) (no-of conjunction left) (arm b (args .d) conjunction left node)
-    (past b (args .d) left node) (link-splits b (args .d) left node conjunction (pre .1 .1 .1))
-    (link-past b (args .d) left node conjunction (pre .1 .1 .1)) (pre .1 .0) (context-of (args .kinds .now) (layout-of (args .l .now) .generated)) (lower .last .1 .0)
-    (a .given .0 .0) (cursor-of (c .before .before .before .before .before .before .before .before .before .before .before .before .before .before .before .lower .last .1 .1 .1 .1 .1 .1 .1 .1 .1 .1 .1 .1 .0)) (taken _ _ _ _ _ _ (a .given .0 .0) (cursor-of (c .before .before .before .before .before .before .before .before .before .before .before .before .before .before .before .lower .last .1 .1 .1 .1 .1 .1 .1 .1 .1 .1 .1 .1 .0)) (lower .ensures .0) (known-done _ _ _ _ _ (c .before .before .before .before .before .before .before .before .before .before .before .opened .ensures) (c .before .before .before .before .before .before .before .before .before .a .given .1))) (args .left - 1) 0
-    (ap (λ (x : Bool). cond x (args .left - 1) 0) (sym (if1 .taken))) (ap (λ (x : Bool). cond x 0 (args .left - 1)) (sym (if1 .taken)))
-    (branch .last .1 .0) (low-of (branch .result) (branch .last .1 .1 .1 .1 .1 .1 .1 .1 .1 .1 .1 .1 .1 .0)) (branch .ensures .0), c .before .before .branch .ensures .1)
+    let conjunction = args .conjunction in (
+      split-done b (args .d) conjunction (yes-of conjunction left) (no-of conjunction left) (arm b (args .d) conjunction left node)
+          (past b (args .d) left node) (link-splits b (args .d) left node conjunction (pre .1 .1 .1))
+          (link-past b (args .d) left node conjunction (pre .1 .1 .1)) (pre .1 .0) (context-of (args .kinds .now) (layout-of (args .l .now) .generated)) (lower .last .1 .0)
+          (a .given .0 .0) (cursor-of lower-cells) (taken _ _ _ _ _ _ (a .given .0 .0) (cursor-of lower-cells) (lower .ensures .0) a-known) (args .left - 1) 0
+          (ap (λ (x : Bool). cond x (args .left - 1) 0) (sym (if1 .taken))) (ap (λ (x : Bool). cond x 0 (args .left - 1)) (sym (if1 .taken)))
+          (branch .last .1 .0) (low-of (branch .result) branch-cells) (branch .ensures .0),
+      c .before .before .branch .ensures .1,
+    )
 
 link-sub-branch-2 : (t : ℕ) → link-lts.Need-sub-branch-2 (link-calls t) (link-at t) link.Post
 link-sub-branch-2 t c = search needs
@@ -837,6 +891,8 @@ link-element-copy-out-branch-4 t c = search needs
 
 link-branch-requires-2 : (t : ℕ) → link-lts.Need-branch-requires-2 (link-calls t) (link-at t) link.Post
 link-branch-requires-2 t c κs =
+    let a-known = known-done _ _ _ _ _ (c .before .before .before .before .before .before .before .before .opened .ensures) (c .before .before .before .before .before .before .a .given .1) in
+    let lower-cells = c .before .before .before .before .before .before .before .before .before .before .before .before .lower .last .1 .1 .1 .1 .1 .1 .1 .1 .1 .1 .1 .1 .0 in
     let pre = c .before .before .before .before .before .before .before .before .before .before .before .before .before .before .before .before .before .before .pre in
     let args = c .before .before .before .before .before .before .before .before .before .before .before .before .before .before .before .before .before .before .args in
     let lower = c .before .before .before .before .before .before .before .before .before .before .before .before .lower in
@@ -844,7 +900,7 @@ link-branch-requires-2 t c κs =
     let left = args .left in
     let b = args .b .now in
     let node2 = args .at in
-    let a-next = cursor-of (c .before .before .before .before .before .before .before .before .before .before .before .before .lower .last .1 .1 .1 .1 .1 .1 .1 .1 .1 .1 .1 .1 .0) in
+    let a-next = cursor-of lower-cells in
     let conjunction = args .conjunction in
     let node = a-next .node in
     let sym2 = sym (c .before .before .before .before .if1 .left) in
@@ -853,7 +909,7 @@ link-branch-requires-2 t c κs =
     let context = context-of (args .kinds .now) (layout-of (args .l .now) .generated) in
     let after = past b (args .d) left node2 in
     let whole = arm b (args .d) conjunction left node2 in
-    let is-taken = taken _ _ _ _ _ _ (a .given .0 .0) a-next (lower .ensures .0) (known-done _ _ _ _ _ (c .before .before .before .before .before .before .before .before .opened .ensures) (c .before .before .before .before .before .before .a .given .1)) in
+    let is-taken = taken _ _ _ _ _ _ (a .given .0 .0) a-next (lower .ensures .0) a-known in
     let link-past2 = link-past b (args .d) left node2 conjunction (pre .1 .1 .1) in
     let link-splits2 = link-splits b (args .d) left node2 conjunction (pre .1 .1 .1) in (
       omega (arith, pre .0, pre .1 .1 .1),
@@ -876,6 +932,8 @@ link-same-length-3 t c = search needs
 
 link-returns-3 : (t : ℕ) → link-lts.Need-returns-3 (link-calls t) (link-at t) link.Post
 link-returns-3 t c =
+    let a-known = known-done _ _ _ _ _ (c .before .before .before .before .before .before .before .before .before .before .before .opened .ensures) (c .before .before .before .before .before .before .before .before .before .a .given .1) in
+    let lower-cells = c .before .before .before .before .before .before .before .before .before .before .before .before .before .before .before .lower .last .1 .1 .1 .1 .1 .1 .1 .1 .1 .1 .1 .1 .0 in
     let args = c .before .before .before .before .before .before .before .before .before .before .before .before .before .before .before .before .before .before .before .before .before .args in
     let pre = c .before .before .before .before .before .before .before .before .before .before .before .before .before .before .before .before .before .before .before .before .before .pre in
     let lower = c .before .before .before .before .before .before .before .before .before .before .before .before .before .before .before .lower in
@@ -885,13 +943,15 @@ link-returns-3 t c =
     let left = args .left in
     let b = args .b .now in
     let node = args .at in
-    let conjunction = args .conjunction in
-    (split-done b (args .d) conjunction (yes-of conjunction left) (no-of conjunction left) (arm b (args .d) conjunction left node)
-    (past b (args .d) left node) (link-splits b (args .d) left node conjunction (pre .1 .1 .1))
-    (link-past b (args .d) left node conjunction (pre .1 .1 .1)) (pre .1 .0) (context-of (args .kinds .now) (layout-of (args .l .now) .generated)) (lower .last .1 .0)
-    (a .given .0 .0) (cursor-of (c .before .before .before .before .before .before .before .before .before .before .before .before .before .before .before .lower .last .1 .1 .1 .1 .1 .1 .1 .1 .1 .1 .1 .1 .0)) (taken _ _ _ _ _ _ (a .given .0 .0) (cursor-of (c .before .before .before .before .before .before .before .before .before .before .before .before .before .before .before .lower .last .1 .1 .1 .1 .1 .1 .1 .1 .1 .1 .1 .1 .0)) (lower .ensures .0) (known-done _ _ _ _ _ (c .before .before .before .before .before .before .before .before .before .before .before .opened .ensures) (c .before .before .before .before .before .before .before .before .before .a .given .1))) 0 (args .left - 1)
-    (ap (λ (x : Bool). cond x (args .left - 1) 0) (sym (if1 .left))) (ap (λ (x : Bool). cond x 0 (args .left - 1)) (sym (if1 .left)))
-    (branch2 .last .1 .0) (low-of (branch2 .result) (branch2 .last .1 .1 .1 .1 .1 .1 .1 .1 .1 .1 .1 .1 .1 .0)) (branch2 .ensures .0), c .before .before .branch2 .ensures .1)
+    let conjunction = args .conjunction in (
+      split-done b (args .d) conjunction (yes-of conjunction left) (no-of conjunction left) (arm b (args .d) conjunction left node)
+          (past b (args .d) left node) (link-splits b (args .d) left node conjunction (pre .1 .1 .1))
+          (link-past b (args .d) left node conjunction (pre .1 .1 .1)) (pre .1 .0) (context-of (args .kinds .now) (layout-of (args .l .now) .generated)) (lower .last .1 .0)
+          (a .given .0 .0) (cursor-of lower-cells) (taken _ _ _ _ _ _ (a .given .0 .0) (cursor-of lower-cells) (lower .ensures .0) a-known) 0 (args .left - 1)
+          (ap (λ (x : Bool). cond x (args .left - 1) 0) (sym (if1 .left))) (ap (λ (x : Bool). cond x 0 (args .left - 1)) (sym (if1 .left)))
+          (branch2 .last .1 .0) (low-of (branch2 .result) (branch2 .last .1 .1 .1 .1 .1 .1 .1 .1 .1 .1 .1 .1 .1 .0)) (branch2 .ensures .0),
+      c .before .before .branch2 .ensures .1,
+    )
 
 lower-element-copy-out-t23 : (t : ℕ) → lower-lts.Need-element-copy-out-t23 (lower-calls t) (lower-at t) lower.Post
 lower-element-copy-out-t23 t c = search needs
@@ -948,11 +1008,13 @@ lower-returns t c =
     let args = c .before .before .before .before .before .before .before .before .before .before .before .before .before .before .before .before .before .before .before .before .before .args in
     let pre = c .before .before .before .before .before .before .before .before .before .before .before .before .before .before .before .before .before .before .before .before .before .pre in
     let enter = c .before .before .before .before .before .before .before .before .before .before .before .before .before .enter in
-    let constant = c .before .before .before .before .constant in
-    (says-as _ _ _ _ _ (c .closed .ensures .0) (none-done (args .b .now) (args .d) (args .conjunction) (args .left) (pre .1 .0) (args .step) (pre .1 .1 .1) (enter .result) (enter .last .0)
-    (enter .ensures .0) (enter .ensures .1) (context-of (args .kinds .now) (layout-of (args .l .now) .generated))
-    (c .before .before .before .before .before .before .before .before .before .before .if1 .taken) (constant .last .0) (constant .result) (constant .ensures .0)
-    (rw (c .before .before .before .before .before .before .if2 .taken) (constant .ensures .1))), c .closed .ensures .1)
+    let constant = c .before .before .before .before .constant in (
+      says-as _ _ _ _ _ (c .closed .ensures .0) (none-done (args .b .now) (args .d) (args .conjunction) (args .left) (pre .1 .0) (args .step) (pre .1 .1 .1) (enter .result) (enter .last .0)
+          (enter .ensures .0) (enter .ensures .1) (context-of (args .kinds .now) (layout-of (args .l .now) .generated))
+          (c .before .before .before .before .before .before .before .before .before .before .if1 .taken) (constant .last .0) (constant .result) (constant .ensures .0)
+          (rw (c .before .before .before .before .before .before .if2 .taken) (constant .ensures .1))),
+      c .closed .ensures .1,
+    )
 
 lower-constant-requires-2 : (t : ℕ) → lower-lts.Need-constant-requires-2 (lower-calls t) (lower-at t) lower.Post
 lower-constant-requires-2 t c κs =
@@ -982,11 +1044,13 @@ lower-returns-2 t c =
     let args = c .before .before .before .before .before .before .before .before .before .before .before .before .before .before .before .before .before .before .before .before .before .args in
     let pre = c .before .before .before .before .before .before .before .before .before .before .before .before .before .before .before .before .before .before .before .before .before .pre in
     let enter = c .before .before .before .before .before .before .before .before .before .before .before .before .before .enter in
-    let constant2 = c .before .before .before .before .constant2 in
-    (says-as _ _ _ _ _ (c .closed2 .ensures .0) (none-done (args .b .now) (args .d) (args .conjunction) (args .left) (pre .1 .0) (args .step) (pre .1 .1 .1) (enter .result) (enter .last .0)
-    (enter .ensures .0) (enter .ensures .1) (context-of (args .kinds .now) (layout-of (args .l .now) .generated))
-    (c .before .before .before .before .before .before .before .before .before .before .if1 .taken) (constant2 .last .0) (constant2 .result) (constant2 .ensures .0)
-    (rw (c .before .before .before .before .before .before .if2 .left) (constant2 .ensures .1))), c .closed2 .ensures .1)
+    let constant2 = c .before .before .before .before .constant2 in (
+      says-as _ _ _ _ _ (c .closed2 .ensures .0) (none-done (args .b .now) (args .d) (args .conjunction) (args .left) (pre .1 .0) (args .step) (pre .1 .1 .1) (enter .result) (enter .last .0)
+          (enter .ensures .0) (enter .ensures .1) (context-of (args .kinds .now) (layout-of (args .l .now) .generated))
+          (c .before .before .before .before .before .before .before .before .before .before .if1 .taken) (constant2 .last .0) (constant2 .result) (constant2 .ensures .0)
+          (rw (c .before .before .before .before .before .before .if2 .left) (constant2 .ensures .1))),
+      c .closed2 .ensures .1,
+    )
 
 lower-node-requires : (t : ℕ) → lower-lts.Need-node-requires (lower-calls t) (lower-at t) lower.Post
 lower-node-requires t c κs =
@@ -1006,13 +1070,16 @@ lower-same-length-3 t c = search needs
 
 lower-returns-3 : (t : ℕ) → lower-lts.Need-returns-3 (lower-calls t) (lower-at t) lower.Post
 lower-returns-3 t c =
+    let node-cells = c .before .before .node .last .1 .1 .1 .1 .1 .1 .1 .1 .1 .0 in
     let args = c .before .before .before .before .before .before .before .before .before .before .before .before .before .before .before .before .before .args in
     let pre = c .before .before .before .before .before .before .before .before .before .before .before .before .before .before .before .before .before .pre in
     let enter = c .before .before .before .before .before .before .before .before .before .enter in
-    let node = c .before .before .node in
-    (one-done (args .b .now) (args .d) (args .conjunction) (args .left) (pre .1 .0) (args .step) (pre .1 .1 .1) (enter .result) (enter .last .0)
-    (enter .ensures .0) (enter .ensures .1) (context-of (args .kinds .now) (layout-of (args .l .now) .generated)) (c .before .before .before .before .before .if3 .taken)
-    (node .last .1 .0) (low-of (node .result) (node .last .1 .1 .1 .1 .1 .1 .1 .1 .1 .0)) (node .ensures .0), c .before .before .node .ensures .1)
+    let node = c .before .before .node in (
+      one-done (args .b .now) (args .d) (args .conjunction) (args .left) (pre .1 .0) (args .step) (pre .1 .1 .1) (enter .result) (enter .last .0)
+          (enter .ensures .0) (enter .ensures .1) (context-of (args .kinds .now) (layout-of (args .l .now) .generated)) (c .before .before .before .before .before .if3 .taken)
+          (node .last .1 .0) (low-of (node .result) node-cells) (node .ensures .0),
+      c .before .before .node .ensures .1,
+    )
 
 lower-link-requires : (t : ℕ) → lower-lts.Need-link-requires (lower-calls t) (lower-at t) lower.Post
 lower-link-requires t c κs =
@@ -1032,12 +1099,15 @@ lower-same-length-4 t c = search needs
 
 lower-returns-4 : (t : ℕ) → lower-lts.Need-returns-4 (lower-calls t) (lower-at t) lower.Post
 lower-returns-4 t c =
+    let link-cells = c .before .before .link .last .1 .1 .1 .1 .1 .1 .1 .1 .1 .1 .1 .0 in
     let args = c .before .before .before .before .before .before .before .before .before .before .before .before .before .before .before .before .before .args in
     let pre = c .before .before .before .before .before .before .before .before .before .before .before .before .before .before .before .before .before .pre in
     let enter = c .before .before .before .before .before .before .before .before .before .enter in
-    let link = c .before .before .link in
-    (own-done (args .b .now) (args .d) (args .conjunction) (args .left) (pre .1 .0) (args .step) (pre .1 .1 .1) (enter .result) (enter .last .0)
-    (enter .ensures .0) (enter .ensures .1) (context-of (args .kinds .now) (layout-of (args .l .now) .generated)) (link .last .1 .0) (low-of (link .result) (link .last .1 .1 .1 .1 .1 .1 .1 .1 .1 .1 .1 .0)) (link .ensures .0), c .before .before .link .ensures .1)
+    let link = c .before .before .link in (
+      own-done (args .b .now) (args .d) (args .conjunction) (args .left) (pre .1 .0) (args .step) (pre .1 .1 .1) (enter .result) (enter .last .0)
+          (enter .ensures .0) (enter .ensures .1) (context-of (args .kinds .now) (layout-of (args .l .now) .generated)) (link .last .1 .0) (low-of (link .result) link-cells) (link .ensures .0),
+      c .before .before .link .ensures .1,
+    )
 
 node-node-requires : (t : ℕ) → node-lts.Need-node-requires (node-calls t) (node-at t) node.Post
 node-node-requires t c κs =
@@ -1084,7 +1154,8 @@ node-lower-leaf-requires t c κs =
 node-closed-requires : (t : ℕ) → node-lts.Need-closed-requires (node-calls t) (node-at t) node.Post
 node-closed-requires t c κs =
     let ready = c .before .before .before .before .before .before .before .before .before .before .before .before .before .before .before .before .before .pre .1 .0 in
-    (leaf-packs _ (c .before .before .before .before .before .before .before .before .before .before .before .before .before .node .result) _ _ _ _ _ _ _ _ (c .before .before .before .lower-leaf .ensures) (omega (arith, ready .registers, ready .brief)), c .before .before .before .before .before .before .before .before .before .before .before .before .before .before .before .before .before .pre .1 .1 .1)
+    let node = c .before .before .before .before .before .before .before .before .before .before .before .before .before .node in
+    (leaf-packs _ (node .result) _ _ _ _ _ _ _ _ (c .before .before .before .lower-leaf .ensures) (omega (arith, ready .registers, ready .brief)), c .before .before .before .before .before .before .before .before .before .before .before .before .before .before .before .before .before .pre .1 .1 .1)
 
 node-same-length : (t : ℕ) → node-lts.Need-same-length (node-calls t) (node-at t) node.Post
 node-same-length t c = search needs
@@ -1095,11 +1166,13 @@ node-returns t c =
     let pre = c .before .before .before .before .before .before .before .before .before .before .before .before .before .before .before .before .before .before .pre in
     let node = c .before .before .before .before .before .before .before .before .before .before .before .before .before .before .node in
     let if1 = c .before .before .before .before .before .before .before .before .before .if1 in
-    let node2 = args .at in
-    (says-as _ _ _ _ _ (c .closed .ensures .0) (as-node _ _ (term (tree-in (args .d) (args .b .now) node2)) (leaf (node .result)) _ _ (node2 + node-size) _ (node2 + node-size) (cursor-in (args .at) (args .path) (args .c .now)) _ _ _
-    (wholes.leaf-term-is (args .b .now) (args .d) node2 (node .result) (node .ensures .0) (pre .1 .1 .0) (if1 .taken))
-    (wholes.leaf-size (args .b .now) (args .d) node2 (node .result) (node .ensures .0) (pre .1 .1 .0) (if1 .taken))
-    (c .before .before .before .before .lower-leaf .ensures)), c .closed .ensures .1)
+    let node2 = args .at in (
+      says-as _ _ _ _ _ (c .closed .ensures .0) (as-node _ _ (term (tree-in (args .d) (args .b .now) node2)) (leaf (node .result)) _ _ (node2 + node-size) _ (node2 + node-size) (cursor-in (args .at) (args .path) (args .c .now)) _ _ _
+          (wholes.leaf-term-is (args .b .now) (args .d) node2 (node .result) (node .ensures .0) (pre .1 .1 .0) (if1 .taken))
+          (wholes.leaf-size (args .b .now) (args .d) node2 (node .result) (node .ensures .0) (pre .1 .1 .0) (if1 .taken))
+          (c .before .before .before .before .lower-leaf .ensures)),
+      c .closed .ensures .1,
+    )
 
 node-closed-requires-2 : (t : ℕ) → node-lts.Need-closed-requires-2 (node-calls t) (node-at t) node.Post
 node-closed-requires-2 t c κs = (tt, c .before .before .before .before .before .before .before .before .before .before .before .before .before .before .pre .1 .1 .1)
@@ -1108,9 +1181,11 @@ node-returns-2 : (t : ℕ) → node-lts.Need-returns-2 (node-calls t) (node-at t
 node-returns-2 t c =
     let pre = c .before .before .before .before .before .before .before .before .before .before .before .before .before .before .before .pre in
     let args = c .before .before .before .before .before .before .before .before .before .before .before .before .before .before .before .args in
-    let node = c .before .before .before .before .before .before .before .before .before .before .before .node in
-    (says-as _ _ _ _ _ (c .closed2 .ensures .0) (miscounted-here (pre .1 .0) _ (term (tree-in (args .d) (args .b .now) (args .at))) _ (wholes.few-is (args .b .now) (args .d) (args .at)
-    (node .result) (node .ensures .0) (pre .1 .1 .0) (c .before .before .before .before .if2 .taken) (c .before .before .if3 .taken))), c .closed2 .ensures .1)
+    let node = c .before .before .before .before .before .before .before .before .before .before .before .node in (
+      says-as _ _ _ _ _ (c .closed2 .ensures .0) (miscounted-here (pre .1 .0) _ (term (tree-in (args .d) (args .b .now) (args .at))) _ (wholes.few-is (args .b .now) (args .d) (args .at)
+          (node .result) (node .ensures .0) (pre .1 .1 .0) (c .before .before .before .before .if2 .taken) (c .before .before .if3 .taken))),
+      c .closed2 .ensures .1,
+    )
 
 node-sub-link : (t : ℕ) → node-lts.Need-sub-link (node-calls t) (node-at t) node.Post
 node-sub-link t c =
@@ -1148,11 +1223,13 @@ node-returns-3 t c =
     let if2 = c .before .before .before .before .before .before .before .before .if2 in
     let node-gives = node .result in
     let b = args .b .now in
-    let node2 = args .at in
-    (as-node _ _ (term (tree-in (args .d) b node2)) (arm b (args .d - 1) (eqb (node-gives .operator) 0) (node-gives .children) (node2 + node-size)) _ _ _ _
-    (node2 + node-size) (cursor-in (args .at) (args .path) (args .c .now)) _ _ _ (wholes.link-is b (args .d) node2 node-gives (node .ensures .0) (pre .1 .1 .0) (if2 .taken)
-    (omega (arith, c .before .before .before .before .before .before .if3 .left)))
-    (wholes.past-is b (args .d) node2 node-gives (node .ensures .0) (pre .1 .1 .0)) (c .before .before .link .ensures .0), c .before .before .link .ensures .1)
+    let node2 = args .at in (
+      as-node _ _ (term (tree-in (args .d) b node2)) (arm b (args .d - 1) (eqb (node-gives .operator) 0) (node-gives .children) (node2 + node-size)) _ _ _ _
+          (node2 + node-size) (cursor-in (args .at) (args .path) (args .c .now)) _ _ _ (wholes.link-is b (args .d) node2 node-gives (node .ensures .0) (pre .1 .1 .0) (if2 .taken)
+          (omega (arith, c .before .before .before .before .before .before .if3 .left)))
+          (wholes.past-is b (args .d) node2 node-gives (node .ensures .0) (pre .1 .1 .0)) (c .before .before .link .ensures .0),
+      c .before .before .link .ensures .1,
+    )
 
 node-chooses-requires : (t : ℕ) → node-lts.Need-chooses-requires (node-calls t) (node-at t) node.Post
 node-chooses-requires t c κs = search needs
@@ -1207,6 +1284,7 @@ node-same-length-3 t c = search needs
 
 node-returns-4 : (t : ℕ) → node-lts.Need-returns-4 (node-calls t) (node-at t) node.Post
 node-returns-4 t c =
+    let lower-cells = c .before .before .before .before .before .before .lower .last .1 .1 .1 .1 .1 .1 .1 .1 .1 .1 .1 .1 .0 in
     let args = c .before .before .before .before .before .before .before .before .before .before .before .before .before .before .before .before .before .before .before .before .before .before .before .before .args in
     let pre = c .before .before .before .before .before .before .before .before .before .before .before .before .before .before .before .before .before .before .before .before .before .before .before .before .pre in
     let node = c .before .before .before .before .before .before .before .before .before .before .before .before .before .before .before .before .before .before .before .before .node in
@@ -1220,12 +1298,14 @@ node-returns-4 t c =
     let given3 = c .enum-told .given .0 .0 in
     let given2 = c .enum-told .given .0 .1 .0 in
     let tree-in2 = tree-in (args .d) b node2 in
-    let term2 = term tree-in2 in
-    (as-node _ _ term2 term2 _ _ _ _ x2 (cursor-in (args .at) (args .path) (args .c .now)) _ _ _ refl refl (split-refused b (args .d - 1) true 1 1 term2 (node2 + node-size * size tree-in2)
-    (wholes.branch-is b (args .d) node2 (node .result) (node .ensures .0) (pre .1 .1 .0) (sym (chooses .ensures) ∙ if4 .taken) (if5 .taken)) (three-past
-    b (args .d - 1) x2 ∙ (ap (λ (x : ℕ). past b (args .d - 1) x x2) (sym (if5 .taken)) ∙ wholes.past-is b (args .d) node2 (node .result)
-    (node .ensures .0) (pre .1 .1 .0))) (ready-moved (pre .1 .0) x2) (context-of (args .kinds .now) (layout-of (args .l .now) .generated)) (lower .last .1 .0)
-    (low-of (lower .result) (lower .last .1 .1 .1 .1 .1 .1 .1 .1 .1 .1 .1 .1 .0)) given3 given2 (refused _ _ _ _ _ _ given3 given2 (lower .ensures .0) (sym (c .before .before .opened .ensures) ∙ c .enum-told .given .1)) (sym (c .before .before .opened .ensures) ∙ c .enum-told .given .1)), c .before .before .before .before .before .before .lower .ensures .1)
+    let term2 = term tree-in2 in (
+      as-node _ _ term2 term2 _ _ _ _ x2 (cursor-in (args .at) (args .path) (args .c .now)) _ _ _ refl refl (split-refused b (args .d - 1) true 1 1 term2 (node2 + node-size * size tree-in2)
+          (wholes.branch-is b (args .d) node2 (node .result) (node .ensures .0) (pre .1 .1 .0) (sym (chooses .ensures) ∙ if4 .taken) (if5 .taken)) (three-past
+          b (args .d - 1) x2 ∙ (ap (λ (x : ℕ). past b (args .d - 1) x x2) (sym (if5 .taken)) ∙ wholes.past-is b (args .d) node2 (node .result)
+          (node .ensures .0) (pre .1 .1 .0))) (ready-moved (pre .1 .0) x2) (context-of (args .kinds .now) (layout-of (args .l .now) .generated)) (lower .last .1 .0)
+          (low-of (lower .result) lower-cells) given3 given2 (refused _ _ _ _ _ _ given3 given2 (lower .ensures .0) (sym (c .before .before .opened .ensures) ∙ c .enum-told .given .1)) (sym (c .before .before .opened .ensures) ∙ c .enum-told .given .1)),
+      c .before .before .before .before .before .before .lower .ensures .1,
+    )
 
 node-sub-branch : (t : ℕ) → node-lts.Need-sub-branch (node-calls t) (node-at t) node.Post
 node-sub-branch t c =
@@ -1242,6 +1322,8 @@ node-element-copy-out-branch-2 t c = search needs
 
 node-branch-requires : (t : ℕ) → node-lts.Need-branch-requires (node-calls t) (node-at t) node.Post
 node-branch-requires t c κs =
+    let a-known = known-done _ _ _ _ _ (c .before .before .before .before .before .before .before .opened .ensures) (c .before .before .before .before .before .a .given .1) in
+    let lower-cells = c .before .before .before .before .before .before .before .before .before .before .before .lower .last .1 .1 .1 .1 .1 .1 .1 .1 .1 .1 .1 .1 .0 in
     let pre = c .before .before .before .before .before .before .before .before .before .before .before .before .before .before .before .before .before .before .before .before .before .before .before .before .before .before .before .before .before .pre in
     let args = c .before .before .before .before .before .before .before .before .before .before .before .before .before .before .before .before .before .before .before .before .before .before .before .before .before .before .before .before .before .args in
     let node = c .before .before .before .before .before .before .before .before .before .before .before .before .before .before .before .before .before .before .before .before .before .before .before .before .before .node in
@@ -1257,7 +1339,7 @@ node-branch-requires t c κs =
     let a-value = a .given .0 .0 in
     let sym2 = sym (if5 .taken) in
     let ensures = node .ensures .0 in
-    let a-next = cursor-of (c .before .before .before .before .before .before .before .before .before .before .before .lower .last .1 .1 .1 .1 .1 .1 .1 .1 .1 .1 .1 .1 .0) in
+    let a-next = cursor-of lower-cells in
     let lower-bytes = lower .last .1 .0 in
     let x3 = node3 + node-size in
     let children = node-gives .children in
@@ -1267,7 +1349,7 @@ node-branch-requires t c κs =
     let context = context-of (args .kinds .now) (layout-of (args .l .now) .generated) in
     let term2 = term tree-in2 in
     let x2 = node3 + node-size * size tree-in2 in
-    let is-taken = taken _ _ _ _ _ _ a-value a-next (lower .ensures .0) (known-done _ _ _ _ _ (c .before .before .before .before .before .before .before .opened .ensures) (c .before .before .before .before .before .a .given .1)) in
+    let is-taken = taken _ _ _ _ _ _ a-value a-next (lower .ensures .0) a-known in
     let kids-well = wholes.kids-well b (args .d) node3 node-gives ensures (pre .1 .1 .0) in
     let branch-is = wholes.branch-is b (args .d) node3 node-gives ensures (pre .1 .1 .0) (sym (chooses .ensures) ∙ if4 .taken) (if5 .taken) in (
       omega (arith, pre .0, wholes.node-deep b (args .d) node3 node-gives ensures (pre .1 .1 .0)),
@@ -1294,6 +1376,9 @@ node-same-length-4 t c = search needs
 
 node-returns-5 : (t : ℕ) → node-lts.Need-returns-5 (node-calls t) (node-at t) node.Post
 node-returns-5 t c =
+    let a-known = known-done _ _ _ _ _ (c .before .before .before .before .before .before .before .before .before .before .opened .ensures) (c .before .before .before .before .before .before .before .before .a .given .1) in
+    let lower-cells = c .before .before .before .before .before .before .before .before .before .before .before .before .before .before .lower .last .1 .1 .1 .1 .1 .1 .1 .1 .1 .1 .1 .1 .0 in
+    let branch-cells = c .before .before .branch .last .1 .1 .1 .1 .1 .1 .1 .1 .1 .1 .1 .1 .1 .0 in
     let args = c .before .before .before .before .before .before .before .before .before .before .before .before .before .before .before .before .before .before .before .before .before .before .before .before .before .before .before .before .before .before .before .before .args in
     let pre = c .before .before .before .before .before .before .before .before .before .before .before .before .before .before .before .before .before .before .before .before .before .before .before .before .before .before .before .before .before .before .before .before .pre in
     let node = c .before .before .before .before .before .before .before .before .before .before .before .before .before .before .before .before .before .before .before .before .before .before .before .before .before .before .before .before .node in
@@ -1307,13 +1392,15 @@ node-returns-5 t c =
     let node2 = args .at in
     let x2 = node2 + node-size in
     let tree-in2 = tree-in (args .d) b node2 in
-    let term2 = term tree-in2 in
-    (as-node _ _ term2 term2 _ _ _ _ x2 (cursor-in (args .at) (args .path) (args .c .now)) _ _ _ refl refl (split-done b (args .d - 1) true 1 1 term2 (node2 + node-size * size tree-in2)
-    (wholes.branch-is b (args .d) node2 (node .result) (node .ensures .0) (pre .1 .1 .0) (sym (chooses .ensures) ∙ if4 .taken) (if5 .taken)) (three-past
-    b (args .d - 1) x2 ∙ (ap (λ (x : ℕ). past b (args .d - 1) x x2) (sym (if5 .taken)) ∙ wholes.past-is b (args .d) node2 (node .result)
-    (node .ensures .0) (pre .1 .1 .0))) (ready-moved (pre .1 .0) x2) (context-of (args .kinds .now) (layout-of (args .l .now) .generated)) (lower .last .1 .0)
-    (a .given .0 .0) (cursor-of (c .before .before .before .before .before .before .before .before .before .before .before .before .before .before .lower .last .1 .1 .1 .1 .1 .1 .1 .1 .1 .1 .1 .1 .0)) (taken _ _ _ _ _ _ (a .given .0 .0) (cursor-of (c .before .before .before .before .before .before .before .before .before .before .before .before .before .before .lower .last .1 .1 .1 .1 .1 .1 .1 .1 .1 .1 .1 .1 .0)) (lower .ensures .0) (known-done _ _ _ _ _ (c .before .before .before .before .before .before .before .before .before .before .opened .ensures) (c .before .before .before .before .before .before .before .before .a .given .1))) 1 1 refl refl
-    (branch .last .1 .0) (low-of (branch .result) (branch .last .1 .1 .1 .1 .1 .1 .1 .1 .1 .1 .1 .1 .1 .0)) (branch .ensures .0)), c .before .before .branch .ensures .1)
+    let term2 = term tree-in2 in (
+      as-node _ _ term2 term2 _ _ _ _ x2 (cursor-in (args .at) (args .path) (args .c .now)) _ _ _ refl refl (split-done b (args .d - 1) true 1 1 term2 (node2 + node-size * size tree-in2)
+          (wholes.branch-is b (args .d) node2 (node .result) (node .ensures .0) (pre .1 .1 .0) (sym (chooses .ensures) ∙ if4 .taken) (if5 .taken)) (three-past
+          b (args .d - 1) x2 ∙ (ap (λ (x : ℕ). past b (args .d - 1) x x2) (sym (if5 .taken)) ∙ wholes.past-is b (args .d) node2 (node .result)
+          (node .ensures .0) (pre .1 .1 .0))) (ready-moved (pre .1 .0) x2) (context-of (args .kinds .now) (layout-of (args .l .now) .generated)) (lower .last .1 .0)
+          (a .given .0 .0) (cursor-of lower-cells) (taken _ _ _ _ _ _ (a .given .0 .0) (cursor-of lower-cells) (lower .ensures .0) a-known) 1 1 refl refl
+          (branch .last .1 .0) (low-of (branch .result) branch-cells) (branch .ensures .0)),
+      c .before .before .branch .ensures .1,
+    )
 
 node-closed-requires-3 : (t : ℕ) → node-lts.Need-closed-requires-3 (node-calls t) (node-at t) node.Post
 node-closed-requires-3 t c κs = (tt, c .before .before .before .before .before .before .before .before .before .before .before .before .before .before .before .before .pre .1 .1 .1)
@@ -1322,10 +1409,12 @@ node-returns-6 : (t : ℕ) → node-lts.Need-returns-6 (node-calls t) (node-at t
 node-returns-6 t c =
     let pre = c .before .before .before .before .before .before .before .before .before .before .before .before .before .before .before .before .before .pre in
     let args = c .before .before .before .before .before .before .before .before .before .before .before .before .before .before .before .before .before .args in
-    let node = c .before .before .before .before .before .before .before .before .before .before .before .before .before .node in
-    (says-as _ _ _ _ _ (c .closed3 .ensures .0) (miscounted-here (pre .1 .0) _ (term (tree-in (args .d) (args .b .now) (args .at))) _ (wholes.wrong-is (args .b .now) (args .d)
-    (args .at) (node .result) (node .ensures .0) (pre .1 .1 .0) (sym (c .before .before .before .before .before .chooses .ensures) ∙ c .before .before .before .before .if4 .taken)
-    (c .before .before .if5 .left))), c .closed3 .ensures .1)
+    let node = c .before .before .before .before .before .before .before .before .before .before .before .before .before .node in (
+      says-as _ _ _ _ _ (c .closed3 .ensures .0) (miscounted-here (pre .1 .0) _ (term (tree-in (args .d) (args .b .now) (args .at))) _ (wholes.wrong-is (args .b .now) (args .d)
+          (args .at) (node .result) (node .ensures .0) (pre .1 .1 .0) (sym (c .before .before .before .before .before .chooses .ensures) ∙ c .before .before .before .before .if4 .taken)
+          (c .before .before .if5 .left))),
+      c .closed3 .ensures .1,
+    )
 
 node-takes-requires : (t : ℕ) → node-lts.Need-takes-requires (node-calls t) (node-at t) node.Post
 node-takes-requires t c κs = search needs
@@ -1383,6 +1472,7 @@ node-same-length-5 t c = search needs
 
 node-returns-7 : (t : ℕ) → node-lts.Need-returns-7 (node-calls t) (node-at t) node.Post
 node-returns-7 t c =
+    let operands-cells = c .before .before .before .before .before .before .operands .last .1 .1 .1 .1 .1 .1 .1 .1 .1 .1 .1 .1 .1 .0 in
     let args = c .before .before .before .before .before .before .before .before .before .before .before .before .before .before .before .before .before .before .before .before .before .before .before .before .args in
     let pre = c .before .before .before .before .before .before .before .before .before .before .before .before .before .before .before .before .before .before .before .before .before .before .before .before .pre in
     let node = c .before .before .before .before .before .before .before .before .before .before .before .before .before .before .before .before .before .before .before .before .node in
@@ -1408,12 +1498,14 @@ node-returns-7 t c =
     let knows = wholes.knows b (args .d) node2 node-gives ensures (pre .1 .1 .0) (omega (arith, if1 .left)) (if2 .left) sym2 in
     let apply-is = wholes.apply-is b (args .d) node2 node-gives ensures (pre .1 .1 .0) (omega (arith, if1 .left)) (if2 .left) sym2 in
     let op = knows .op in
-    let apply2 = apply op terms2 in
-    (as-node _ _ term2 apply2 _ _ _ _ x (cursor-in (args .at) (args .path) (args .c .now)) _ _ _ apply-is (wholes.past-is b (args .d) node2 node-gives ensures (pre .1 .1 .0))
-    (wholes.operands-refused (context-of (args .kinds .now) (layout-of (args .l .now) .generated)) refl op terms2 node-gives _ (past b (args .d - 1) children x) knows
-    refl (wholes.count-kids b (args .d - 1) children x) (ready-term term2 apply2 apply-is (pre .1 .0) x) (operands .last .1 .0) (low-of (operands .result) (operands .last .1 .1 .1 .1 .1 .1 .1 .1 .1 .1 .1 .1 .1 .0))
-    given3 given2 (collects.turned _ _ _ _ _ _ _ _ _ given3 given2
-    (lists-as _ _ _ _ _ _ _ _ _ _ _ _ _ _ (takes .ensures) (listing .ensures) (operands .ensures .0)) given4) given4), c .before .before .before .before .before .before .operands .ensures .1)
+    let apply2 = apply op terms2 in (
+      as-node _ _ term2 apply2 _ _ _ _ x (cursor-in (args .at) (args .path) (args .c .now)) _ _ _ apply-is (wholes.past-is b (args .d) node2 node-gives ensures (pre .1 .1 .0))
+          (wholes.operands-refused (context-of (args .kinds .now) (layout-of (args .l .now) .generated)) refl op terms2 node-gives _ (past b (args .d - 1) children x) knows
+          refl (wholes.count-kids b (args .d - 1) children x) (ready-term term2 apply2 apply-is (pre .1 .0) x) (operands .last .1 .0) (low-of (operands .result) operands-cells)
+          given3 given2 (collects.turned _ _ _ _ _ _ _ _ _ given3 given2
+          (lists-as _ _ _ _ _ _ _ _ _ _ _ _ _ _ (takes .ensures) (listing .ensures) (operands .ensures .0)) given4) given4),
+      c .before .before .before .before .before .before .operands .ensures .1,
+    )
 
 node-element-copy-out-t34-2 : (t : ℕ) → node-lts.Need-element-copy-out-t34-2 (node-calls t) (node-at t) node.Post
 node-element-copy-out-t34-2 t c = search needs
@@ -1432,6 +1524,8 @@ node-element-copy-out-t90 t c = search needs
 
 node-finish-requires : (t : ℕ) → node-lts.Need-finish-requires (node-calls t) (node-at t) node.Post
 node-finish-requires t c κs =
+    let o-known = known-done _ _ _ _ _ (c .before .before .before .before .before .before .before .before .before .opened2 .ensures) (c .before .before .before .before .before .before .before .o .given .1) in
+    let operands-cells = c .before .before .before .before .before .before .before .before .before .before .before .before .before .operands .last .1 .1 .1 .1 .1 .1 .1 .1 .1 .1 .1 .1 .1 .0 in
     let args = c .before .before .before .before .before .before .before .before .before .before .before .before .before .before .before .before .before .before .before .before .before .before .before .before .before .before .before .before .before .before .before .args in
     let pre = c .before .before .before .before .before .before .before .before .before .before .before .before .before .before .before .before .before .before .before .before .before .before .before .before .before .before .before .before .before .before .before .pre in
     let good = c .before .before .before .before .before .before .before .before .before .before .before .before .before .before .before .before .before .before .before .before .before .before .before .before .before .before .before .before .before .before .before .good in
@@ -1447,7 +1541,7 @@ node-finish-requires t c κs =
     let b = args .b .now in
     let node-gives = node .result in
     let node2 = args .at in
-    let o-next = cursor-of (c .before .before .before .before .before .before .before .before .before .before .before .before .before .operands .last .1 .1 .1 .1 .1 .1 .1 .1 .1 .1 .1 .1 .1 .0) in
+    let o-next = cursor-of operands-cells in
     let x = node2 + node-size in
     let children = node-gives .children in
     let sym2 = sym (chooses .ensures) ∙ if4 .left in
@@ -1458,7 +1552,7 @@ node-finish-requires t c κs =
     let knows = wholes.knows b (args .d) node2 node-gives (node .ensures .0) (pre .1 .1 .0) (omega (arith, if1 .left)) (if2 .left) sym2 in
     let op = knows .op in
     let collected = collects.collected _ _ _ _ _ _ _ _ _ (o .given .0 .0) o-next
-    (lists-as _ _ _ _ _ _ _ _ _ _ _ _ _ _ (takes .ensures) (listing .ensures) (operands .ensures .0)) (known-done _ _ _ _ _ (c .before .before .before .before .before .before .before .before .before .opened2 .ensures) (c .before .before .before .before .before .before .before .o .given .1)) in
+    (lists-as _ _ _ _ _ _ _ _ _ _ _ _ _ _ (takes .ensures) (listing .ensures) (operands .ensures .0)) o-known in
     let ready-term2 = ready-term (term (tree-in (args .d) b node2)) (apply op terms2)
     (wholes.apply-is b (args .d) node2 node-gives (node .ensures .0) (pre .1 .1 .0) (omega (arith, if1 .left)) (if2 .left) sym2) (pre .1 .0) x in (
       wholes.ready-finish context refl op terms2 node-gives _ after knows refl count-kids ready-term2 (operands .last .1 .0) (o .given .0 .0) o-next
@@ -1476,6 +1570,8 @@ node-finish-requires t c κs =
 
 node-closed-requires-4 : (t : ℕ) → node-lts.Need-closed-requires-4 (node-calls t) (node-at t) node.Post
 node-closed-requires-4 t c κs =
+    let o-known = known-done _ _ _ _ _ (c .before .before .before .before .before .before .before .before .before .before .before .before .before .opened2 .ensures) (c .before .before .before .before .before .before .before .before .before .before .before .o .given .1) in
+    let operands-cells = c .before .before .before .before .before .before .before .before .before .before .before .before .before .before .before .before .before .operands .last .1 .1 .1 .1 .1 .1 .1 .1 .1 .1 .1 .1 .1 .0 in
     let args = c .before .before .before .before .before .before .before .before .before .before .before .before .before .before .before .before .before .before .before .before .before .before .before .before .before .before .before .before .before .before .before .before .before .before .before .args in
     let pre = c .before .before .before .before .before .before .before .before .before .before .before .before .before .before .before .before .before .before .before .before .before .before .before .before .before .before .before .before .before .before .before .before .before .before .before .pre in
     let node = c .before .before .before .before .before .before .before .before .before .before .before .before .before .before .before .before .before .before .before .before .before .before .before .before .before .before .before .before .before .before .before .node in
@@ -1490,7 +1586,7 @@ node-closed-requires-4 t c κs =
     let b = args .b .now in
     let node-gives = node .result in
     let node2 = args .at in
-    let o-next = cursor-of (c .before .before .before .before .before .before .before .before .before .before .before .before .before .before .before .before .before .operands .last .1 .1 .1 .1 .1 .1 .1 .1 .1 .1 .1 .1 .1 .0) in
+    let o-next = cursor-of operands-cells in
     let x = node2 + node-size in
     let children = node-gives .children in
     let sym2 = sym (chooses .ensures) ∙ if4 .left in
@@ -1501,7 +1597,7 @@ node-closed-requires-4 t c κs =
     let knows = wholes.knows b (args .d) node2 node-gives (node .ensures .0) (pre .1 .1 .0) (omega (arith, if1 .left)) (if2 .left) sym2 in
     let op = knows .op in
     let collected = collects.collected _ _ _ _ _ _ _ _ _ (o .given .0 .0) o-next
-    (lists-as _ _ _ _ _ _ _ _ _ _ _ _ _ _ (takes .ensures) (listing .ensures) (operands .ensures .0)) (known-done _ _ _ _ _ (c .before .before .before .before .before .before .before .before .before .before .before .before .before .opened2 .ensures) (c .before .before .before .before .before .before .before .before .before .before .before .o .given .1)) in
+    (lists-as _ _ _ _ _ _ _ _ _ _ _ _ _ _ (takes .ensures) (listing .ensures) (operands .ensures .0)) o-known in
     let ready-term2 = ready-term (term (tree-in (args .d) b node2)) (apply op terms2)
     (wholes.apply-is b (args .d) node2 node-gives (node .ensures .0) (pre .1 .1 .0) (omega (arith, if1 .left)) (if2 .left) sym2) (pre .1 .0) x in
     let ready = wholes.ready-finish context refl op terms2 node-gives _ after knows refl count-kids ready-term2 (operands .last .1 .0) (o .given .0 .0) o-next
@@ -1513,6 +1609,8 @@ node-same-length-6 t c = search needs
 
 node-returns-8 : (t : ℕ) → node-lts.Need-returns-8 (node-calls t) (node-at t) node.Post
 node-returns-8 t c =
+    let o-known = known-done _ _ _ _ _ (c .before .before .before .before .before .before .before .before .before .before .before .before .before .before .opened2 .ensures) (c .before .before .before .before .before .before .before .before .before .before .before .before .o .given .1) in
+    let operands-cells = c .before .before .before .before .before .before .before .before .before .before .before .before .before .before .before .before .before .before .operands .last .1 .1 .1 .1 .1 .1 .1 .1 .1 .1 .1 .1 .1 .0 in
     let args = c .before .before .before .before .before .before .before .before .before .before .before .before .before .before .before .before .before .before .before .before .before .before .before .before .before .before .before .before .before .before .before .before .before .before .before .before .args in
     let pre = c .before .before .before .before .before .before .before .before .before .before .before .before .before .before .before .before .before .before .before .before .before .before .before .before .before .before .before .before .before .before .before .before .before .before .before .before .pre in
     let node = c .before .before .before .before .before .before .before .before .before .before .before .before .before .before .before .before .before .before .before .before .before .before .before .before .before .before .before .before .before .before .before .before .node in
@@ -1537,13 +1635,15 @@ node-returns-8 t c =
     let knows = wholes.knows b (args .d) node2 node-gives ensures (pre .1 .1 .0) (omega (arith, if1 .left)) (if2 .left) sym2 in
     let apply-is = wholes.apply-is b (args .d) node2 node-gives ensures (pre .1 .1 .0) (omega (arith, if1 .left)) (if2 .left) sym2 in
     let op = knows .op in
-    let apply2 = apply op terms2 in
-    (says-as _ _ _ _ _ (c .closed4 .ensures .0) (as-node _ _ term2 apply2 _ _ _ _ x (cursor-in (args .at) (args .path) (args .c .now)) _ _ _ apply-is (wholes.past-is b (args .d) node2 node-gives ensures (pre .1 .1 .0)) (wholes.finished
-    (context-of (args .kinds .now) (layout-of (args .l .now) .generated)) refl op terms2 node-gives _ (past b (args .d - 1) children x) knows refl
-    (wholes.count-kids b (args .d - 1) children x) (ready-term term2 apply2 apply-is (pre .1 .0) x) (operands .last .1 .0) (o .given .0 .0)
-    (cursor-of (c .before .before .before .before .before .before .before .before .before .before .before .before .before .before .before .before .before .before .operands .last .1 .1 .1 .1 .1 .1 .1 .1 .1 .1 .1 .1 .1 .0)) (operands .kept .1 .0) (collects.collected _ _ _ _ _ _ _ _ _ (o .given .0 .0) (cursor-of (c .before .before .before .before .before .before .before .before .before .before .before .before .before .before .before .before .before .before .operands .last .1 .1 .1 .1 .1 .1 .1 .1 .1 .1 .1 .1 .1 .0))
-    (lists-as _ _ _ _ _ _ _ _ _ _ _ _ _ _ (takes .ensures) (listing .ensures) (operands .ensures .0)) (known-done _ _ _ _ _ (c .before .before .before .before .before .before .before .before .before .before .before .before .before .before .opened2 .ensures) (c .before .before .before .before .before .before .before .before .before .before .before .before .o .given .1))) (finish .last .0) (finish .result)
-    (finish .ensures))), c .closed4 .ensures .1)
+    let apply2 = apply op terms2 in (
+      says-as _ _ _ _ _ (c .closed4 .ensures .0) (as-node _ _ term2 apply2 _ _ _ _ x (cursor-in (args .at) (args .path) (args .c .now)) _ _ _ apply-is (wholes.past-is b (args .d) node2 node-gives ensures (pre .1 .1 .0)) (wholes.finished
+          (context-of (args .kinds .now) (layout-of (args .l .now) .generated)) refl op terms2 node-gives _ (past b (args .d - 1) children x) knows refl
+          (wholes.count-kids b (args .d - 1) children x) (ready-term term2 apply2 apply-is (pre .1 .0) x) (operands .last .1 .0) (o .given .0 .0)
+          (cursor-of operands-cells) (operands .kept .1 .0) (collects.collected _ _ _ _ _ _ _ _ _ (o .given .0 .0) (cursor-of operands-cells)
+          (lists-as _ _ _ _ _ _ _ _ _ _ _ _ _ _ (takes .ensures) (listing .ensures) (operands .ensures .0)) o-known) (finish .last .0) (finish .result)
+          (finish .ensures))),
+      c .closed4 .ensures .1,
+    )
 
 operands-element-copy-out-t27 : (t : ℕ) → operands-lts.Need-element-copy-out-t27 (operands-calls t) (operands-at t) operands.Post
 operands-element-copy-out-t27 t c = search needs
@@ -1562,11 +1662,13 @@ operands-closed-requires t c κs = (packs-at (c .before .no-operands .ensures) (
 
 operands-returns : (t : ℕ) → operands-lts.Need-returns (operands-calls t) (operands-at t) operands.Post
 operands-returns t c =
-    let args = c .before .before .before .before .before .before .before .before .before .before .args in
-    (lists-same _ _ _ _ _ _ _ _ (c .closed .ensures .0) (collects.none-left _ (args .i) _ (args .want) _ _ _ (cursor-in (args .at) (args .path) (args .c .now)) (args .p .now)
-    (past-none (args .b .now) (args .d) (args .left) (args .at) (c .before .before .before .before .before .before .if1 .taken))
-    ((c .before .before .before .before .before .before .before .before .before .before .pre .1 .0) .sound) (args .lists) _ (c .before .before .no-operands .result) (c .before .before .no-operands .ensures)
-    (ap terms (kids-none (args .b .now) (args .d) (args .at) (args .left) (c .before .before .before .before .before .before .if1 .taken)))), c .closed .ensures .1)
+    let args = c .before .before .before .before .before .before .before .before .before .before .args in (
+      lists-same _ _ _ _ _ _ _ _ (c .closed .ensures .0) (collects.none-left _ (args .i) _ (args .want) _ _ _ (cursor-in (args .at) (args .path) (args .c .now)) (args .p .now)
+          (past-none (args .b .now) (args .d) (args .left) (args .at) (c .before .before .before .before .before .before .if1 .taken))
+          ((c .before .before .before .before .before .before .before .before .before .before .pre .1 .0) .sound) (args .lists) _ (c .before .before .no-operands .result) (c .before .before .no-operands .ensures)
+          (ap terms (kids-none (args .b .now) (args .d) (args .at) (args .left) (c .before .before .before .before .before .before .if1 .taken)))),
+      c .closed .ensures .1,
+    )
 
 operands-add-lower : (t : ℕ) → operands-lts.Need-add-lower (operands-calls t) (operands-at t) operands.Post
 operands-add-lower t c = search needs
@@ -1606,6 +1708,7 @@ operands-same-length t c = search needs
 
 operands-returns-2 : (t : ℕ) → operands-lts.Need-returns-2 (operands-calls t) (operands-at t) operands.Post
 operands-returns-2 t c =
+    let lower-cells = c .before .before .before .before .before .before .lower .last .1 .1 .1 .1 .1 .1 .1 .1 .1 .1 .1 .1 .0 in
     let args = c .before .before .before .before .before .before .before .before .before .before .before .before .before .args in
     let pre = c .before .before .before .before .before .before .before .before .before .before .before .before .before .pre in
     let if1 = c .before .before .before .before .before .before .before .before .before .if1 in
@@ -1614,13 +1717,15 @@ operands-returns-2 t c =
     let node = args .at in
     let given3 = c .enum-told .given .0 .0 in
     let given2 = c .enum-told .given .0 .1 .0 in
-    let after = past b (args .d) 1 node in
-    (operands-as _ _ _ _ _ _ _ _ _ _ _ _ b (args .d) (args .left) node (λ z. if1 .left z) (collects.child-refused (args .lists)
-    (context-of (args .kinds .now) (layout-of (args .l .now) .generated)) (args .want) (arm b (args .d) true 1 node) (terms (kids b (args .d) (args .left - 1) after))
-    (args .i) after (past b (args .d) (args .left) node)
-    (operands-ready b (args .d) (args .left) node (args .lists) (args .i) (λ z. if1 .left z) (pre .1 .0)) (lower .last .1 .0) (low-of (lower .result) (lower .last .1 .1 .1 .1 .1 .1 .1 .1 .1 .1 .1 .1 .0)) given3
-    given2 (refused _ _ _ _ _ _ given3 given2 (at-argument _ _ _ _ (args .i) _ _ _ _ _ _ (lower .ensures .0)) (sym (c .before .before .opened .ensures) ∙ c .enum-told .given .1))
-    (sym (c .before .before .opened .ensures) ∙ c .enum-told .given .1)), c .before .before .before .before .before .before .lower .ensures .1)
+    let after = past b (args .d) 1 node in (
+      operands-as _ _ _ _ _ _ _ _ _ _ _ _ b (args .d) (args .left) node (λ z. if1 .left z) (collects.child-refused (args .lists)
+          (context-of (args .kinds .now) (layout-of (args .l .now) .generated)) (args .want) (arm b (args .d) true 1 node) (terms (kids b (args .d) (args .left - 1) after))
+          (args .i) after (past b (args .d) (args .left) node)
+          (operands-ready b (args .d) (args .left) node (args .lists) (args .i) (λ z. if1 .left z) (pre .1 .0)) (lower .last .1 .0) (low-of (lower .result) lower-cells) given3
+          given2 (refused _ _ _ _ _ _ given3 given2 (at-argument _ _ _ _ (args .i) _ _ _ _ _ _ (lower .ensures .0)) (sym (c .before .before .opened .ensures) ∙ c .enum-told .given .1))
+          (sym (c .before .before .opened .ensures) ∙ c .enum-told .given .1)),
+      c .before .before .before .before .before .before .lower .ensures .1,
+    )
 
 operands-add-operands : (t : ℕ) → operands-lts.Need-add-operands (operands-calls t) (operands-at t) operands.Post
 operands-add-operands t c = omega (arith, c .before .before .before .before .before .before .before .before .before .before .before .before .before .before .before .pre .1 .1 .1)
@@ -1636,6 +1741,8 @@ operands-element-copy-out-operands-2 t c = search needs
 
 operands-operands-requires : (t : ℕ) → operands-lts.Need-operands-requires (operands-calls t) (operands-at t) operands.Post
 operands-operands-requires t c κs =
+    let a-known = known-done _ _ _ _ _ (c .before .before .before .before .before .before .before .opened .ensures) (c .before .before .before .before .before .a .given .1) in
+    let lower-cells = c .before .before .before .before .before .before .before .before .before .before .before .lower .last .1 .1 .1 .1 .1 .1 .1 .1 .1 .1 .1 .1 .0 in
     let pre = c .before .before .before .before .before .before .before .before .before .before .before .before .before .before .before .before .before .before .pre in
     let args = c .before .before .before .before .before .before .before .before .before .before .before .before .before .before .before .before .before .before .args in
     let if1 = c .before .before .before .before .before .before .before .before .before .before .before .before .before .before .if1 in
@@ -1645,14 +1752,14 @@ operands-operands-requires t c κs =
     let b = args .b .now in
     let node = args .at in
     let a-value = a .given .0 .0 in
-    let a-next = cursor-of (c .before .before .before .before .before .before .before .before .before .before .before .lower .last .1 .1 .1 .1 .1 .1 .1 .1 .1 .1 .1 .1 .0) in
+    let a-next = cursor-of lower-cells in
     let lower-bytes = lower .last .1 .0 in
     let after2 = past b (args .d) 1 node in
     let context = context-of (args .kinds .now) (layout-of (args .l .now) .generated) in
     let whole = arm b (args .d) true 1 node in
     let after = past b (args .d) (args .left) node in
     let terms2 = terms (kids b (args .d) (args .left - 1) after2) in
-    let is-taken = taken _ _ _ _ _ _ a-value a-next (at-argument _ _ _ _ (args .i) _ _ _ _ _ _ (lower .ensures .0)) (known-done _ _ _ _ _ (c .before .before .before .before .before .before .before .opened .ensures) (c .before .before .before .before .before .a .given .1)) in (
+    let is-taken = taken _ _ _ _ _ _ a-value a-next (at-argument _ _ _ _ (args .i) _ _ _ _ _ _ (lower .ensures .0)) a-known in (
       omega (arith, pre .0, if1 .left),
       (
         rest-ready b (args .d) (args .left - 1) _ _ (sym (collects.is-node lists context (args .want) whole terms2 (args .i) after2 after
@@ -1683,6 +1790,9 @@ operands-same-length-2 t c = search needs
 
 operands-returns-3 : (t : ℕ) → operands-lts.Need-returns-3 (operands-calls t) (operands-at t) operands.Post
 operands-returns-3 t c =
+    let a-known = known-done _ _ _ _ _ (c .before .before .before .before .before .before .before .before .before .before .before .before .before .before .opened .ensures) (c .before .before .before .before .before .before .before .before .before .before .before .before .a .given .1) in
+    let lower-cells = c .before .before .before .before .before .before .before .before .before .before .before .before .before .before .before .before .before .before .lower .last .1 .1 .1 .1 .1 .1 .1 .1 .1 .1 .1 .1 .0 in
+    let operands-cells = c .before .before .before .before .before .before .operands .last .1 .1 .1 .1 .1 .1 .1 .1 .1 .1 .1 .1 .1 .0 in
     let args = c .before .before .before .before .before .before .before .before .before .before .before .before .before .before .before .before .before .before .before .before .before .before .before .before .before .args in
     let pre = c .before .before .before .before .before .before .before .before .before .before .before .before .before .before .before .before .before .before .before .before .before .before .before .before .before .pre in
     let if1 = c .before .before .before .before .before .before .before .before .before .before .before .before .before .before .before .before .before .before .before .before .before .if1 in
@@ -1691,7 +1801,7 @@ operands-returns-3 t c =
     let operands = c .before .before .before .before .before .before .operands in
     let b = args .b .now in
     let node = args .at in
-    let a-next = cursor-of (c .before .before .before .before .before .before .before .before .before .before .before .before .before .before .before .before .before .before .lower .last .1 .1 .1 .1 .1 .1 .1 .1 .1 .1 .1 .1 .0) in
+    let a-next = cursor-of lower-cells in
     let given4 = sym (c .before .before .opened2 .ensures) ∙ c .enum-told2 .given .1 in
     let given3 = c .enum-told2 .given .0 .0 in
     let given2 = c .enum-told2 .given .0 .1 .0 in
@@ -1700,13 +1810,15 @@ operands-returns-3 t c =
     let whole = arm b (args .d) true 1 node in
     let after = past b (args .d) (args .left) node in
     let terms2 = terms (kids b (args .d) (args .left - 1) after2) in
-    let is-taken = taken _ _ _ _ _ _ (a .given .0 .0) a-next (at-argument _ _ _ _ (args .i) _ _ _ _ _ _ (lower .ensures .0)) (known-done _ _ _ _ _ (c .before .before .before .before .before .before .before .before .before .before .before .before .before .before .opened .ensures) (c .before .before .before .before .before .before .before .before .before .before .before .before .a .given .1)) in
-    (operands-as _ _ _ _ _ _ _ _ _ _ _ _ b (args .d) (args .left) node (λ z. if1 .left z) (collects.rest-refused (args .lists) context (args .want)
-    whole terms2 (args .i) after2 after (operands-ready b (args .d) (args .left) node (args .lists) (args .i) (λ z. if1 .left z) (pre .1 .0))
-    (lower .last .1 .0) (a .given .0 .0) a-next is-taken (operands .last .1 .0) (low-of (operands .result) (operands .last .1 .1 .1 .1 .1 .1 .1 .1 .1 .1 .1 .1 .1 .0)) given3 given2 (collects.turned _ _ _ _ _ _ _ _ _
-    given3 given2 (rest-as _ _ _ _ _ _ _ _ _ _ _ b (args .d) (args .left) node (a-next .node) (collects.is-node (args .lists) context (args .want)
-    whole terms2 (args .i) after2 after (operands-ready b (args .d) (args .left) node (args .lists) (args .i) (λ z. if1 .left z) (pre .1 .0))
-    (lower .last .1 .0) (a .given .0 .0) a-next is-taken) (λ z. if1 .left z) (operands .ensures .0)) given4) given4), c .before .before .before .before .before .before .operands .ensures .1)
+    let is-taken = taken _ _ _ _ _ _ (a .given .0 .0) a-next (at-argument _ _ _ _ (args .i) _ _ _ _ _ _ (lower .ensures .0)) a-known in (
+      operands-as _ _ _ _ _ _ _ _ _ _ _ _ b (args .d) (args .left) node (λ z. if1 .left z) (collects.rest-refused (args .lists) context (args .want)
+          whole terms2 (args .i) after2 after (operands-ready b (args .d) (args .left) node (args .lists) (args .i) (λ z. if1 .left z) (pre .1 .0))
+          (lower .last .1 .0) (a .given .0 .0) a-next is-taken (operands .last .1 .0) (low-of (operands .result) operands-cells) given3 given2 (collects.turned _ _ _ _ _ _ _ _ _
+          given3 given2 (rest-as _ _ _ _ _ _ _ _ _ _ _ b (args .d) (args .left) node (a-next .node) (collects.is-node (args .lists) context (args .want)
+          whole terms2 (args .i) after2 after (operands-ready b (args .d) (args .left) node (args .lists) (args .i) (λ z. if1 .left z) (pre .1 .0))
+          (lower .last .1 .0) (a .given .0 .0) a-next is-taken) (λ z. if1 .left z) (operands .ensures .0)) given4) given4),
+      c .before .before .before .before .before .before .operands .ensures .1,
+    )
 
 operands-same-requires : (t : ℕ) → operands-lts.Need-same-requires (operands-calls t) (operands-at t) operands.Post
 operands-same-requires t c κs = search needs
@@ -1719,6 +1831,10 @@ operands-element-copy-out-list-entry-2 t c = search needs
 
 operands-add-list-entry : (t : ℕ) → operands-lts.Need-add-list-entry (operands-calls t) (operands-at t) operands.Post
 operands-add-list-entry t c =
+    let a-known = known-done _ _ _ _ _ (c .before .before .before .before .before .before .before .before .before .before .before .before .before .before .before .before .before .before .before .opened .ensures) (c .before .before .before .before .before .before .before .before .before .before .before .before .before .before .before .before .before .a .given .1) in
+    let rest-known = known-done _ _ _ _ _ (c .before .before .before .before .before .before .before .opened2 .ensures) (c .before .before .before .before .before .rest .given .1) in
+    let lower-cells = c .before .before .before .before .before .before .before .before .before .before .before .before .before .before .before .before .before .before .before .before .before .before .before .lower .last .1 .1 .1 .1 .1 .1 .1 .1 .1 .1 .1 .1 .0 in
+    let operands-cells = c .before .before .before .before .before .before .before .before .before .before .before .operands .last .1 .1 .1 .1 .1 .1 .1 .1 .1 .1 .1 .1 .1 .0 in
     let args = c .before .before .before .before .before .before .before .before .before .before .before .before .before .before .before .before .before .before .before .before .before .before .before .before .before .before .before .before .before .before .args in
     let pre = c .before .before .before .before .before .before .before .before .before .before .before .before .before .before .before .before .before .before .before .before .before .before .before .before .before .before .before .before .before .before .pre in
     let good = c .before .before .before .before .before .before .before .before .before .before .before .before .before .before .before .before .before .before .before .before .before .before .before .before .before .before .before .before .before .before .good in
@@ -1729,28 +1845,32 @@ operands-add-list-entry t c =
     let rest = c .before .before .before .before .before .rest in
     let b = args .b .now in
     let node = args .at in
-    let a-next = cursor-of (c .before .before .before .before .before .before .before .before .before .before .before .before .before .before .before .before .before .before .before .before .before .before .before .lower .last .1 .1 .1 .1 .1 .1 .1 .1 .1 .1 .1 .1 .0) in
+    let a-next = cursor-of lower-cells in
     let after2 = past b (args .d) 1 node in
     let context = context-of (args .kinds .now) (layout-of (args .l .now) .generated) in
     let whole = arm b (args .d) true 1 node in
     let after = past b (args .d) (args .left) node in
     let terms2 = terms (kids b (args .d) (args .left - 1) after2) in
-    let is-taken = taken _ _ _ _ _ _ (a .given .0 .0) a-next (at-argument _ _ _ _ (args .i) _ _ _ _ _ _ (lower .ensures .0)) (known-done _ _ _ _ _ (c .before .before .before .before .before .before .before .before .before .before .before .before .before .before .before .before .before .before .before .opened .ensures) (c .before .before .before .before .before .before .before .before .before .before .before .before .before .before .before .before .before .a .given .1)) in
+    let is-taken = taken _ _ _ _ _ _ (a .given .0 .0) a-next (at-argument _ _ _ _ (args .i) _ _ _ _ _ _ (lower .ensures .0)) a-known in
     omega (
       arith,
       collects.entry-small (args .lists) context (args .want) whole terms2 (args .i) after2 after
           (operands-ready b (args .d) (args .left) node (args .lists) (args .i) (λ z. if1 .left z) (pre .1 .0)) (lower .last .1 .0) (a .given .0 .0) a-next
-          is-taken (operands .last .1 .0) (rest .given .0 .0) (cursor-of (c .before .before .before .before .before .before .before .before .before .before .before .operands .last .1 .1 .1 .1 .1 .1 .1 .1 .1 .1 .1 .1 .1 .0)) (operands .kept .1 .0) (collects.collected _ _ _ _ _ _ _ _ _
-          (rest .given .0 .0) (cursor-of (c .before .before .before .before .before .before .before .before .before .before .before .operands .last .1 .1 .1 .1 .1 .1 .1 .1 .1 .1 .1 .1 .1 .0)) (rest-as _ _ _ _ _ _ _ _ _ _ _ b (args .d) (args .left) node (a-next .node) (collects.is-node
+          is-taken (operands .last .1 .0) (rest .given .0 .0) (cursor-of operands-cells) (operands .kept .1 .0) (collects.collected _ _ _ _ _ _ _ _ _
+          (rest .given .0 .0) (cursor-of operands-cells) (rest-as _ _ _ _ _ _ _ _ _ _ _ b (args .d) (args .left) node (a-next .node) (collects.is-node
           (args .lists) context (args .want) whole terms2 (args .i) after2 after
           (operands-ready b (args .d) (args .left) node (args .lists) (args .i) (λ z. if1 .left z) (pre .1 .0)) (lower .last .1 .0) (a .given .0 .0) a-next
-          is-taken) (λ z. if1 .left z) (operands .ensures .0)) (known-done _ _ _ _ _ (c .before .before .before .before .before .before .before .opened2 .ensures) (c .before .before .before .before .before .rest .given .1))),
+          is-taken) (λ z. if1 .left z) (operands .ensures .0)) rest-known),
       pre .1 .1 .1,
       good .1 .0 .0,
     )
 
 operands-list-entry-requires : (t : ℕ) → operands-lts.Need-list-entry-requires (operands-calls t) (operands-at t) operands.Post
 operands-list-entry-requires t c κs =
+    let a-known = known-done _ _ _ _ _ (c .before .before .before .before .before .before .before .before .before .before .before .before .before .before .before .before .before .before .before .opened .ensures) (c .before .before .before .before .before .before .before .before .before .before .before .before .before .before .before .before .before .a .given .1) in
+    let rest-known = known-done _ _ _ _ _ (c .before .before .before .before .before .before .before .opened2 .ensures) (c .before .before .before .before .before .rest .given .1) in
+    let lower-cells = c .before .before .before .before .before .before .before .before .before .before .before .before .before .before .before .before .before .before .before .before .before .before .before .lower .last .1 .1 .1 .1 .1 .1 .1 .1 .1 .1 .1 .1 .0 in
+    let operands-cells = c .before .before .before .before .before .before .before .before .before .before .before .operands .last .1 .1 .1 .1 .1 .1 .1 .1 .1 .1 .1 .1 .1 .0 in
     let args = c .before .before .before .before .before .before .before .before .before .before .before .before .before .before .before .before .before .before .before .before .before .before .before .before .before .before .before .before .before .before .args in
     let pre = c .before .before .before .before .before .before .before .before .before .before .before .before .before .before .before .before .before .before .before .before .before .before .before .before .before .before .before .before .before .before .pre in
     let if1 = c .before .before .before .before .before .before .before .before .before .before .before .before .before .before .before .before .before .before .before .before .before .before .before .before .before .before .if1 in
@@ -1760,20 +1880,20 @@ operands-list-entry-requires t c κs =
     let rest = c .before .before .before .before .before .rest in
     let b = args .b .now in
     let node = args .at in
-    let a-next = cursor-of (c .before .before .before .before .before .before .before .before .before .before .before .before .before .before .before .before .before .before .before .before .before .before .before .lower .last .1 .1 .1 .1 .1 .1 .1 .1 .1 .1 .1 .1 .0) in
+    let a-next = cursor-of lower-cells in
     let after2 = past b (args .d) 1 node in
     let context = context-of (args .kinds .now) (layout-of (args .l .now) .generated) in
     let whole = arm b (args .d) true 1 node in
     let after = past b (args .d) (args .left) node in
     let terms2 = terms (kids b (args .d) (args .left - 1) after2) in
-    let is-taken = taken _ _ _ _ _ _ (a .given .0 .0) a-next (at-argument _ _ _ _ (args .i) _ _ _ _ _ _ (lower .ensures .0)) (known-done _ _ _ _ _ (c .before .before .before .before .before .before .before .before .before .before .before .before .before .before .before .before .before .before .before .opened .ensures) (c .before .before .before .before .before .before .before .before .before .before .before .before .before .before .before .before .before .a .given .1)) in
+    let is-taken = taken _ _ _ _ _ _ (a .given .0 .0) a-next (at-argument _ _ _ _ (args .i) _ _ _ _ _ _ (lower .ensures .0)) a-known in
     collects.entry-room (args .lists) context (args .want) whole terms2 (args .i) after2 after
     (operands-ready b (args .d) (args .left) node (args .lists) (args .i) (λ z. if1 .left z) (pre .1 .0)) (lower .last .1 .0) (a .given .0 .0) a-next
-    is-taken (operands .last .1 .0) (rest .given .0 .0) (cursor-of (c .before .before .before .before .before .before .before .before .before .before .before .operands .last .1 .1 .1 .1 .1 .1 .1 .1 .1 .1 .1 .1 .1 .0)) (operands .kept .1 .0) (collects.collected _ _ _ _ _ _ _ _ _
-    (rest .given .0 .0) (cursor-of (c .before .before .before .before .before .before .before .before .before .before .before .operands .last .1 .1 .1 .1 .1 .1 .1 .1 .1 .1 .1 .1 .1 .0)) (rest-as _ _ _ _ _ _ _ _ _ _ _ b (args .d) (args .left) node (a-next .node) (collects.is-node
+    is-taken (operands .last .1 .0) (rest .given .0 .0) (cursor-of operands-cells) (operands .kept .1 .0) (collects.collected _ _ _ _ _ _ _ _ _
+    (rest .given .0 .0) (cursor-of operands-cells) (rest-as _ _ _ _ _ _ _ _ _ _ _ b (args .d) (args .left) node (a-next .node) (collects.is-node
     (args .lists) context (args .want) whole terms2 (args .i) after2 after
     (operands-ready b (args .d) (args .left) node (args .lists) (args .i) (λ z. if1 .left z) (pre .1 .0)) (lower .last .1 .0) (a .given .0 .0) a-next
-    is-taken) (λ z. if1 .left z) (operands .ensures .0)) (known-done _ _ _ _ _ (c .before .before .before .before .before .before .before .opened2 .ensures) (c .before .before .before .before .before .rest .given .1)))
+    is-taken) (λ z. if1 .left z) (operands .ensures .0)) rest-known)
 
 operands-all-requires : (t : ℕ) → operands-lts.Need-all-requires (operands-calls t) (operands-at t) operands.Post
 operands-all-requires t c κs = search needs
@@ -1783,7 +1903,9 @@ operands-any-requires t c κs = search needs
 
 operands-number-requires : (t : ℕ) → operands-lts.Need-number-requires (operands-calls t) (operands-at t) operands.Post
 operands-number-requires t c κs =
-    let first = known-small _ _ _ _ _ (c .before .before .before .before .before .before .before .before .before .before .before .before .before .before .before .before .before .before .before .before .before .before .before .before .opened .ensures) (c .before .before .before .before .before .before .before .before .before .before .before .before .before .before .before .before .before .before .before .before .before .before .a .given .1) in
+    let first-opened = c .before .before .before .before .before .before .before .before .before .before .before .before .before .before .before .before .before .before .before .before .before .before .before .before .opened in
+    let first-given = c .before .before .before .before .before .before .before .before .before .before .before .before .before .before .before .before .before .before .before .before .before .before .a in
+    let first = known-small _ _ _ _ _ (first-opened .ensures) (first-given .given .1) in
     let others = known-small _ _ _ _ _ (c .before .before .before .before .before .before .before .before .before .before .before .before .opened2 .ensures) (c .before .before .before .before .before .before .before .before .before .before .rest .given .1) in
     (first .0, others .0, others .1)
 
@@ -1795,6 +1917,12 @@ operands-same-length-3 t c =
 
 operands-returns-4 : (t : ℕ) → operands-lts.Need-returns-4 (operands-calls t) (operands-at t) operands.Post
 operands-returns-4 t c =
+    let a-known-opened = c .before .before .before .before .before .before .before .before .before .before .before .before .before .before .before .before .before .before .before .before .before .before .before .before .before .opened in
+    let a-known-given = c .before .before .before .before .before .before .before .before .before .before .before .before .before .before .before .before .before .before .before .before .before .before .before .a in
+    let a-known = known-done _ _ _ _ _ (a-known-opened .ensures) (a-known-given .given .1) in
+    let rest-known = known-done _ _ _ _ _ (c .before .before .before .before .before .before .before .before .before .before .before .before .before .opened2 .ensures) (c .before .before .before .before .before .before .before .before .before .before .before .rest .given .1) in
+    let lower-cells = c .before .before .before .before .before .before .before .before .before .before .before .before .before .before .before .before .before .before .before .before .before .before .before .before .before .before .before .before .before .lower .last .1 .1 .1 .1 .1 .1 .1 .1 .1 .1 .1 .1 .0 in
+    let operands-cells = c .before .before .before .before .before .before .before .before .before .before .before .before .before .before .before .before .before .operands .last .1 .1 .1 .1 .1 .1 .1 .1 .1 .1 .1 .1 .1 .0 in
     let args = c .before .before .before .before .before .before .before .before .before .before .before .before .before .before .before .before .before .before .before .before .before .before .before .before .before .before .before .before .before .before .before .before .before .before .before .before .args in
     let pre = c .before .before .before .before .before .before .before .before .before .before .before .before .before .before .before .before .before .before .before .before .before .before .before .before .before .before .before .before .before .before .before .before .before .before .before .before .pre in
     let if1 = c .before .before .before .before .before .before .before .before .before .before .before .before .before .before .before .before .before .before .before .before .before .before .before .before .before .before .before .before .before .before .before .before .if1 in
@@ -1807,22 +1935,21 @@ operands-returns-4 t c =
     let b = args .b .now in
     let node = args .at in
     let rest-value = rest .given .0 .0 in
-    let a-next = cursor-of (c .before .before .before .before .before .before .before .before .before .before .before .before .before .before .before .before .before .before .before .before .before .before .before .before .before .before .before .before .before .lower .last .1 .1 .1 .1 .1 .1 .1 .1 .1 .1 .1 .1 .0) in
+    let a-next = cursor-of lower-cells in
     let after2 = past b (args .d) 1 node in
     let context = context-of (args .kinds .now) (layout-of (args .l .now) .generated) in
     let whole = arm b (args .d) true 1 node in
     let after = past b (args .d) (args .left) node in
     let terms2 = terms (kids b (args .d) (args .left - 1) after2) in
-    let is-taken = taken _ _ _ _ _ _ (a .given .0 .0) a-next (at-argument _ _ _ _ (args .i) _ _ _ _ _ _ (lower .ensures .0)) (known-done _ _ _ _ _ (c .before .before .before .before .before .before .before .before .before .before .before .before .before .before .before .before .before .before .before .before .before .before .before .before .before .opened .ensures) (c .before .before .before .before .before .before .before .before .before .before .before .before .before .before .before .before .before .before .before .before .before .before .before .a .given .1)) in
-    (
-      lists-same _ _ _ _ _ _ _ _ (closes-done (c .number .result) (c .before .before .before .before .before .before .before .before .before .before .before .before .before .before .before .before .before .operands .last .1 .1 .1 .1 .1 .1 .1 .1 .1 .1 .1 .1 .1 .0) _ _ (c .number .ensures .0) (c .number .ensures .1) refl) (operands-as _ _ _ _ _ _ _ _ _ _ _ _ b (args .d) (args .left) node (λ z. if1 .left z) (collects.all-collected (args .lists) context (args .want)
-    whole terms2 (args .i) after2 after (operands-ready b (args .d) (args .left) node (args .lists) (args .i) (λ z. if1 .left z) (pre .1 .0))
-    (lower .last .1 .0) (a .given .0 .0) a-next is-taken (operands .last .1 .0) rest-value (cursor-of (c .before .before .before .before .before .before .before .before .before .before .before .before .before .before .before .before .before .operands .last .1 .1 .1 .1 .1 .1 .1 .1 .1 .1 .1 .1 .1 .0)) (operands .kept .1 .0)
-    (collects.collected _ _ _ _ _ _ _ _ _ rest-value (cursor-of (c .before .before .before .before .before .before .before .before .before .before .before .before .before .before .before .before .before .operands .last .1 .1 .1 .1 .1 .1 .1 .1 .1 .1 .1 .1 .1 .0)) (rest-as _ _ _ _ _ _ _ _ _ _ _ b (args .d) (args .left) node
-    (a-next .node) (collects.is-node (args .lists) context (args .want) whole terms2 (args .i) after2 after
-    (operands-ready b (args .d) (args .left) node (args .lists) (args .i) (λ z. if1 .left z) (pre .1 .0)) (lower .last .1 .0) (a .given .0 .0) a-next
-    is-taken) (λ z. if1 .left z) (operands .ensures .0)) (known-done _ _ _ _ _ (c .before .before .before .before .before .before .before .before .before .before .before .before .before .opened2 .ensures) (c .before .before .before .before .before .before .before .before .before .before .before .rest .given .1))) (list-entry .last .0) (c .before .before .all .result) (c .before .any .result)
-    (list-entry .ensures) (c .before .before .all .ensures ∙ ap (λ (x : Bool). x && rest-value .boolean) (same .ensures)) (c .before .any .ensures))),
+    let is-taken = taken _ _ _ _ _ _ (a .given .0 .0) a-next (at-argument _ _ _ _ (args .i) _ _ _ _ _ _ (lower .ensures .0)) a-known in (
+      lists-same _ _ _ _ _ _ _ _ (closes-done (c .number .result) operands-cells _ _ (c .number .ensures .0) (c .number .ensures .1) refl) (operands-as _ _ _ _ _ _ _ _ _ _ _ _ b (args .d) (args .left) node (λ z. if1 .left z) (collects.all-collected (args .lists) context (args .want)
+          whole terms2 (args .i) after2 after (operands-ready b (args .d) (args .left) node (args .lists) (args .i) (λ z. if1 .left z) (pre .1 .0))
+          (lower .last .1 .0) (a .given .0 .0) a-next is-taken (operands .last .1 .0) rest-value (cursor-of operands-cells) (operands .kept .1 .0)
+          (collects.collected _ _ _ _ _ _ _ _ _ rest-value (cursor-of operands-cells) (rest-as _ _ _ _ _ _ _ _ _ _ _ b (args .d) (args .left) node
+          (a-next .node) (collects.is-node (args .lists) context (args .want) whole terms2 (args .i) after2 after
+          (operands-ready b (args .d) (args .left) node (args .lists) (args .i) (λ z. if1 .left z) (pre .1 .0)) (lower .last .1 .0) (a .given .0 .0) a-next
+          is-taken) (λ z. if1 .left z) (operands .ensures .0)) rest-known) (list-entry .last .0) (c .before .before .all .result) (c .before .any .result)
+          (list-entry .ensures) (c .before .before .all .ensures ∙ ap (λ (x : Bool). x && rest-value .boolean) (same .ensures)) (c .before .any .ensures))),
       c .before .before .before .before .before .before .before .before .before .before .before .before .before .before .before .before .before .operands .ensures .1,
     )
 

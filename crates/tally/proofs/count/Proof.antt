@@ -82,12 +82,14 @@ add-owed c =
 add-at : tie.Need-add-at Inv-loop μ-loop
 add-at c =
     let loop = c .before .before .before .before .before .before .before .before .before .loop in
-    omega (arith, node-there (c .before .before .before .before .before .before .before .before .before .before .before .args .b .now) (c .before .before .before .before .before .before .before .before .before .before .before .args .d) (loop .at) (loop .owed) (loop .code) (loop .paths) (loop .entries) (loop .inv) (λ z. omega (arith, z, c .before .before .before .before .before .before .before .before .loop-test .taken)), c .before .before .before .before .before .before .before .before .before .before .before .good .0 .0)
+    let args = c .before .before .before .before .before .before .before .before .before .before .before .args in
+    omega (arith, node-there (args .b .now) (args .d) (loop .at) (loop .owed) (loop .code) (loop .paths) (loop .entries) (loop .inv) (λ z. omega (arith, z, c .before .before .before .before .before .before .before .before .loop-test .taken)), c .before .before .before .before .before .before .before .before .before .before .before .good .0 .0)
 
 loop-less : tie.Need-loop-less Inv-loop μ-loop
 loop-less c =
     let loop = c .before .before .before .before .before .before .before .before .before .loop in
-    omega (arith, node-there (c .before .before .before .before .before .before .before .before .before .before .before .args .b .now) (c .before .before .before .before .before .before .before .before .before .before .before .args .d) (loop .at) (loop .owed) (loop .code) (loop .paths) (loop .entries) (loop .inv) (λ z. omega (arith, z, c .before .before .before .before .before .before .before .before .loop-test .taken)))
+    let args = c .before .before .before .before .before .before .before .before .before .before .before .args in
+    omega (arith, node-there (args .b .now) (args .d) (loop .at) (loop .owed) (loop .code) (loop .paths) (loop .entries) (loop .inv) (λ z. omega (arith, z, c .before .before .before .before .before .before .before .before .loop-test .taken)))
 
 loop-again : tie.Need-loop-again Inv-loop μ-loop
 loop-again c =
