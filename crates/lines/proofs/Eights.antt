@@ -13,7 +13,7 @@ use lib.Bits.{bitAnd, and-block, and-le-r, and-mask, and-zero-r}
 use Rattle.formula.specs.Text.{all-some, byte-at, half-at, joined, little-endian, long-at, word-at}
 use Rattle.names.specs.Lines.{cap, part, place}
 use Rattle.lines.specs.declared.words.Digits.the-variants.{Number}
-use Rattle.lines.specs.Eights.{All-below, Numbers, Spelled, digit-byte}
+use Rattle.lines.specs.Eights.{All-below, Numbers, digit-byte}
 use Rattle.names.proofs.Digits.{digit-is}
 use Rattle.names.proofs.Splits.{and-first, and-second}
 use Rattle.formula.specs.Values.{digit-of, digits-in, hex, hex-digits, numbered, of-digits}
@@ -131,16 +131,21 @@ bytes-fit (d ∷ ds) h = let l = h .0 in (omega arith, bytes-fit ds (h .1))
 word-packed : (w : ℕ) → w < 18446744073709551616 → w ≡ packed (little-endian 8 w)
 word-packed w h = omega arith
 
-pub spelled-bytes : (w : ℕ) → w < 18446744073709551616
-    → Spelled (little-endian 8 w) (little-endian 8 (w + 3472328296227680304 + 39 * bitAnd ((w + 434041037028460038) / 16) 72340172838076673))
-spelled-bytes w h below =
-    let ds = little-endian 8 w in
-    let same = word-packed w h in
-    ap (λ (i : ℕ). little-endian 8 (i + 3472328296227680304 + 39 * bitAnd ((i + 434041037028460038) / 16) 72340172838076673)) same
-    ∙ ap (λ (i : ℕ). little-endian 8 (packed ds + 3472328296227680304 + 39 * i)) (letters ds below)
-    ∙ ap (little-endian 8) (bytes-of ds)
-    ∙ packed-again (map byte-of ds) (bytes-below ds below)
-    ∙ bytes-are ds below
+module _ (w : ℕ) (h : w < 18446744073709551616) (below : All-below 16 (little-endian 8 w)) where
+  pub digits-le : w ≤ 1085102592571150095
+  digits-le =
+      let l = below in
+      omega (arith, l .0, l .1 .0, l .1 .1 .0, l .1 .1 .1 .0, l .1 .1 .1 .1 .0, l .1 .1 .1 .1 .1 .0, l .1 .1 .1 .1 .1 .1 .0, l .1 .1 .1 .1 .1 .1 .1 .0)
+
+  pub spelled-bytes : little-endian 8 (w + 3472328296227680304 + 39 * bitAnd ((w + 434041037028460038) / 16) 72340172838076673) ≡ map digit-byte (little-endian 8 w)
+  spelled-bytes =
+      let ds = little-endian 8 w in
+      let same = word-packed w h in
+      ap (λ (i : ℕ). little-endian 8 (i + 3472328296227680304 + 39 * bitAnd ((i + 434041037028460038) / 16) 72340172838076673)) same
+      ∙ ap (λ (i : ℕ). little-endian 8 (packed ds + 3472328296227680304 + 39 * i)) (letters ds below)
+      ∙ ap (little-endian 8) (bytes-of ds)
+      ∙ packed-again (map byte-of ds) (bytes-below ds below)
+      ∙ bytes-are ds below
 
 -- ---- the number of digits: neighbours are joined, then pairs, then fours
 
@@ -221,22 +226,24 @@ number-is a b c d e f g h (la, (lb, (lc, (ld, (le, (lf, (lg, (lh, u)))))))) =
 abbrev pub nibbles-of : ℕ → ℕ
 nibbles-of x = bitAnd x 1085102592571150095
 
-pub eight-digits : (w x s : ℕ) → Spelled (little-endian 8 (nibbles-of x)) (little-endian 8 s) → w ≡ s → Numbers 8 (little-endian 8 w) (Number (number-of (nibbles-of x)))
-unfolding cap
-eight-digits w x s spelled e =
-    let ds = nibbles 8 x in
-    let below = nibbles-below 8 x in
-    let same : nibbles-of x ≡ packed ds = nibbles-packed 8 x in
-    let own : little-endian 8 (nibbles-of x) ≡ ds = ap (little-endian 8) same ∙ packed-again ds (bytes-fit ds below) in
-    let bytes : little-endian 8 w ≡ map digit-byte ds =
-    ap (little-endian 8) e
-    ∙ spelled (subst (λ (xs : List ℕ). All-below 16 xs) (sym own) below)
-    ∙ ap (map digit-byte) own in (
-      ap (λ (xs : List ℕ). numbered (all-some (map digit-of xs))) bytes
-          ∙ ap numbered (bytes-again ds below)
-          ∙ ap (λ (i : ℕ). some i) (sym (ap number-of same ∙ number-is _ _ _ _ _ _ _ _ below)),
-      omega arith,
-    )
+module _ (x : ℕ) where
+  own-nibbles : little-endian 8 (nibbles-of x) ≡ nibbles 8 x
+  own-nibbles = ap (little-endian 8) (nibbles-packed 8 x) ∙ packed-again (nibbles 8 x) (bytes-fit (nibbles 8 x) (nibbles-below 8 x))
+
+  pub own-below : All-below 16 (little-endian 8 (nibbles-of x))
+  own-below = subst (λ (xs : List ℕ). All-below 16 xs) (sym own-nibbles) (nibbles-below 8 x)
+
+  pub eight-digits : (w s : ℕ) → little-endian 8 s ≡ map digit-byte (little-endian 8 (nibbles-of x)) → w ≡ s → Numbers 8 (little-endian 8 w) (Number (number-of (nibbles-of x)))
+  unfolding cap
+  eight-digits w s spelled e =
+      let ds = nibbles 8 x in
+      let below = nibbles-below 8 x in
+      let bytes : little-endian 8 w ≡ map digit-byte ds = ap (little-endian 8) e ∙ spelled ∙ ap (map digit-byte) own-nibbles in (
+        ap (λ (xs : List ℕ). numbered (all-some (map digit-of xs))) bytes
+            ∙ ap numbered (bytes-again ds below)
+            ∙ ap (λ (i : ℕ). some i) (sym (ap number-of (nibbles-packed 8 x) ∙ number-is _ _ _ _ _ _ _ _ below)),
+        omega arith,
+      )
 
 -- ---- the digits of a number: it is parted into fours, then pairs, then digits
 
@@ -332,10 +339,14 @@ module _ (n : ℕ) where
       let z7 : n % 65536 % 256 % 16 ≡ n % 16 = omega arith in
       rw (z0, z1, z2, z3, z4, z5, z6, z7)
 
-  pub written : (s : ℕ) → Spelled (little-endian 8 (digits-parted (pairs-in (fours-in n)))) (little-endian 8 s) → little-endian 8 s ≡ digits-in 8 n
-  written s spelled =
-      let own : little-endian 8 (digits-parted (pairs-in (fours-in n))) ≡ parted = ap (little-endian 8) parted-packed ∙ packed-again parted (bytes-fit parted parted-below) in
-      spelled (subst (λ (xs : List ℕ). All-below 16 xs) (sym own) parted-below) ∙ ap (map digit-byte) own ∙ parted-digits
+  own-parted : little-endian 8 (digits-parted (pairs-in (fours-in n))) ≡ parted
+  own-parted = ap (little-endian 8) parted-packed ∙ packed-again parted (bytes-fit parted parted-below)
+
+  pub written-below : All-below 16 (little-endian 8 (digits-parted (pairs-in (fours-in n))))
+  written-below = subst (λ (xs : List ℕ). All-below 16 xs) (sym own-parted) parted-below
+
+  pub written : (s : ℕ) → little-endian 8 s ≡ map digit-byte (little-endian 8 (digits-parted (pairs-in (fours-in n)))) → little-endian 8 s ≡ digits-in 8 n
+  written s spelled = spelled ∙ ap (map digit-byte) own-parted ∙ parted-digits
 
 -- ---- a value's sixteen digits
 

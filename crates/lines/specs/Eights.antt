@@ -22,7 +22,3 @@ All-below n (x ∷ xs) = (x < n) × All-below n xs
 -- "Hex digits come from a table of sixteen bytes."
 abbrev pub digit-byte : ℕ → ℕ
 digit-byte d = getD hex-digits d 0
-
--- the bytes of digits
-abbrev pub Spelled : List ℕ → List ℕ → Type 0
-Spelled ds xs = All-below 16 ds → xs ≡ map digit-byte ds

@@ -134,7 +134,7 @@ fn read_each(input: &[u8], from: usize, s: Reading) -> Part
     part_to(s, digits, bits, end)
 }
 
-// The sixteen digits of a value, from a byte of the input on.
+// The sixteen digits of a value, from a byte of the input on. Both words are read first, so that one test is enough for both.
 fn sixteen(input: &[u8], at: usize) -> Digits
     requires { ⌜ at + 16 ≤ length (now input) ⌝ }
     ensures { λ r. ⌜ Numbers 16 (part (now (input .entry)) at (at + 16)) r ⌝ }

@@ -1,10 +1,10 @@
 // Eight digits of a value in a word, the first in its lowest byte: all are read at once, and written at once.
 use std::num::wrapping_add_u64;
 ghost use mathlib.Core.Path.{_≡_};
-ghost use Prim.Native.Nat.{_≤_};
+ghost use mathlib.Core.List.{map};
 ghost use Rattle.formula.specs.Text.{little-endian};
 ghost use Rattle.formula.specs.Values.{digits-in};
-ghost use Rattle.lines.specs.Eights.{Numbers, Spelled};
+ghost use Rattle.lines.specs.Eights.{All-below, Numbers, digit-byte};
 
 // What bytes are found to be: digits with this number, or not.
 pub enum Digits {
@@ -14,8 +14,8 @@ pub enum Digits {
 
 // The bytes of eight digits, each in a byte of the word: 48 more, and 87 more from ten on.
 fn spelled(digits: u64) -> u64
-    requires { ⌜ digits ≤ 1085102592571150095 ⌝ }
-    ensures { λ r. ⌜ Spelled (little-endian 8 digits) (little-endian 8 r) ⌝ }
+    requires { ⌜ All-below 16 (little-endian 8 digits) ⌝ }
+    ensures { λ r. ⌜ little-endian 8 r ≡ map digit-byte (little-endian 8 digits) ⌝ }
 {
     let tens = ((digits + 0x0606_0606_0606_0606) / 16) & 0x0101_0101_0101_0101;
     digits + 0x3030_3030_3030_3030 + 39 * tens

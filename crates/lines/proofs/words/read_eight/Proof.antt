@@ -1,7 +1,7 @@
 use Prim.Native.Nat.{_+_, _*_, _/_}
 use native.Mathlib.Omega.{arith}
 use lib.Bits.{and-le-r}
-use Rattle.lines.proofs.Eights.{eight-digits, nibbles-of, pairs-of}
+use Rattle.lines.proofs.Eights.{eight-digits, nibbles-of, own-below, pairs-of}
 use borrow.Author.Needs.{needs}
 use Rattle.lines.proofs.words.read_eight.Statement.{statement}
 use Rattle.lines.proofs.words.read_eight.Tie as tie
@@ -13,7 +13,7 @@ wrapping-add-u64-requires : tie.Need-wrapping-add-u64-requires
 wrapping-add-u64-requires c κs = search needs
 
 spelled-requires : tie.Need-spelled-requires
-spelled-requires c κs = and-le-r (c .wrapping-add-u64 .result) 1085102592571150095
+spelled-requires c κs = own-below (c .wrapping-add-u64 .result)
 
 mul-pairs : tie.Need-mul-pairs
 mul-pairs c = omega (arith, and-le-r (c .before .before .wrapping-add-u64 .result) 1085102592571150095)
@@ -34,7 +34,7 @@ add-t11 : tie.Need-add-t11
 add-t11 c = let p = pairs-of (nibbles-of (c .before .before .wrapping-add-u64 .result)) in omega (arith, and-le-r (256 * p + p / 65536) 281470681808895)
 
 returns : tie.Need-returns
-returns c = eight-digits (c .before .before .before .args .w) (c .before .before .wrapping-add-u64 .result) (c .before .spelled .result) (c .before .spelled .ensures) (c .if1 .taken)
+returns c = eight-digits (c .before .before .wrapping-add-u64 .result) (c .before .before .before .args .w) (c .before .spelled .result) (c .before .spelled .ensures) (c .if1 .taken)
 
 returns-2 : tie.Need-returns-2
 returns-2 c = search needs

@@ -1,7 +1,7 @@
 use Prim.Native.Nat.{_/_}
 use native.Mathlib.Omega.{arith}
 use lib.Bits.{and-le-r}
-use Rattle.lines.proofs.Eights.{fours-in, pairs-in, written}
+use Rattle.lines.proofs.Eights.{fours-in, pairs-in, written, written-below}
 use borrow.Author.Needs.{needs}
 use Rattle.lines.proofs.words.write_eight.Statement.{statement}
 use Rattle.lines.proofs.words.write_eight.Tie as tie
@@ -25,7 +25,7 @@ add-digits : tie.Need-add-digits
 add-digits c = let p = pairs-in (fours-in (c .args .n)) in omega (arith, and-le-r p 4222189076152335, and-le-r (p / 16) 4222189076152335)
 
 spelled-requires : tie.Need-spelled-requires
-spelled-requires c κs = let p = pairs-in (fours-in (c .args .n)) in omega (arith, and-le-r p 4222189076152335, and-le-r (p / 16) 4222189076152335)
+spelled-requires c κs = written-below (c .args .n)
 
 returns : tie.Need-returns
 returns c = written (c .before .args .n) (c .spelled .result) (c .spelled .ensures)
