@@ -1,5 +1,5 @@
 -- Laws of lines.
-pub mod Words
+pub mod Eights
 pub mod Pieces
 pub mod Readings
 pub mod Parts

@@ -14,12 +14,13 @@ use Rattle.formula.specs.Text.{all-some, little-endian, long-at}
 use Rattle.formula.specs.Values.{digit-of, numbered, of-digits}
 use Rattle.names.specs.Lines.{cap, free, part}
 use Rattle.names.proofs.Splits.{and-both, and-first, and-second}
-use Rattle.lines.specs.declared.values.Digits.{Digits}
-use Rattle.lines.specs.declared.values.Digits.the-variants.{Number}
+use Rattle.lines.specs.declared.words.Digits.{Digits}
+use Rattle.lines.specs.declared.words.Digits.the-variants.{Number}
 use Rattle.lines.specs.declared.values.Part.{Part}
 use Rattle.lines.specs.declared.values.Reading.{Reading}
-use Rattle.lines.specs.Reading.{Numbers, Reads, Reads-on, counted}
-use Rattle.lines.proofs.Words.{long-again}
+use Rattle.lines.specs.Reading.{Reads, Reads-on, counted}
+use Rattle.lines.specs.Eights.{Numbers}
+use Rattle.lines.proofs.Eights.{long-again}
 use Rattle.lines.proofs.Pieces.{digits-append, digits-free, digits-length, numbered-some, of-digits-append, of-digits-eight}
 use Rattle.lines.proofs.Readings.{between-values, comma-after, digit-after, value-after}
 

@@ -1,23 +1,24 @@
 -- Texts written one after another, and the output lines made of them.
-use mathlib.Core.Path.{_≡_, refl, sym, ap, _∙_, subst}
+use mathlib.Core.Path.{_≡_, refl, sym, ap, ap₂, _∙_, subst}
 use mathlib.Core.List.{List, [], _++_, append-assoc, append-nil}
-use Prim.Native.Nat.{ℕ, _+_, _-_, _≤_, _<_}
+use Prim.Native.Nat.{ℕ, _+_, _-_, _/_, _≤_, _<_}
 use native.Mathlib.Omega.{arith}
 use lib.ListN.{length, take, drop, length-append, length-drop}
 use lib.Seq.{length-take-le}
 use lib.Ieee.{Float, binary64, toBits}
 use borrow.Rule.Slice.PartMut.{midOf, postOf, putMid, post-is}
-use Rattle.formula.specs.Text.{ascii, decimal, zeros}
+use Rattle.formula.specs.Text.{ascii, decimal, little-endian, zeros}
 use Rattle.formula.specs.Path.{Path, placed, text}
-use Rattle.formula.specs.Values.{hex}
+use Rattle.formula.specs.Values.{digits-in, hex}
 use mathlib.Core.Option.{some}
 use Rattle.meaning.specs.Work.{elementary, power}
 use Rattle.machine.specs.Machine.{Answer, asks, gives, outside, refused, spent}
 use Rattle.writer.specs.Over.{over}
-use Rattle.writer.proofs.Over.{over-length, over-over}
+use Rattle.writer.proofs.Over.{next-over, over-length, over-over}
 use Rattle.writer.proofs.Decimal.{decimal-length-le}
 use Rattle.listing.specs.Legs.{Line, bits-text, colon, comma, line-of, printed}
 use Rattle.lines.specs.Text.{Wrote, refused-as, shown}
+use Rattle.lines.proofs.Eights.{hex-halves}
 
 -- ---- lengths
 
@@ -52,9 +53,17 @@ wrote-as out at xs ys out′ end e w = subst (λ (zs : List ℕ). Wrote out at z
 
 -- ---- bits
 
-pub bits-wrote : (out : List ℕ) (at n : ℕ) (x : Float) (ds out′ : List ℕ) (end : ℕ) → ds ≡ hex n → n ≡ toBits binary64 x → (end ≡ at + length ds) × (out′ ≡ over out at ds)
-    → Wrote out at (bits-text x) out′ end
-bits-wrote out at n x ds out′ end e q h = wrote-as out at ds (bits-text x) out′ end (e ∙ ap hex q) (wrote out at ds out′ end h)
+-- two words of eight digits
+pub bits-wrote : (out : List ℕ) (at n : ℕ) (x : Float) (high low : ℕ) (mid out′ : List ℕ) → at + 16 ≤ length out → little-endian 8 high ≡ digits-in 8 (n / 4294967296)
+    → little-endian 8 low ≡ digits-in 8 n → n ≡ toBits binary64 x → mid ≡ over out at (little-endian 8 high) → out′ ≡ over mid (at + 8) (little-endian 8 low)
+    → Wrote out at (bits-text x) out′ (at + 16)
+bits-wrote out at n x high low mid out′ h e f q v w =
+    record {
+      ends = refl;
+      stands = next-over out mid out′ at (at + 8) (little-endian 8 high) (little-endian 8 low) v w refl (omega arith)
+          ∙ ap₂ (λ (xs ys : List ℕ). over out at (xs ++ ys)) e f
+          ∙ ap (over out at) (sym (hex-halves n) ∙ ap hex q);
+    }
 
 -- ---- questions
 

@@ -4,3 +4,4 @@ pub mod Text
 pub mod Record
 pub mod Owed
 pub mod Calls
+pub mod Eights

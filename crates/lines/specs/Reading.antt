@@ -8,11 +8,9 @@ use lib.ListN.{length, take}
 use lib.Dec.{ltb}
 use lib.Ieee.{Float, binary64, ofBits}
 use Rattle.formula.specs.Text.{all-some, split}
-use Rattle.formula.specs.Values.{digit-of, numbered, of-digits, value-of, values-of}
+use Rattle.formula.specs.Values.{digit-of, of-digits, value-of, values-of}
 use Rattle.names.specs.Lines.{cap, prefixed}
 use Rattle.lines.specs.declared.values.Reading.{Reading}
-use Rattle.lines.specs.declared.values.Digits.{Digits}
-use Rattle.lines.specs.declared.values.Digits.the-variants.{Number, Other}
 use Rattle.lines.specs.declared.values.Found.{Found}
 use Rattle.lines.specs.declared.values.Found.the-variants.{Malformed, Values}
 
@@ -68,11 +66,6 @@ Finds (some vs) Malformed values = ⊥
 Finds (some vs) (Values n) values = Kept vs n values
 
 -- ---- what the functions say
-
--- k bytes that are digits, and their number
-abbrev pub Numbers : ℕ → List ℕ → Digits → Type 0
-Numbers k xs (Number n) = (numbered (all-some (map digit-of xs)) ≡ some n) × (n < cap k)
-Numbers k xs Other = Unit {0}
 
 -- nothing was read
 abbrev pub Starts : Reading → Type 0

@@ -3,6 +3,7 @@
 mod record;
 mod text;
 pub mod values;
+mod words;
 
 ghost use mathlib.Core.Path.{_≡_};
 ghost use mathlib.Core.Bool.{true, false};

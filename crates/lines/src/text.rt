@@ -1,5 +1,6 @@
 // The text of an output line: "line number, answer (`value`, `domain`, `ask`, `bad`), detail (bits, path, function number in
 // decimal and bits joined by `:` with 16 for Power, refusal number), instructions completed".
+use crate::words::write_eight;
 use layout::CODE_AT;
 use layout::HEADER_SIZE;
 use layout::PATHS_AT;
@@ -8,6 +9,7 @@ use layout::SLOT_SIZE;
 use run::Answer;
 use writer::put_bytes;
 use writer::put_decimal;
+use writer::put_long;
 ghost use mathlib.Core.Path.{_≡_};
 ghost use mathlib.Core.Bool.{true};
 ghost use Prim.Native.Nat.{_+_, _≤_, _<_};
@@ -26,8 +28,10 @@ fn put_bits(out: &mut [u8], at: usize, x: f64) -> usize
     requires { ⌜ at + 16 ≤ length (now out) ⌝ }
     ensures { λ r. ⌜ Wrote (now (out .entry)) at (bits-text x) (now (out .exit)) r ⌝ }
 {
-    let digits = names::hex(floats::value::bits_of(x));
-    put_bytes(out, at, &digits)
+    let n = floats::value::bits_of(x);
+    put_long(out, at, write_eight(n / 4294967296));
+    put_long(out, at + 8, write_eight(n));
+    at + 16
 }
 
 fn put_value(out: &mut [u8], at: usize, x: f64) -> usize

@@ -1,15 +1,16 @@
 // A line of values, read as its bytes come: "each value is 16 lower-case hexadecimal digits, the bits of an f64, joined by
 // commas". The memory is a slice for the values and four numbers, however long the line is.
-use std::num::wrapping_add_u64;
+use crate::words::Digits;
+use crate::words::read_eight;
 ghost use mathlib.Core.Path.{_≡_};
 ghost use mathlib.Core.Bool.{true, false};
 ghost use mathlib.Core.List.{List, [], _∷_};
 ghost use Prim.Native.Nat.{_+_, _≤_, _<_};
 ghost use lib.ListN.{length, getD, set};
 ghost use lib.Ieee.{Float, binary64, ofBits};
-ghost use Rattle.formula.specs.Text.{little-endian};
 ghost use Rattle.names.specs.Lines.{free, part};
-ghost use Rattle.lines.specs.Reading.{Ends-as, Numbers, Reads-on, Starts, Tells-empty, counted};
+ghost use Rattle.lines.specs.Reading.{Ends-as, Reads-on, Starts, Tells-empty, counted};
+ghost use Rattle.lines.specs.Eights.{Numbers};
 
 // What was read of a line: whether it is as said so far, how many values stand before its last comma, how many digits
 // follow it and their number. A count above the places of the slice is kept as one more than these.
@@ -133,40 +134,18 @@ fn read_each(input: &[u8], from: usize, s: Reading) -> Part
     part_to(s, digits, bits, end)
 }
 
-// What bytes are found to be: digits with this number, or not.
-enum Digits {
-    Number(u64),
-    Other,
-}
-
-// Eight digits in a word, the first in its lowest byte, all at once. A digit is the last four bits of its byte, and nine more for
-// a letter. The word is made again from the digits, with 48 for each and 39 more from ten on, and has to be the same.
-fn eight(w: u64) -> Digits
-    ensures { λ r. ⌜ Numbers 8 (little-endian 8 w) r ⌝ }
-{
-    let letters = (w & 0x4040_4040_4040_4040) / 64;
-    let digits = wrapping_add_u64(w, 9 * letters) & 0x0f0f_0f0f_0f0f_0f0f;
-    let tens = ((digits + 0x0606_0606_0606_0606) / 16) & 0x0101_0101_0101_0101;
-    if w == digits + 0x3030_3030_3030_3030 + 39 * tens {
-        let pairs = (16 * digits + digits / 256) & 0x00ff_00ff_00ff_00ff;
-        let fours = (256 * pairs + pairs / 65536) & 0x0000_ffff_0000_ffff;
-        return Digits::Number((65536 * fours + fours / 4294967296) % 4294967296);
-    }
-    Digits::Other
-}
-
-// The sixteen digits of a value, from a byte of the input on.
+// The sixteen digits of a value, from a byte of the input on. Both words are read first, so that one test is enough for both.
 fn sixteen(input: &[u8], at: usize) -> Digits
     requires { ⌜ at + 16 ≤ length (now input) ⌝ }
     ensures { λ r. ⌜ Numbers 16 (part (now (input .entry)) at (at + 16)) r ⌝ }
 {
     let a = reader::long(input, at);
     let b = reader::long(input, at + 8);
-    let first = eight(a);
+    let first = read_eight(a);
     let Digits::Number(high) = first else {
         return Digits::Other;
     };
-    let second = eight(b);
+    let second = read_eight(b);
     let Digits::Number(low) = second else {
         return Digits::Other;
     };

@@ -16,8 +16,8 @@ add-long c = search needs
 long-requires-2 : tie.Need-long-requires-2
 long-requires-2 c κs = search needs
 
-eight-requires : tie.Need-eight-requires
-eight-requires c κs = search needs
+read-eight-requires : tie.Need-read-eight-requires
+read-eight-requires c κs = search needs
 
 enum-known-first : tie.Need-enum-known-first
 enum-known-first c = search needs
@@ -28,8 +28,8 @@ enum-told c = search needs
 returns : tie.Need-returns
 returns c = search needs
 
-eight-requires-2 : tie.Need-eight-requires-2
-eight-requires-2 c κs = search needs
+read-eight-requires-2 : tie.Need-read-eight-requires-2
+read-eight-requires-2 c κs = search needs
 
 enum-known-second : tie.Need-enum-known-second
 enum-known-second c = search needs
@@ -43,7 +43,7 @@ returns-2 c = search needs
 mul-t10 : tie.Need-mul-t10
 mul-t10 c =
     let long = c .before .before .before .before .before .before .before .before .before .long in
-    let eight = c .before .before .before .before .before .before .before .eight in
+    let eight = c .before .before .before .before .before .before .before .read-eight in
     let first = c .before .before .before .before .before .first in
     omega (arith, eight-below (little-endian 8 (long .result)) (eight .result) (first .given .0 .0) (first .given .1) (eight .ensures))
 
@@ -51,9 +51,9 @@ add-t11 : tie.Need-add-t11
 add-t11 c =
     let long = c .before .before .before .before .before .before .before .before .before .long in
     let long2 = c .before .before .before .before .before .before .before .before .long2 in
-    let eight = c .before .before .before .before .before .before .before .eight in
+    let eight = c .before .before .before .before .before .before .before .read-eight in
     let first = c .before .before .before .before .before .first in
-    let eight2 = c .before .before .before .eight2 in
+    let eight2 = c .before .before .before .read-eight2 in
     let second = c .before .second in
     omega (
       arith,
@@ -68,9 +68,9 @@ returns-3 c =
     let shared-slice-known = c .before .before .before .before .before .before .before .before .before .before .shared-slice-known in
     let long = c .before .before .before .before .before .before .before .before .before .long in
     let long2 = c .before .before .before .before .before .before .before .before .long2 in
-    let eight = c .before .before .before .before .before .before .before .eight in
+    let eight = c .before .before .before .before .before .before .before .read-eight in
     let first = c .before .before .before .before .before .first in
-    let eight2 = c .before .before .before .eight2 in
+    let eight2 = c .before .before .before .read-eight2 in
     let second = c .before .second in
     two-words (args .input .now) (λ i. omega (arith, shared-slice-known .given i)) (args .at) pre (first .given .0 .0) (second .given .0 .0)
     (number-told 8 (little-endian 8 (long .result)) (little-endian 8 (long-at (args .input .now) (args .at))) (ap (little-endian 8) (long .ensures))
@@ -85,11 +85,11 @@ sixteen-spec =
     long-requires
     add-long
     long-requires-2
-    eight-requires
+    read-eight-requires
     enum-known-first
     enum-told
     returns
-    eight-requires-2
+    read-eight-requires-2
     enum-known-second
     enum-told-2
     returns-2
