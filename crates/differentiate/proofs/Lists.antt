@@ -7,7 +7,14 @@ use native.Mathlib.Numerals.{add-one}
 use lib.ListN.{length, take, drop, set, getD, length-append, length-drop, drop-of-length-le}
 use lib.Seq.{take-suc, set-split, take-at, drop-append-add, drop-append-seam, drop-drop, length-take-le, take-all}
 use borrow.Rule.Slice.PartMut.{midOf, postOf, putMid}
+use Rattle.writer.specs.Over.{over}
 use Rattle.differentiate.specs.Written.{Writes}
+
+pub written-over : (t out out′ : List ℕ) (r : ℕ) → r ≡ 0 + length t → out′ ≡ over out 0 t → Writes t out out′ r
+unfolding over
+written-over t out out′ r n e =
+    let z : 0 + length t ≡ length t = omega arith in
+    record { count = n ∙ z; held = e ∙ ap (λ (k : ℕ). t ++ drop k out) z }
 
 pub copied : (b o : List ℕ) (i : ℕ) → i < length b → length b ≤ length o
     → set (take i b ++ drop i o) i (getD b i 0) ≡ take (i + 1) b ++ drop (i + 1) o

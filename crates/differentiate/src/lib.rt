@@ -29,18 +29,14 @@ use survey::is_zero;
 use survey::literal_bits;
 use survey::rule_attributes;
 use survey::rule_of;
+use writer::put_bytes;
 
 // Copies b to the start of out.
 fn copy(b: &[u8], out: &mut [u8]) -> usize
     requires { ⌜ length (now b) ≤ length (now out) ⌝ }
     ensures { λ r. ⌜ Writes (now (b .entry)) (now (out .entry)) (now (out .exit)) r ⌝ }
 {
-    let mut i = 0;
-    while i < b.len() {
-        out[i] = b[i];
-        i += 1;
-    }
-    i
+    put_bytes(out, 0, b)
 }
 
 // A node that is no literal and no symbol.

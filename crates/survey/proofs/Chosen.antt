@@ -43,9 +43,6 @@ module _ (n : Literal) (t : n .literal ≡ true) where
   pub power-other : one-bits (less-one (n .bits)) ≡ false → zero-bits (less-one (n .bits)) ≡ false → 0x46 ≡ power-number (literal-of n)
   power-other p q = sym (ap power-number (literal-is n t) ∙ power-by false false (n .bits) p q)
 
-pub power-none : (n : Literal) → n .literal ≡ false → 0x44 ≡ power-number (literal-of n)
-power-none n t = sym (ap (λ (b : Bool). power-number (optional b (n .bits))) t)
-
 -- ---- a condition
 
 first-is : (s : ℕ) (ts : Formulas) (t : Formula) → nth ts 0 ≡ some t → first-depends s ts ≡ depends s t

@@ -108,13 +108,6 @@ owned-child f T k i r o c =
       own = λ j a b. o .own j (omega (arith, c .after)) (omega (arith, c .ends));
     }
 
-pub ready-child : (s : ℕ) (b : Bool) (f T : List ℕ) (k i r : ℕ) → Ready s b f T k → IsChild f k i r → Ready s b f T r
-ready-child s b f T k i r o c =
-    record {
-      owned = owned-child f T k i r (o .owned) c;
-      below = λ j x y. o .below j (omega (arith, c .after)) (omega (arith, c .ends));
-    }
-
 pub surveyed-child : (s : ℕ) (b : Bool) (f T : List ℕ) (k i r : ℕ) → Ready s b f T k → IsChild f k i r → Surveyed s b f T r
 surveyed-child s b f T k i r o c = o .below r (c .after) (omega (arith, c .ends, size-pos (tree f r)))
 

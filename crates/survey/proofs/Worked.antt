@@ -225,9 +225,6 @@ module _ (s : ℕ) (b : Bool) (t : Formula) where
 
 -- ---- Min and Max
 
-from-step : (n i : ℕ) → (i ≡ 0 → ⊥) → i < n → (P : ℕ → Rule) → P (n - 1 - (i - 1)) ≡ P (suc (n - 1 - i))
-from-step n i z h P = let e : n - 1 - (i - 1) ≡ suc (n - 1 - i) = omega (arith, z) in ap P e
-
 module _ (s : ℕ) (b : Bool) (t : Formula) where
   abbrev E : ℕ → ℕ → Attributes
   E i left = instance G (attribute-parts s b t) (extremum-from i left)

@@ -20,6 +20,7 @@ use reader::NODE_SIZE;
 use reader::byte;
 use reader::half;
 use reader::long;
+use reader::wide;
 use reader::word;
 use rules::code;
 use rules::end_of;
@@ -308,12 +309,6 @@ fn extremum(f: &[u8], k: usize, by: By, table: &[usize]) -> Attributes
         selected = three(equal, diff_attributes(f, k, i, by, table), selected);
     }
     selected
-}
-
-pub fn wide(x: u8) -> usize
-    ensures { λ r. ⌜ (r ≡ x) × (r < 256) ⌝ }
-{
-    x as usize
 }
 
 // What the part of a rule that starts at a code gives, for node k.

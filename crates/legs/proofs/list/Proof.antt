@@ -104,8 +104,9 @@ same-length-14 c = search needs
 
 same-length-15 : tie.Need-same-length-15
 same-length-15 c =
-    let start = c .before .before .before .before .before .before .before .before .before .before .before .before .before .before .before .before .before .before .before .before .before .before .before .before .before .before .before .before .before .before .before .before .before .before .before .before .before .before .before .before .before .before .before .before .before .before .before .before .before .start in
-    let feed-all = c .before .before .before .before .before .before .before .before .before .before .before .before .before .before .before .before .before .before .before .before .before .before .before .before .before .before .before .before .before .before .before .before .before .before .before .before .feed-all in
+    let at-feed = c .before .before .before .before .before .before .before .before .before .before .before .before .before .before .before .before .before .before .before .before .before .before .before .before .before .before .before .before .before .before .before .before .before .before .before .before in
+    let start = at-feed .before .before .before .before .before .before .before .before .before .before .before .before .before .start in
+    let feed-all = at-feed .feed-all in
     let finish = c .before .before .before .before .before .before .before .before .before .before .before .before .finish in
     finish .kept .1 .1 .1 .1 .1 .1 .1 .0 ∙ (feed-all .kept .1 .1 .1 .1 .1 .1 .1 .1 .0 ∙ start .kept .1 .1 .0)
 

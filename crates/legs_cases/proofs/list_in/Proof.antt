@@ -110,17 +110,25 @@ finish-requires c κs = search needs
 
 add-requires-2 : tie.Need-add-requires-2
 add-requires-2 c κs =
-    let a = c .before .before .before .before .before .before .before .before .before .before .before .before .before .before .before .before .before .before .before .before .before .before .before .before .before .before .before .before .before .before .before .before .before .before .before .before .before .before .before .before .before .before .before .before .before .before .before .before .before .before .before .before .before .before .before .before .before .before .before .before .before .before .before .before .before .args in
-    let b = c .before .before .before .before .before .before .before .before .before .before .before .before .before .before .before .before .before .before .before .before .before .before .before .before .before .before .before .before .before .before .before .before .before .before .before .before .before .before .before .before .before .before .before .before .before .before .before .before .before .before .before .before .before .before .start in
-    let add = c .before .before .before .before .before .before .before .before .before .before .before .before .before .before .before .before .before .before .before .before .before .before .before .before .before .before .before .before .before .before .before .before .before .before .before .before .before .before .before .before .before .before .before .before .before .before .before .before .before .add in
-    let first = c .before .before .before .before .before .before .before .before .before .before .before .before .before .before .before .before .before .before .before .before .before .before .before .before .before .before .before .before .before .before .before .before .before .before .before .before .before .before .before .before .before .before .before .before .before .first in
-    let f = c .before .before .before .before .before .before .before .before .before .before .before .before .before .before .before .before .before .before .before .before .before .before .before .before .before .before .before .before .before .before .before .before .before .before .before .before .feed in
+    let at-feed = c .before .before .before .before .before .before .before .before .before .before .before .before .before .before .before .before .before .before .before .before .before .before .before .before .before .before .before .before .before .before .before .before .before .before .before .before in
+    let a = at-feed .before .before .before .before .before .before .before .before .before .before .before .before .before .before .before .before .before .before .before .before .before .before .before .before .before .before .before .before .before .args in
+    let b = at-feed .before .before .before .before .before .before .before .before .before .before .before .before .before .before .before .before .before .before .start in
+    let add = at-feed .before .before .before .before .before .before .before .before .before .before .before .before .before .add in
+    let first = at-feed .before .before .before .before .before .before .before .before .before .first in
+    let f = at-feed .feed in
     let fed = c .before .before .before .before .before .before .before .before .before .before .before .before .before .before .before .before .before .before .before .before .fed in
     let at-finish = c .before .before .before .before .before .before .before .before .before .before .before .before .finish in (
       omega (arith, at-finish .ensures .room, at-finish .kept .1 .1 .1 .1 .1 .1 .1 .0),
       omega (
         arith,
-        (subst (λ (x : Fed). Feeds-all (a .formula .now) (memory (a .names .now) (a .path .now) (a .program .now) (a .values .now) (a .regs .now)) (b .result .stage) (a .input .now) (memory (f .last .1 .1 .1 .1 .0) (f .last .1 .1 .1 .1 .1 .0) (f .last .1 .1 .1 .1 .1 .1 .0) (f .last .1 .1 .1 .1 .1 .1 .1 .0) (f .last .1 .1 .1 .1 .1 .1 .1 .1 .0)) (add .last .0) (first .given .0 .0) x (f .last .1 .1 .1 .1 .1 .1 .1 .1 .1 .1 .0)) (fed .given .1) (f .ensures)) .2 .room,
+        (subst
+            (λ (x : Fed).
+            Feeds-all (a .formula .now) (memory (a .names .now) (a .path .now) (a .program .now) (a .values .now) (a .regs .now)) (b .result .stage)
+            (a .input .now)
+            (memory (f .last .1 .1 .1 .1 .0) (f .last .1 .1 .1 .1 .1 .0) (f .last .1 .1 .1 .1 .1 .1 .0) (f .last .1 .1 .1 .1 .1 .1 .1 .0) (f .last .1 .1 .1 .1 .1 .1 .1 .1 .0))
+            (add .last .0) (first .given .0 .0) x (f .last .1 .1 .1 .1 .1 .1 .1 .1 .1 .1 .0))
+            (fed .given .1) (f .ensures))
+            .2 .room,
         f .kept .1 .1 .1 .1 .1 .1 .1 .1 .1 .1 .0,
       ),
     )
@@ -142,26 +150,29 @@ same-length-14 c = search needs
 
 same-length-15 : tie.Need-same-length-15
 same-length-15 c =
-    let start = c .before .before .before .before .before .before .before .before .before .before .before .before .before .before .before .before .before .before .before .before .before .before .before .before .before .before .before .before .before .before .before .before .before .before .before .before .before .before .before .before .before .before .before .before .before .before .before .before .before .before .before .before .before .before .before .before .before .start in
-    let feed = c .before .before .before .before .before .before .before .before .before .before .before .before .before .before .before .before .before .before .before .before .before .before .before .before .before .before .before .before .before .before .before .before .before .before .before .before .before .before .before .feed in
+    let at-feed = c .before .before .before .before .before .before .before .before .before .before .before .before .before .before .before .before .before .before .before .before .before .before .before .before .before .before .before .before .before .before .before .before .before .before .before .before .before .before .before in
+    let start = at-feed .before .before .before .before .before .before .before .before .before .before .before .before .before .before .before .before .before .before .start in
+    let feed = at-feed .feed in
     let finish = c .before .before .before .before .before .before .before .before .before .before .before .before .before .before .before .finish in
     finish .kept .1 .1 .1 .1 .1 .1 .1 .0 ∙ (feed .kept .1 .1 .1 .1 .1 .1 .1 .1 .1 .0 ∙ start .kept .1 .1 .0)
 
 same-length-16 : tie.Need-same-length-16
 same-length-16 c =
-    let add = c .before .before .before .before .before .before .before .before .before .before .before .before .before .before .before .before .before .before .before .before .before .before .before .before .before .before .before .before .before .before .before .before .before .before .before .before .before .before .before .before .before .before .before .before .before .before .before .before .before .before .before .before .add in
-    let feed = c .before .before .before .before .before .before .before .before .before .before .before .before .before .before .before .before .before .before .before .before .before .before .before .before .before .before .before .before .before .before .before .before .before .before .before .before .before .before .before .feed in
+    let at-feed = c .before .before .before .before .before .before .before .before .before .before .before .before .before .before .before .before .before .before .before .before .before .before .before .before .before .before .before .before .before .before .before .before .before .before .before .before .before .before .before in
+    let add = at-feed .before .before .before .before .before .before .before .before .before .before .before .before .before .add in
+    let feed = at-feed .feed in
     let add2 = c .before .before .add2 in
     add2 .kept .0 ∙ (feed .kept .1 .1 .1 .1 .1 .1 .1 .1 .1 .1 .0 ∙ add .kept .0)
 
 returns-3 : tie.Need-returns-3
 returns-3 c =
-    let a = c .before .before .before .before .before .before .before .before .before .before .before .before .before .before .before .before .before .before .before .before .before .before .before .before .before .before .before .before .before .before .before .before .before .before .before .before .before .before .before .before .before .before .before .before .before .before .before .before .before .before .before .before .before .before .before .before .before .before .before .before .before .before .before .before .before .before .before .before .args in
-    let at-pre = c .before .before .before .before .before .before .before .before .before .before .before .before .before .before .before .before .before .before .before .before .before .before .before .before .before .before .before .before .before .before .before .before .before .before .before .before .before .before .before .before .before .before .before .before .before .before .before .before .before .before .before .before .before .before .before .before .before .before .before .before .before .before .before .before .before .before .before .before .pre in
-    let b = c .before .before .before .before .before .before .before .before .before .before .before .before .before .before .before .before .before .before .before .before .before .before .before .before .before .before .before .before .before .before .before .before .before .before .before .before .before .before .before .before .before .before .before .before .before .before .before .before .before .before .before .before .before .before .before .before .before .start in
-    let at-add = c .before .before .before .before .before .before .before .before .before .before .before .before .before .before .before .before .before .before .before .before .before .before .before .before .before .before .before .before .before .before .before .before .before .before .before .before .before .before .before .before .before .before .before .before .before .before .before .before .before .before .before .before .add in
-    let at-first = c .before .before .before .before .before .before .before .before .before .before .before .before .before .before .before .before .before .before .before .before .before .before .before .before .before .before .before .before .before .before .before .before .before .before .before .before .before .before .before .before .before .before .before .before .before .before .before .before .first in
-    let f = c .before .before .before .before .before .before .before .before .before .before .before .before .before .before .before .before .before .before .before .before .before .before .before .before .before .before .before .before .before .before .before .before .before .before .before .before .before .before .before .feed in
+    let at-feed = c .before .before .before .before .before .before .before .before .before .before .before .before .before .before .before .before .before .before .before .before .before .before .before .before .before .before .before .before .before .before .before .before .before .before .before .before .before .before .before in
+    let a = at-feed .before .before .before .before .before .before .before .before .before .before .before .before .before .before .before .before .before .before .before .before .before .before .before .before .before .before .before .before .before .args in
+    let at-pre = at-feed .before .before .before .before .before .before .before .before .before .before .before .before .before .before .before .before .before .before .before .before .before .before .before .before .before .before .before .before .before .pre in
+    let b = at-feed .before .before .before .before .before .before .before .before .before .before .before .before .before .before .before .before .before .before .start in
+    let at-add = at-feed .before .before .before .before .before .before .before .before .before .before .before .before .before .add in
+    let at-first = at-feed .before .before .before .before .before .before .before .before .before .first in
+    let f = at-feed .feed in
     let at-fed = c .before .before .before .before .before .before .before .before .before .before .before .before .before .before .before .before .before .before .before .before .before .before .before .fed in
     let e = c .before .before .before .before .before .before .before .before .before .before .before .before .before .before .before .finish in
     let at-add2 = c .before .before .add2 in

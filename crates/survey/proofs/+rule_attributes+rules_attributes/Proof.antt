@@ -35,7 +35,7 @@ use Rattle.survey.proofs.mul.Reads as mul-reads
 use Rattle.survey.proofs.node.Reads as node-reads
 use Rattle.survey.proofs.of_literal.Reads as of-literal-reads
 use Rattle.survey.proofs.own.Reads as own-reads
-use Rattle.survey.proofs.wide.Reads as wide-reads
+use Rattle.reader.proofs.wide.Reads as wide-reads
 use Rattle.survey.proofs.+rule_attributes+rules_attributes.{statement}
 use Rattle.survey.proofs.+rule_attributes+rules_attributes.Tie.{close}
 

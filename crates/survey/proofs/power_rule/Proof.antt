@@ -1,5 +1,5 @@
 use Rattle.derivative.specs.Rules.{less-one}
-use Rattle.survey.proofs.Chosen.{power-two, power-one, power-other, power-none, one-test, zero-test}
+use Rattle.survey.proofs.Chosen.{power-two, power-one, power-other, one-test, zero-test}
 use borrow.Author.Needs.{needs}
 use Rattle.survey.proofs.power_rule.Statement.{statement}
 use Rattle.survey.proofs.power_rule.Tie as tie

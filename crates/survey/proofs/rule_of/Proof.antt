@@ -16,7 +16,7 @@ use Rattle.reader.proofs.half.Reads as half-reads
 use Rattle.survey.proofs.exponent.Reads as exponent-reads
 use Rattle.survey.proofs.moving.Reads as moving-reads
 use Rattle.survey.proofs.power_rule.Reads as power-rule-reads
-use Rattle.survey.proofs.wide.Reads as wide-reads
+use Rattle.reader.proofs.wide.Reads as wide-reads
 
 mul-byte : tie.Need-mul-byte
 mul-byte c = search needs
