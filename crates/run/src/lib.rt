@@ -568,7 +568,7 @@ pub fn resume_unchecked(
 }
 
 // Whether the bytes needn't be refused by 10: 1 comes before it, or they are a program.
-fn goes_on(p: &[u8], room: usize) -> bool
+pub fn goes_on(p: &[u8], room: usize) -> bool
     ensures { λ r. ⌜ r ≡ (ltb room 8192 || valid (program-at (now (p .entry)))) ⌝ }
 {
     room < 8192 || program::is_program(p)

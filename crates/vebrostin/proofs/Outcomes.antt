@@ -8,13 +8,15 @@ use Prim.Native.Nat.{ℕ, _<_, _≤_}
 use lib.ListN.{length, drop}
 use lib.Ieee.{Float}
 use borrow.Author.Tests.{le-ltb, lt-ltb, ltb-false}
-use Rattle.refusals.specs.Numbers.{slice-too-short}
-use Rattle.formula.specs.Path.{placed}
+use Rattle.refusals.specs.Numbers.{no-program, slice-too-short}
+use Rattle.formula.specs.Path.{path-room, placed}
 use Rattle.formula.proofs.Tests.{or-none}
+use Rattle.machine.specs.Program.{valid}
 use Rattle.machine.specs.Machine.{place-of}
 use Rattle.machine.specs.Machine as Machine
 use Rattle.machine.specs.Compile.{Compiled, compile}
 use Rattle.machine.specs.Compile as Compile
+use Rattle.layout.specs.Decode.{program-at}
 use Rattle.layout.specs.Image.{image}
 use Rattle.compile.specs.Entry as Entry
 use Rattle.derivative.specs.Derive.{Derived, derive}
@@ -26,6 +28,7 @@ use Rattle.run.specs.declared.Reply.{Reply}
 use Rattle.run.specs.declared.State.{State}
 use Rattle.run.specs.Views.{Hands-back, answer-of, pending-of, reply-of, state-of}
 use Rattle.run.specs.Calls.{Settled, resume-at, run-at}
+use Rattle.run.proofs.Whole.{resume-10}
 use Rattle.vebrostin.specs.Cells.{Askable, number-of, state-cells, state-in, value-cell}
 use Rattle.vebrostin.specs.Calls.{Carries, Compiles, Derives, Leaves, Outcome, Settles, after, compile-number, compile-outcome, derive-number, derive-outcome, is-refused, report-length, report-short, resume-outcome, run-outcome, short, state-length, told, untouched, with-room, written}
 use Rattle.vebrostin.proofs.Asking.{resume-asks, run-asks}
@@ -170,6 +173,16 @@ module _ (inputs : List Float) (b : List ℕ) (budget : ℕ) (given : Option Flo
       → Leaves (resume-outcome inputs b budget given regs cells path report) slice-too-short cells regs path report × Carries cells report answered
   unfolding resume-outcome
   resume-short h = (nothing-left cells regs path report _ h, λ l. absurd (true≢false (sym h ∙ l)))
+
+  pub resume-ten : short cells report ≡ false → path-room ≤ length path → valid (program-at b) ≡ false
+      → Leaves (resume-outcome inputs b budget given regs cells path report) no-program cells regs path report × Carries cells report answered
+  unfolding resume-outcome
+  resume-ten h l v =
+      let e = resume-10 inputs b (length path) budget regs given (state-in cells) l v in (
+        subst (λ (o : Outcome). Leaves o no-program cells regs path report)
+            (ap (λ (x : Machine.Reply). told x (after x cells) path report) e ∙ roomy (short cells report) _ _ h) (refl, refl, refl, refl, refl),
+        λ f. ap (λ (x : Machine.Reply). x .state) e,
+      )
 
   module _ (r : Reply) (regs′ : List Float) (cells′ path′ : List ℕ) (n : ℕ)
       (h : short cells report ≡ false)

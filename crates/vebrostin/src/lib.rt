@@ -20,6 +20,7 @@ use floats::value::of_bits;
 use layout::CODE_AT;
 use layout::INPUTS_AT;
 use layout::REGISTERS_AT;
+use refusals::NO_PROGRAM;
 use refusals::OUTSIDE_DOMAIN;
 use refusals::SLICE_TOO_SHORT;
 use run::Answer;
@@ -416,16 +417,20 @@ fn resumed(
     if few {
         return SLICE_TOO_SHORT as usize;
     }
-    let before = state_in(cells);
-    let r = run::resume(program, inputs, registers, path, budget, before, supplied);
-    let given = r.answer;
-    let state = r.state;
-    let no = is_refused(given);
-    if no {
-        return number_of(given);
+    let ok = run::goes_on(program, path.len());
+    if ok {
+        return resumed_unchecked(
+            program,
+            inputs,
+            registers,
+            path,
+            budget,
+            cells,
+            report,
+            supplied,
+        );
     }
-    put_reply(cells, state, given, r.count);
-    number_of(given)
+    NO_PROGRAM as usize
 }
 
 // Goes on with no value: a question that pends is put again.

@@ -1,6 +1,10 @@
-use mathlib.Core.Path.{refl, sym, _∙_}
+use mathlib.Core.Path.{sym, _∙_}
+use mathlib.Core.Logic.{inr}
+use lib.ListN.{length}
 use Rattle.run.specs.Views.{supplied-of}
-use Rattle.vebrostin.proofs.Outcomes.{enough, resume-goes-on, resume-refused, resume-short}
+use Rattle.run.proofs.Whole.{unsettled}
+use Rattle.run.proofs.Whole as whole
+use Rattle.vebrostin.proofs.Outcomes.{resume-short, resume-ten}
 use borrow.Author.Needs.{needs}
 use Rattle.vebrostin.proofs.resumed.Statement.{statement}
 use Rattle.vebrostin.proofs.resumed.Tie as tie
@@ -20,19 +24,14 @@ same-length-2 c = search needs
 returns : tie.Need-returns
 returns c =
     let a = c .before .before .before .before .before .before .before .before .before .before .args in
-    resume-short (a .inputs .now) (a .program .now) (a .budget) (supplied-of (a .supplied)) (a .registers .now) (a .cells .now) (a .path .now) (a .report .now) (sym (c .before .is-short .ensures) ∙ c .if1 .taken)
+    resume-short (a .inputs .now) (a .program .now) (a .budget) (supplied-of (a .supplied)) (a .registers .now) (a .cells .now) (a .path .now) (a .report .now)
+    (sym (c .before .is-short .ensures) ∙ c .if1 .taken)
 
-state-in-requires : tie.Need-state-in-requires
-state-in-requires c κs = search needs
+goes-on-requires : tie.Need-goes-on-requires
+goes-on-requires c κs = search needs
 
-resume-requires : tie.Need-resume-requires
-resume-requires c κs = search needs
-
-is-refused-requires : tie.Need-is-refused-requires
-is-refused-requires c κs = search needs
-
-number-of-requires : tie.Need-number-of-requires
-number-of-requires c κs = search needs
+resumed-unchecked-requires : tie.Need-resumed-unchecked-requires
+resumed-unchecked-requires c κs = search needs
 
 same-length-3 : tie.Need-same-length-3
 same-length-3 c = search needs
@@ -48,20 +47,13 @@ same-length-6 c = search needs
 
 returns-2 : tie.Need-returns-2
 returns-2 c =
-    let a = c .before .before .before .before .before .before .before .before .before .before .before .before .before .before .before .before .before .before .before .before .before .before .before .args in
-    let if1 = c .before .before .before .before .before .before .before .before .before .before .before .before .before .if1 in
-    let state-in = c .before .before .before .before .before .before .before .before .before .before .before .state-in in
-    let r = c .before .before .before .before .before .before .before .before .resume in
-    let is-refused = c .before .before .is-refused in
-    resume-refused (a .inputs .now) (a .program .now) (a .budget) (supplied-of (a .supplied)) (a .registers .now) (a .cells .now) (a .path .now) (a .report .now)
-    (r .result) _ _ _ _ (sym (c .before .before .before .before .before .before .before .before .before .before .before .before .before .before .is-short .ensures) ∙ if1 .left) (state-in .result) (state-in .ensures) (r .ensures .0) (r .ensures .1 .0) (c .number-of .ensures)
-    (sym (is-refused .ensures) ∙ c .before .if2 .taken) (r .ensures .1 .1 .0) refl
+    let a = c .before .before .before .before .before .before .before .before .before .before .before .before .before .before .before .before .before .before .before .before .before .before .before .before .before .args in
+    let e = c .before .before .before .before .before .before .before .before .resumed-unchecked .ensures in
+    let s = inr (whole.settled (a .program .now) (length (a .path .now)) (sym (c .before .before .before .before .before .before .before .before .before .before .before .before .before .before .goes-on .ensures) ∙ c .before .before .before .before .before .before .before .before .before .before .before .before .before .if2 .taken)) in
+    (e .0 s, e .1 .0 s)
 
-put-reply-requires : tie.Need-put-reply-requires
-put-reply-requires c κs = enough (c .before .before .before .before .before .before .before .before .before .before .before .before .before .before .before .before .before .before .before .before .before .before .before .args .cells .now) (c .before .before .before .before .before .before .before .before .before .before .before .before .before .before .before .before .before .before .before .before .before .before .before .args .report .now) (sym (c .before .before .before .before .before .before .before .before .before .before .before .before .before .before .is-short .ensures) ∙ c .before .before .before .before .before .before .before .before .before .before .before .before .before .if1 .left)
-
-number-of-requires-2 : tie.Need-number-of-requires-2
-number-of-requires-2 c κs = search needs
+cast-result-2 : tie.Need-cast-result-2
+cast-result-2 c = search needs
 
 same-length-7 : tie.Need-same-length-7
 same-length-7 c = search needs
@@ -69,24 +61,12 @@ same-length-7 c = search needs
 same-length-8 : tie.Need-same-length-8
 same-length-8 c = search needs
 
-same-length-9 : tie.Need-same-length-9
-same-length-9 c = search needs
-
-same-length-10 : tie.Need-same-length-10
-same-length-10 c = search needs
-
 returns-3 : tie.Need-returns-3
 returns-3 c =
-    let a = c .before .before .before .before .before .before .before .before .before .before .before .before .before .before .before .before .before .before .before .before .before .before .before .before .before .before .before .args in
-    let if1 = c .before .before .before .before .before .before .before .before .before .before .before .before .before .before .before .before .before .if1 in
-    let state-in = c .before .before .before .before .before .before .before .before .before .before .before .before .before .before .before .state-in in
-    let r = c .before .before .before .before .before .before .before .before .before .before .before .before .resume in
-    let is-refused = c .before .before .before .before .before .before .is-refused in
-    let if2 = c .before .before .before .before .before .if2 in
-    let put-reply = c .before .before .before .put-reply in
-    resume-goes-on (a .inputs .now) (a .program .now) (a .budget) (supplied-of (a .supplied)) (a .registers .now) (a .cells .now) (a .path .now) (a .report .now)
-    (r .result) _ _ _ _ (sym (c .before .before .before .before .before .before .before .before .before .before .before .before .before .before .before .before .before .before .is-short .ensures) ∙ if1 .left) (state-in .result) (state-in .ensures) (r .ensures .0) (r .ensures .1 .0) (c .number-of2 .ensures)
-    (sym (is-refused .ensures) ∙ if2 .left) (put-reply .ensures .0) (put-reply .ensures .1)
+    let a = c .before .before .before .before .before .before .before .before .before .before .before .before .args in
+    let u = unsettled (a .program .now) (length (a .path .now)) (sym (c .before .goes-on .ensures) ∙ c .if2 .left) in
+    resume-ten (a .inputs .now) (a .program .now) (a .budget) (supplied-of (a .supplied)) (a .registers .now) (a .cells .now) (a .path .now) (a .report .now)
+    (sym (c .before .before .before .is-short .ensures) ∙ c .before .before .if1 .left) (u .0) (u .1)
 
 pub resumed-spec : {M : Type 1} → statement M
 resumed-spec =
@@ -97,19 +77,14 @@ resumed-spec =
     same-length
     same-length-2
     returns
-    state-in-requires
-    resume-requires
-    is-refused-requires
-    number-of-requires
+    goes-on-requires
+    resumed-unchecked-requires
     same-length-3
     same-length-4
     same-length-5
     same-length-6
     returns-2
-    put-reply-requires
-    number-of-requires-2
+    cast-result-2
     same-length-7
     same-length-8
-    same-length-9
-    same-length-10
     returns-3)
