@@ -906,6 +906,45 @@ fn operands(
         });
         return closed(r, c);
     }
+    operand(
+        b,
+        p,
+        kinds,
+        l,
+        k,
+        long,
+        want,
+        lists,
+        i,
+        left,
+        d,
+        at,
+        path,
+        c,
+    )
+}
+
+// The next of them, and those after it.
+fn operand(
+    b: &[u8],
+    p: &mut [u8],
+    kinds: &[u8],
+    l: &[usize; 3],
+    k: usize,
+    long: usize,
+    want: bool,
+    lists: bool,
+    i: usize,
+    left: usize,
+    d: usize,
+    at: usize,
+    path: usize,
+    c: &mut [usize; 6],
+) -> usize
+    requires { ⌜ Ready (layout-of (now l)) (now p) (site-at k long) (cursor-in at path (now c)) (instruction-counts (terms (kids (now b) d left at))) (path-counts (terms (kids (now b) d left at))) (entry-counts (terms (kids (now b) d left at)) + cond lists (i + left) 0) ⌝ }
+    requires { ⌜ (all-well-formed (kids (now b) d left at) ≡ true) × (i + left < 65536) × (length (now c) ≡ 6) × (1 ≤ left) ⌝ }
+    ensures { λ r. ⌜ Lists (layout-of (now (l .entry))) lists (terms (kids (now (b .entry)) d left at)) i (operands-piece (context-of (now (kinds .entry)) (layout-of (now (l .entry)) .generated)) want (terms (kids (now (b .entry)) d left at)) (place (layout-of (now (l .entry))) (now (p .entry)) (site-at k long)) i k (cursor-in at path (now (c .entry))) (past (now (b .entry)) d left at)) (cursor-in at path (now (c .entry))) (now (p .entry)) (now (p .exit)) (low-of r (now (c .exit))) × (length (now (c .exit)) ≡ 6) ⌝ }
+{
     let m = lower(b, p, kinds, l, k, long, 3 + i, true, 1, d, at, path, c);
     let a = opened(m, c);
     let Low::Done(v, _) = a else {
