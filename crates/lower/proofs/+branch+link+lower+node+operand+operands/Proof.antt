@@ -1,5 +1,5 @@
 use Rattle.lower.specs.Cells.{cursor-in, cursor-of, layout-of, low-of, site-at}
-use Rattle.lower.proofs.Cells.{arms-packs, closes-done, finish-packs, known-done, known-small, leaf-packs, lists-same, packs-at, says-as}
+use Rattle.lower.proofs.Cells.{arms-packs, closes-done, known-done, known-small, lists-same, packs-at, says-as}
 use Rattle.lower.proofs.Wholes as wholes
 use Rattle.lower.proofs.Collects as collects
 use Rattle.lower.proofs.Choices as choices
@@ -50,13 +50,13 @@ use Rattle.lower.proofs.chooses.Reads as chooses-reads
 use Rattle.lower.proofs.closed.Reads as closed-reads
 use Rattle.lower.proofs.constant.Reads as constant-reads
 use Rattle.lower.proofs.enter.Reads as enter-reads
-use Rattle.lower.proofs.finish.Reads as finish-reads
 use Rattle.lower.proofs.join.Reads as join-reads
 use Rattle.lower.proofs.list_entry.Reads as list-entry-reads
 use Rattle.lower.proofs.listing.Reads as listing-reads
-use Rattle.lower.proofs.lower_leaf.Reads as lower-leaf-reads
 use Rattle.lower.proofs.no_operands.Reads as no-operands-reads
 use Rattle.lower.proofs.number.Reads as number-reads
+use Rattle.lower.proofs.put_leaf.Reads as put-leaf-reads
+use Rattle.lower.proofs.put_operation.Reads as put-operation-reads
 use Rattle.lower.proofs.opened.Reads as opened-reads
 use Rattle.lower.proofs.put_slot.Reads as put-slot-reads
 use Rattle.lower.proofs.same.Reads as same-reads
@@ -168,8 +168,8 @@ abbrev node-calls : ℕ → node-lts.Claims
 node-calls t = (
   node-reads.Asked,
   node-reads.Learnt,
-  lower-leaf-reads.Asked,
-  lower-leaf-reads.Learnt,
+  put-leaf-reads.Asked,
+  put-leaf-reads.Learnt,
   closed-reads.Asked,
   closed-reads.Learnt,
   link-below t,
@@ -188,8 +188,8 @@ node-calls t = (
   listing-reads.Learnt,
   operands-below t,
   operands.Post,
-  finish-reads.Asked,
-  finish-reads.Learnt,
+  put-operation-reads.Asked,
+  put-operation-reads.Learnt,
 )
 
 abbrev operand-calls : ℕ → operand-lts.Claims
@@ -1142,82 +1142,60 @@ node-add-next t c =
       c .before .before .before .before .good .0 .0,
     )
 
-node-element-copy-out-operands : (t : ℕ) → node-lts.Need-element-copy-out-operands (node-calls t) (node-at t) node.Post
-node-element-copy-out-operands t c = search needs
-
-node-element-copy-out-t34 : (t : ℕ) → node-lts.Need-element-copy-out-t34 (node-calls t) (node-at t) node.Post
-node-element-copy-out-t34 t c = search needs
-
-node-element-copy-out-if1 : (t : ℕ) → node-lts.Need-element-copy-out-if1 (node-calls t) (node-at t) node.Post
-node-element-copy-out-if1 t c = search needs
-
-node-element-copy-out-t41 : (t : ℕ) → node-lts.Need-element-copy-out-t41 (node-calls t) (node-at t) node.Post
-node-element-copy-out-t41 t c = search needs
-
-node-element-copy-out-t44 : (t : ℕ) → node-lts.Need-element-copy-out-t44 (node-calls t) (node-at t) node.Post
-node-element-copy-out-t44 t c = search needs
-
-node-element-copy-out-t47 : (t : ℕ) → node-lts.Need-element-copy-out-t47 (node-calls t) (node-at t) node.Post
-node-element-copy-out-t47 t c = search needs
-
-node-lower-leaf-requires : (t : ℕ) → node-lts.Need-lower-leaf-requires (node-calls t) (node-at t) node.Post
-node-lower-leaf-requires t c κs =
-    let args = c .before .before .before .before .before .before .before .before .before .before .before .before .before .args in
-    let pre = c .before .before .before .before .before .before .before .before .before .before .before .before .before .pre in
-    let node = c .before .before .before .before .before .before .before .before .before .node in
-    let node2 = args .at in
-    ready-moved (leaf-ready (node .result) (ready-term (term (tree-in (args .d) (args .b .now) node2)) (leaf (node .result))
-    (wholes.leaf-term-is (args .b .now) (args .d) node2 (node .result) (node .ensures .0) (pre .1 .1 .0) (c .before .before .before .before .if1 .taken)) (pre .1 .0) node2))
-    (node2 + node-size)
-
-node-closed-requires : (t : ℕ) → node-lts.Need-closed-requires (node-calls t) (node-at t) node.Post
-node-closed-requires t c κs =
-    let ready = c .before .before .before .before .before .before .before .before .before .before .before .before .before .before .before .before .before .pre .1 .0 in
-    let node = c .before .before .before .before .before .before .before .before .before .before .before .before .before .node in
-    (leaf-packs _ (node .result) _ _ _ _ _ _ _ _ (c .before .before .before .lower-leaf .ensures) (omega (arith, ready .registers, ready .brief)), c .before .before .before .before .before .before .before .before .before .before .before .before .before .before .before .before .before .pre .1 .1 .1)
+node-put-leaf-requires : (t : ℕ) → node-lts.Need-put-leaf-requires (node-calls t) (node-at t) node.Post
+node-put-leaf-requires t c κs =
+    let args = c .before .before .before .before .before .before .before .before .args in
+    let pre = c .before .before .before .before .before .before .before .before .pre in
+    let node = c .before .before .before .before .node in
+    let node2 = args .at in (
+      ready-moved (leaf-ready (node .result) (ready-term (term (tree-in (args .d) (args .b .now) node2)) (leaf (node .result))
+          (wholes.leaf-term-is (args .b .now) (args .d) node2 (node .result) (node .ensures .0) (pre .1 .1 .0) (c .before .before .if1 .taken)) (pre .1 .0) node2))
+          (node2 + node-size),
+      pre .1 .1 .1,
+    )
 
 node-same-length : (t : ℕ) → node-lts.Need-same-length (node-calls t) (node-at t) node.Post
 node-same-length t c = search needs
 
 node-returns : (t : ℕ) → node-lts.Need-returns (node-calls t) (node-at t) node.Post
 node-returns t c =
-    let args = c .before .before .before .before .before .before .before .before .before .before .before .before .before .before .before .before .before .before .args in
-    let pre = c .before .before .before .before .before .before .before .before .before .before .before .before .before .before .before .before .before .before .pre in
-    let node = c .before .before .before .before .before .before .before .before .before .before .before .before .before .before .node in
-    let if1 = c .before .before .before .before .before .before .before .before .before .if1 in
+    let args = c .before .before .before .before .before .before .before .before .before .before .before .args in
+    let pre = c .before .before .before .before .before .before .before .before .before .before .before .pre in
+    let node = c .before .before .before .before .before .before .before .node in
+    let if1 = c .before .before .before .before .before .if1 in
     let node2 = args .at in (
-      says-as _ _ _ _ _ (c .closed .ensures .0) (as-node _ _ (term (tree-in (args .d) (args .b .now) node2)) (leaf (node .result)) _ _ (node2 + node-size) _ (node2 + node-size) (cursor-in (args .at) (args .path) (args .c .now)) _ _ _
+      as-node _ _ (term (tree-in (args .d) (args .b .now) node2)) (leaf (node .result)) _ _ (node2 + node-size) _ (node2 + node-size) (cursor-in (args .at) (args .path) (args .c .now)) _ _ _
           (wholes.leaf-term-is (args .b .now) (args .d) node2 (node .result) (node .ensures .0) (pre .1 .1 .0) (if1 .taken))
           (wholes.leaf-size (args .b .now) (args .d) node2 (node .result) (node .ensures .0) (pre .1 .1 .0) (if1 .taken))
-          (c .before .before .before .before .lower-leaf .ensures)),
-      c .closed .ensures .1,
+          (c .before .before .put-leaf .ensures .0),
+      c .before .before .put-leaf .ensures .1,
     )
 
-node-closed-requires-2 : (t : ℕ) → node-lts.Need-closed-requires-2 (node-calls t) (node-at t) node.Post
-node-closed-requires-2 t c κs = (tt, c .before .before .before .before .before .before .before .before .before .before .before .before .before .before .pre .1 .1 .1)
+node-closed-requires : (t : ℕ) → node-lts.Need-closed-requires (node-calls t) (node-at t) node.Post
+node-closed-requires t c κs = (tt, c .before .before .before .before .before .before .before .before .before .before .before .pre .1 .1 .1)
 
 node-returns-2 : (t : ℕ) → node-lts.Need-returns-2 (node-calls t) (node-at t) node.Post
 node-returns-2 t c =
-    let pre = c .before .before .before .before .before .before .before .before .before .before .before .before .before .before .before .pre in
-    let args = c .before .before .before .before .before .before .before .before .before .before .before .before .before .before .before .args in
-    let node = c .before .before .before .before .before .before .before .before .before .before .before .node in (
-      says-as _ _ _ _ _ (c .closed2 .ensures .0) (miscounted-here (pre .1 .0) _ (term (tree-in (args .d) (args .b .now) (args .at))) _ (wholes.few-is (args .b .now) (args .d) (args .at)
+    let pre = c .before .before .before .before .before .before .before .before .before .before .before .before .pre in
+    let args = c .before .before .before .before .before .before .before .before .before .before .before .before .args in
+    let node = c .before .before .before .before .before .before .before .before .node in (
+      says-as _ _ _ _ _ (c .closed .ensures .0) (miscounted-here (pre .1 .0) _ (term (tree-in (args .d) (args .b .now) (args .at))) _ (wholes.few-is (args .b .now) (args .d) (args .at)
           (node .result) (node .ensures .0) (pre .1 .1 .0) (c .before .before .before .before .if2 .taken) (c .before .before .if3 .taken))),
-      c .closed2 .ensures .1,
+      c .closed .ensures .1,
     )
 
 node-sub-link : (t : ℕ) → node-lts.Need-sub-link (node-calls t) (node-at t) node.Post
 node-sub-link t c =
-    let args = c .before .before .before .before .before .before .before .before .before .before .before .before .before .before .before .args in
-    let pre = c .before .before .before .before .before .before .before .before .before .before .before .before .before .before .before .pre in
-    let node = c .before .before .before .before .before .before .before .before .before .before .before .node in
+    let args = c .before .before .before .before .before .before .before .before .before .before .before .before .args in
+    let pre = c .before .before .before .before .before .before .before .before .before .before .before .before .pre in
+    let node = c .before .before .before .before .before .before .before .before .node in
     omega (arith, wholes.node-deep (args .b .now) (args .d) (args .at) (node .result) (node .ensures .0) (pre .1 .1 .0))
 
 node-link-requires : (t : ℕ) → node-lts.Need-link-requires (node-calls t) (node-at t) node.Post
 node-link-requires t c κs =
-    let pre = c .before .before .before .before .before .before .before .before .before .before .before .before .before .before .before .before .pre in
-    let args = c .before .before .before .before .before .before .before .before .before .before .before .before .before .before .before .before .args in
-    let node = c .before .before .before .before .before .before .before .before .before .before .before .before .node in
+    let pre = c .before .before .before .before .before .before .before .before .before .before .before .before .before .pre in
+    let args = c .before .before .before .before .before .before .before .before .before .before .before .before .before .args in
+    let node = c .before .before .before .before .before .before .before .before .before .node in
     let node-gives = node .result in
     let b = args .b .now in
     let node2 = args .at in
@@ -1236,9 +1214,9 @@ node-same-length-2 t c = search needs
 
 node-returns-3 : (t : ℕ) → node-lts.Need-returns-3 (node-calls t) (node-at t) node.Post
 node-returns-3 t c =
-    let args = c .before .before .before .before .before .before .before .before .before .before .before .before .before .before .before .before .before .before .before .args in
-    let pre = c .before .before .before .before .before .before .before .before .before .before .before .before .before .before .before .before .before .before .before .pre in
-    let node = c .before .before .before .before .before .before .before .before .before .before .before .before .before .before .before .node in
+    let args = c .before .before .before .before .before .before .before .before .before .before .before .before .before .before .before .before .args in
+    let pre = c .before .before .before .before .before .before .before .before .before .before .before .before .before .before .before .before .pre in
+    let node = c .before .before .before .before .before .before .before .before .before .before .before .before .node in
     let if2 = c .before .before .before .before .before .before .before .before .if2 in
     let node-gives = node .result in
     let b = args .b .now in
@@ -1255,16 +1233,16 @@ node-chooses-requires t c κs = search needs
 
 node-sub-lower : (t : ℕ) → node-lts.Need-sub-lower (node-calls t) (node-at t) node.Post
 node-sub-lower t c =
-    let args = c .before .before .before .before .before .before .before .before .before .before .before .before .before .before .before .before .args in
-    let pre = c .before .before .before .before .before .before .before .before .before .before .before .before .before .before .before .before .pre in
-    let node = c .before .before .before .before .before .before .before .before .before .before .before .before .node in
+    let args = c .before .before .before .before .before .before .before .before .before .before .before .before .before .args in
+    let pre = c .before .before .before .before .before .before .before .before .before .before .before .before .before .pre in
+    let node = c .before .before .before .before .before .before .before .before .before .node in
     omega (arith, wholes.node-deep (args .b .now) (args .d) (args .at) (node .result) (node .ensures .0) (pre .1 .1 .0))
 
 node-lower-requires : (t : ℕ) → node-lts.Need-lower-requires (node-calls t) (node-at t) node.Post
 node-lower-requires t c κs =
-    let pre = c .before .before .before .before .before .before .before .before .before .before .before .before .before .before .before .before .before .pre in
-    let args = c .before .before .before .before .before .before .before .before .before .before .before .before .before .before .before .before .before .args in
-    let node = c .before .before .before .before .before .before .before .before .before .before .before .before .before .node in
+    let pre = c .before .before .before .before .before .before .before .before .before .before .before .before .before .before .pre in
+    let args = c .before .before .before .before .before .before .before .before .before .before .before .before .before .before .args in
+    let node = c .before .before .before .before .before .before .before .before .before .before .node in
     let args2 = args .d - 1 in
     let node-gives = node .result in
     let b = args .b .now in
@@ -1304,9 +1282,9 @@ node-same-length-3 t c = search needs
 node-returns-4 : (t : ℕ) → node-lts.Need-returns-4 (node-calls t) (node-at t) node.Post
 node-returns-4 t c =
     let lower-cells = c .before .before .before .before .before .before .lower .last .1 .1 .1 .1 .1 .1 .1 .1 .1 .1 .1 .1 .0 in
-    let args = c .before .before .before .before .before .before .before .before .before .before .before .before .before .before .before .before .before .before .before .before .before .before .before .before .args in
-    let pre = c .before .before .before .before .before .before .before .before .before .before .before .before .before .before .before .before .before .before .before .before .before .before .before .before .pre in
-    let node = c .before .before .before .before .before .before .before .before .before .before .before .before .before .before .before .before .before .before .before .before .node in
+    let args = c .before .before .before .before .before .before .before .before .before .before .before .before .before .before .before .before .before .before .before .before .before .args in
+    let pre = c .before .before .before .before .before .before .before .before .before .before .before .before .before .before .before .before .before .before .before .before .before .pre in
+    let node = c .before .before .before .before .before .before .before .before .before .before .before .before .before .before .before .before .before .node in
     let chooses = c .before .before .before .before .before .before .before .before .before .before .before .before .chooses in
     let if4 = c .before .before .before .before .before .before .before .before .before .before .before .if4 in
     let if5 = c .before .before .before .before .before .before .before .before .before .if5 in
@@ -1328,9 +1306,9 @@ node-returns-4 t c =
 
 node-sub-branch : (t : ℕ) → node-lts.Need-sub-branch (node-calls t) (node-at t) node.Post
 node-sub-branch t c =
-    let args = c .before .before .before .before .before .before .before .before .before .before .before .before .before .before .before .before .before .before .before .before .before .before .before .before .before .before .args in
-    let pre = c .before .before .before .before .before .before .before .before .before .before .before .before .before .before .before .before .before .before .before .before .before .before .before .before .before .before .pre in
-    let node = c .before .before .before .before .before .before .before .before .before .before .before .before .before .before .before .before .before .before .before .before .before .before .node in
+    let args = c .before .before .before .before .before .before .before .before .before .before .before .before .before .before .before .before .before .before .before .before .before .before .before .args in
+    let pre = c .before .before .before .before .before .before .before .before .before .before .before .before .before .before .before .before .before .before .before .before .before .before .before .pre in
+    let node = c .before .before .before .before .before .before .before .before .before .before .before .before .before .before .before .before .before .before .before .node in
     omega (arith, wholes.node-deep (args .b .now) (args .d) (args .at) (node .result) (node .ensures .0) (pre .1 .1 .0))
 
 node-element-copy-out-branch : (t : ℕ) → node-lts.Need-element-copy-out-branch (node-calls t) (node-at t) node.Post
@@ -1343,9 +1321,9 @@ node-branch-requires : (t : ℕ) → node-lts.Need-branch-requires (node-calls t
 node-branch-requires t c κs =
     let a-known = known-done _ _ _ _ _ (c .before .before .before .before .before .before .before .opened .ensures) (c .before .before .before .before .before .a .given .1) in
     let lower-cells = c .before .before .before .before .before .before .before .before .before .before .before .lower .last .1 .1 .1 .1 .1 .1 .1 .1 .1 .1 .1 .1 .0 in
-    let pre = c .before .before .before .before .before .before .before .before .before .before .before .before .before .before .before .before .before .before .before .before .before .before .before .before .before .before .before .before .before .pre in
-    let args = c .before .before .before .before .before .before .before .before .before .before .before .before .before .before .before .before .before .before .before .before .before .before .before .before .before .before .before .before .before .args in
-    let node = c .before .before .before .before .before .before .before .before .before .before .before .before .before .before .before .before .before .before .before .before .before .before .before .before .before .node in
+    let pre = c .before .before .before .before .before .before .before .before .before .before .before .before .before .before .before .before .before .before .before .before .before .before .before .before .before .before .pre in
+    let args = c .before .before .before .before .before .before .before .before .before .before .before .before .before .before .before .before .before .before .before .before .before .before .before .before .before .before .args in
+    let node = c .before .before .before .before .before .before .before .before .before .before .before .before .before .before .before .before .before .before .before .before .before .before .node in
     let chooses = c .before .before .before .before .before .before .before .before .before .before .before .before .before .before .before .before .before .chooses in
     let if4 = c .before .before .before .before .before .before .before .before .before .before .before .before .before .before .before .before .if4 in
     let if5 = c .before .before .before .before .before .before .before .before .before .before .before .before .before .before .if5 in
@@ -1398,9 +1376,9 @@ node-returns-5 t c =
     let a-known = known-done _ _ _ _ _ (c .before .before .before .before .before .before .before .before .before .before .opened .ensures) (c .before .before .before .before .before .before .before .before .a .given .1) in
     let lower-cells = c .before .before .before .before .before .before .before .before .before .before .before .before .before .before .lower .last .1 .1 .1 .1 .1 .1 .1 .1 .1 .1 .1 .1 .0 in
     let branch-cells = c .before .before .branch .last .1 .1 .1 .1 .1 .1 .1 .1 .1 .1 .1 .1 .1 .0 in
-    let args = c .before .before .before .before .before .before .before .before .before .before .before .before .before .before .before .before .before .before .before .before .before .before .before .before .before .before .before .before .before .before .before .before .args in
-    let pre = c .before .before .before .before .before .before .before .before .before .before .before .before .before .before .before .before .before .before .before .before .before .before .before .before .before .before .before .before .before .before .before .before .pre in
-    let node = c .before .before .before .before .before .before .before .before .before .before .before .before .before .before .before .before .before .before .before .before .before .before .before .before .before .before .before .before .node in
+    let args = c .before .before .before .before .before .before .before .before .before .before .before .before .before .before .before .before .before .before .before .before .before .before .before .before .before .before .before .before .before .args in
+    let pre = c .before .before .before .before .before .before .before .before .before .before .before .before .before .before .before .before .before .before .before .before .before .before .before .before .before .before .before .before .before .pre in
+    let node = c .before .before .before .before .before .before .before .before .before .before .before .before .before .before .before .before .before .before .before .before .before .before .before .before .before .node in
     let chooses = c .before .before .before .before .before .before .before .before .before .before .before .before .before .before .before .before .before .before .before .before .chooses in
     let if4 = c .before .before .before .before .before .before .before .before .before .before .before .before .before .before .before .before .before .before .before .if4 in
     let if5 = c .before .before .before .before .before .before .before .before .before .before .before .before .before .before .before .before .before .if5 in
@@ -1421,18 +1399,18 @@ node-returns-5 t c =
       c .before .before .branch .ensures .1,
     )
 
-node-closed-requires-3 : (t : ℕ) → node-lts.Need-closed-requires-3 (node-calls t) (node-at t) node.Post
-node-closed-requires-3 t c κs = (tt, c .before .before .before .before .before .before .before .before .before .before .before .before .before .before .before .before .pre .1 .1 .1)
+node-closed-requires-2 : (t : ℕ) → node-lts.Need-closed-requires-2 (node-calls t) (node-at t) node.Post
+node-closed-requires-2 t c κs = (tt, c .before .before .before .before .before .before .before .before .before .before .before .before .before .pre .1 .1 .1)
 
 node-returns-6 : (t : ℕ) → node-lts.Need-returns-6 (node-calls t) (node-at t) node.Post
 node-returns-6 t c =
-    let pre = c .before .before .before .before .before .before .before .before .before .before .before .before .before .before .before .before .before .pre in
-    let args = c .before .before .before .before .before .before .before .before .before .before .before .before .before .before .before .before .before .args in
-    let node = c .before .before .before .before .before .before .before .before .before .before .before .before .before .node in (
-      says-as _ _ _ _ _ (c .closed3 .ensures .0) (miscounted-here (pre .1 .0) _ (term (tree-in (args .d) (args .b .now) (args .at))) _ (wholes.wrong-is (args .b .now) (args .d)
+    let pre = c .before .before .before .before .before .before .before .before .before .before .before .before .before .before .pre in
+    let args = c .before .before .before .before .before .before .before .before .before .before .before .before .before .before .args in
+    let node = c .before .before .before .before .before .before .before .before .before .before .node in (
+      says-as _ _ _ _ _ (c .closed2 .ensures .0) (miscounted-here (pre .1 .0) _ (term (tree-in (args .d) (args .b .now) (args .at))) _ (wholes.wrong-is (args .b .now) (args .d)
           (args .at) (node .result) (node .ensures .0) (pre .1 .1 .0) (sym (c .before .before .before .before .before .chooses .ensures) ∙ c .before .before .before .before .if4 .taken)
           (c .before .before .if5 .left))),
-      c .closed3 .ensures .1,
+      c .closed2 .ensures .1,
     )
 
 node-takes-requires : (t : ℕ) → node-lts.Need-takes-requires (node-calls t) (node-at t) node.Post
@@ -1443,16 +1421,16 @@ node-listing-requires t c κs = search needs
 
 node-sub-operands : (t : ℕ) → node-lts.Need-sub-operands (node-calls t) (node-at t) node.Post
 node-sub-operands t c =
-    let args = c .before .before .before .before .before .before .before .before .before .before .before .before .before .before .before .before .args in
-    let pre = c .before .before .before .before .before .before .before .before .before .before .before .before .before .before .before .before .pre in
-    let node = c .before .before .before .before .before .before .before .before .before .before .before .before .node in
+    let args = c .before .before .before .before .before .before .before .before .before .before .before .before .before .args in
+    let pre = c .before .before .before .before .before .before .before .before .before .before .before .before .before .pre in
+    let node = c .before .before .before .before .before .before .before .before .before .node in
     omega (arith, wholes.node-deep (args .b .now) (args .d) (args .at) (node .result) (node .ensures .0) (pre .1 .1 .0))
 
 node-operands-requires : (t : ℕ) → node-lts.Need-operands-requires (node-calls t) (node-at t) node.Post
 node-operands-requires t c κs =
-    let pre = c .before .before .before .before .before .before .before .before .before .before .before .before .before .before .before .before .before .pre in
-    let args = c .before .before .before .before .before .before .before .before .before .before .before .before .before .before .before .before .before .args in
-    let node = c .before .before .before .before .before .before .before .before .before .before .before .before .before .node in
+    let pre = c .before .before .before .before .before .before .before .before .before .before .before .before .before .before .pre in
+    let args = c .before .before .before .before .before .before .before .before .before .before .before .before .before .before .args in
+    let node = c .before .before .before .before .before .before .before .before .before .before .node in
     let if1 = c .before .before .before .before .before .before .before .before .if1 in
     let if2 = c .before .before .before .before .before .before .if2 in
     let chooses = c .before .before .before .before .before .chooses in
@@ -1492,9 +1470,9 @@ node-same-length-5 t c = search needs
 node-returns-7 : (t : ℕ) → node-lts.Need-returns-7 (node-calls t) (node-at t) node.Post
 node-returns-7 t c =
     let operands-cells = c .before .before .before .before .before .before .operands .last .1 .1 .1 .1 .1 .1 .1 .1 .1 .1 .1 .1 .1 .0 in
-    let args = c .before .before .before .before .before .before .before .before .before .before .before .before .before .before .before .before .before .before .before .before .before .before .before .before .args in
-    let pre = c .before .before .before .before .before .before .before .before .before .before .before .before .before .before .before .before .before .before .before .before .before .before .before .before .pre in
-    let node = c .before .before .before .before .before .before .before .before .before .before .before .before .before .before .before .before .before .before .before .before .node in
+    let args = c .before .before .before .before .before .before .before .before .before .before .before .before .before .before .before .before .before .before .before .before .before .args in
+    let pre = c .before .before .before .before .before .before .before .before .before .before .before .before .before .before .before .before .before .before .before .before .before .pre in
+    let node = c .before .before .before .before .before .before .before .before .before .before .before .before .before .before .before .before .before .node in
     let if1 = c .before .before .before .before .before .before .before .before .before .before .before .before .before .before .before .if1 in
     let if2 = c .before .before .before .before .before .before .before .before .before .before .before .before .before .if2 in
     let chooses = c .before .before .before .before .before .before .before .before .before .before .before .before .chooses in
@@ -1526,37 +1504,22 @@ node-returns-7 t c =
       c .before .before .before .before .before .before .operands .ensures .1,
     )
 
-node-element-copy-out-t34-2 : (t : ℕ) → node-lts.Need-element-copy-out-t34-2 (node-calls t) (node-at t) node.Post
-node-element-copy-out-t34-2 t c = search needs
-
-node-element-copy-out-t31 : (t : ℕ) → node-lts.Need-element-copy-out-t31 (node-calls t) (node-at t) node.Post
-node-element-copy-out-t31 t c = search needs
-
-node-element-copy-out-t37 : (t : ℕ) → node-lts.Need-element-copy-out-t37 (node-calls t) (node-at t) node.Post
-node-element-copy-out-t37 t c = search needs
-
-node-element-copy-out-t87 : (t : ℕ) → node-lts.Need-element-copy-out-t87 (node-calls t) (node-at t) node.Post
-node-element-copy-out-t87 t c = search needs
-
-node-element-copy-out-t90 : (t : ℕ) → node-lts.Need-element-copy-out-t90 (node-calls t) (node-at t) node.Post
-node-element-copy-out-t90 t c = search needs
-
-node-finish-requires : (t : ℕ) → node-lts.Need-finish-requires (node-calls t) (node-at t) node.Post
-node-finish-requires t c κs =
-    let o-known = known-done _ _ _ _ _ (c .before .before .before .before .before .before .before .before .before .opened2 .ensures) (c .before .before .before .before .before .before .before .o .given .1) in
-    let operands-cells = c .before .before .before .before .before .before .before .before .before .before .before .before .before .operands .last .1 .1 .1 .1 .1 .1 .1 .1 .1 .1 .1 .1 .1 .0 in
-    let args = c .before .before .before .before .before .before .before .before .before .before .before .before .before .before .before .before .before .before .before .before .before .before .before .before .before .before .before .before .before .before .before .args in
-    let pre = c .before .before .before .before .before .before .before .before .before .before .before .before .before .before .before .before .before .before .before .before .before .before .before .before .before .before .before .before .before .before .before .pre in
-    let good = c .before .before .before .before .before .before .before .before .before .before .before .before .before .before .before .before .before .before .before .before .before .before .before .before .before .before .before .before .before .before .before .good in
-    let node = c .before .before .before .before .before .before .before .before .before .before .before .before .before .before .before .before .before .before .before .before .before .before .before .before .before .before .before .node in
-    let if1 = c .before .before .before .before .before .before .before .before .before .before .before .before .before .before .before .before .before .before .before .before .before .before .if1 in
-    let if2 = c .before .before .before .before .before .before .before .before .before .before .before .before .before .before .before .before .before .before .before .before .if2 in
-    let chooses = c .before .before .before .before .before .before .before .before .before .before .before .before .before .before .before .before .before .before .before .chooses in
-    let if4 = c .before .before .before .before .before .before .before .before .before .before .before .before .before .before .before .before .before .before .if4 in
-    let takes = c .before .before .before .before .before .before .before .before .before .before .before .before .before .before .before .before .before .takes in
-    let listing = c .before .before .before .before .before .before .before .before .before .before .before .before .before .before .before .before .listing in
-    let operands = c .before .before .before .before .before .before .before .before .before .before .before .before .before .operands in
-    let o = c .before .before .before .before .before .before .before .o in
+node-put-operation-requires : (t : ℕ) → node-lts.Need-put-operation-requires (node-calls t) (node-at t) node.Post
+node-put-operation-requires t c κs =
+    let o-known = known-done _ _ _ _ _ (c .before .before .before .before .before .opened2 .ensures) (c .before .before .before .o .given .1) in
+    let operands-cells = c .before .before .before .before .before .before .before .before .before .operands .last .1 .1 .1 .1 .1 .1 .1 .1 .1 .1 .1 .1 .1 .0 in
+    let args = c .before .before .before .before .before .before .before .before .before .before .before .before .before .before .before .before .before .before .before .before .before .before .before .before .args in
+    let pre = c .before .before .before .before .before .before .before .before .before .before .before .before .before .before .before .before .before .before .before .before .before .before .before .before .pre in
+    let good = c .before .before .before .before .before .before .before .before .before .before .before .before .before .before .before .before .before .before .before .before .before .before .before .before .good in
+    let node = c .before .before .before .before .before .before .before .before .before .before .before .before .before .before .before .before .before .before .before .before .node in
+    let if1 = c .before .before .before .before .before .before .before .before .before .before .before .before .before .before .before .before .before .before .if1 in
+    let if2 = c .before .before .before .before .before .before .before .before .before .before .before .before .before .before .before .before .if2 in
+    let chooses = c .before .before .before .before .before .before .before .before .before .before .before .before .before .before .before .chooses in
+    let if4 = c .before .before .before .before .before .before .before .before .before .before .before .before .before .before .if4 in
+    let takes = c .before .before .before .before .before .before .before .before .before .before .before .before .before .takes in
+    let listing = c .before .before .before .before .before .before .before .before .before .before .before .before .listing in
+    let operands = c .before .before .before .before .before .before .before .before .before .operands in
+    let o = c .before .before .before .o in
     let b = args .b .now in
     let node-gives = node .result in
     let node2 = args .at in
@@ -1585,63 +1548,28 @@ node-finish-requires t c κs =
             (operands .kept .1 .0) collected,
         good .1 .0 .0,
       ),
+      operands .ensures .1,
     )
-
-node-closed-requires-4 : (t : ℕ) → node-lts.Need-closed-requires-4 (node-calls t) (node-at t) node.Post
-node-closed-requires-4 t c κs =
-    let o-known = known-done _ _ _ _ _ (c .before .before .before .before .before .before .before .before .before .before .before .before .before .opened2 .ensures) (c .before .before .before .before .before .before .before .before .before .before .before .o .given .1) in
-    let operands-cells = c .before .before .before .before .before .before .before .before .before .before .before .before .before .before .before .before .before .operands .last .1 .1 .1 .1 .1 .1 .1 .1 .1 .1 .1 .1 .1 .0 in
-    let args = c .before .before .before .before .before .before .before .before .before .before .before .before .before .before .before .before .before .before .before .before .before .before .before .before .before .before .before .before .before .before .before .before .before .before .before .args in
-    let pre = c .before .before .before .before .before .before .before .before .before .before .before .before .before .before .before .before .before .before .before .before .before .before .before .before .before .before .before .before .before .before .before .before .before .before .before .pre in
-    let node = c .before .before .before .before .before .before .before .before .before .before .before .before .before .before .before .before .before .before .before .before .before .before .before .before .before .before .before .before .before .before .before .node in
-    let if1 = c .before .before .before .before .before .before .before .before .before .before .before .before .before .before .before .before .before .before .before .before .before .before .before .before .before .before .if1 in
-    let if2 = c .before .before .before .before .before .before .before .before .before .before .before .before .before .before .before .before .before .before .before .before .before .before .before .before .if2 in
-    let chooses = c .before .before .before .before .before .before .before .before .before .before .before .before .before .before .before .before .before .before .before .before .before .before .before .chooses in
-    let if4 = c .before .before .before .before .before .before .before .before .before .before .before .before .before .before .before .before .before .before .before .before .before .before .if4 in
-    let takes = c .before .before .before .before .before .before .before .before .before .before .before .before .before .before .before .before .before .before .before .before .before .takes in
-    let listing = c .before .before .before .before .before .before .before .before .before .before .before .before .before .before .before .before .before .before .before .before .listing in
-    let operands = c .before .before .before .before .before .before .before .before .before .before .before .before .before .before .before .before .before .operands in
-    let o = c .before .before .before .before .before .before .before .before .before .before .before .o in
-    let b = args .b .now in
-    let node-gives = node .result in
-    let node2 = args .at in
-    let o-next = cursor-of operands-cells in
-    let x = node2 + node-size in
-    let children = node-gives .children in
-    let sym2 = sym (chooses .ensures) ∙ if4 .left in
-    let context = context-of (args .kinds .now) (layout-of (args .l .now) .generated) in
-    let after = past b (args .d - 1) children x in
-    let terms2 = terms (kids b (args .d - 1) children x) in
-    let count-kids = wholes.count-kids b (args .d - 1) children x in
-    let knows = wholes.knows b (args .d) node2 node-gives (node .ensures .0) (pre .1 .1 .0) (omega (arith, if1 .left)) (if2 .left) sym2 in
-    let op = knows .op in
-    let collected = collects.collected _ _ _ _ _ _ _ _ _ (o .given .0 .0) o-next
-    (lists-as _ _ _ _ _ _ _ _ _ _ _ _ _ _ (takes .ensures) (listing .ensures) (operands .ensures .0)) o-known in
-    let ready-term2 = ready-term (term (tree-in (args .d) b node2)) (apply op terms2)
-    (wholes.apply-is b (args .d) node2 node-gives (node .ensures .0) (pre .1 .1 .0) (omega (arith, if1 .left)) (if2 .left) sym2) (pre .1 .0) x in
-    let ready = wholes.ready-finish context refl op terms2 node-gives _ after knows refl count-kids ready-term2 (operands .last .1 .0) (o .given .0 .0) o-next
-    (operands .kept .1 .0) collected in
-    (finish-packs _ _ _ _ _ _ _ _ _ _ (c .before .before .before .finish .ensures) (omega (arith, ready .registers, ready .brief)), operands .ensures .1)
 
 node-same-length-6 : (t : ℕ) → node-lts.Need-same-length-6 (node-calls t) (node-at t) node.Post
 node-same-length-6 t c = search needs
 
 node-returns-8 : (t : ℕ) → node-lts.Need-returns-8 (node-calls t) (node-at t) node.Post
 node-returns-8 t c =
-    let o-known = known-done _ _ _ _ _ (c .before .before .before .before .before .before .before .before .before .before .before .before .before .before .opened2 .ensures) (c .before .before .before .before .before .before .before .before .before .before .before .before .o .given .1) in
-    let operands-cells = c .before .before .before .before .before .before .before .before .before .before .before .before .before .before .before .before .before .before .operands .last .1 .1 .1 .1 .1 .1 .1 .1 .1 .1 .1 .1 .1 .0 in
-    let args = c .before .before .before .before .before .before .before .before .before .before .before .before .before .before .before .before .before .before .before .before .before .before .before .before .before .before .before .before .before .before .before .before .before .before .before .before .args in
-    let pre = c .before .before .before .before .before .before .before .before .before .before .before .before .before .before .before .before .before .before .before .before .before .before .before .before .before .before .before .before .before .before .before .before .before .before .before .before .pre in
-    let node = c .before .before .before .before .before .before .before .before .before .before .before .before .before .before .before .before .before .before .before .before .before .before .before .before .before .before .before .before .before .before .before .before .node in
-    let if1 = c .before .before .before .before .before .before .before .before .before .before .before .before .before .before .before .before .before .before .before .before .before .before .before .before .before .before .before .if1 in
-    let if2 = c .before .before .before .before .before .before .before .before .before .before .before .before .before .before .before .before .before .before .before .before .before .before .before .before .before .if2 in
-    let chooses = c .before .before .before .before .before .before .before .before .before .before .before .before .before .before .before .before .before .before .before .before .before .before .before .before .chooses in
-    let if4 = c .before .before .before .before .before .before .before .before .before .before .before .before .before .before .before .before .before .before .before .before .before .before .before .if4 in
-    let takes = c .before .before .before .before .before .before .before .before .before .before .before .before .before .before .before .before .before .before .before .before .before .before .takes in
-    let listing = c .before .before .before .before .before .before .before .before .before .before .before .before .before .before .before .before .before .before .before .before .before .listing in
-    let operands = c .before .before .before .before .before .before .before .before .before .before .before .before .before .before .before .before .before .before .operands in
-    let o = c .before .before .before .before .before .before .before .before .before .before .before .before .o in
-    let finish = c .before .before .before .before .finish in
+    let o-known = known-done _ _ _ _ _ (c .before .before .before .before .before .before .before .before .opened2 .ensures) (c .before .before .before .before .before .before .o .given .1) in
+    let operands-cells = c .before .before .before .before .before .before .before .before .before .before .before .before .operands .last .1 .1 .1 .1 .1 .1 .1 .1 .1 .1 .1 .1 .1 .0 in
+    let args = c .before .before .before .before .before .before .before .before .before .before .before .before .before .before .before .before .before .before .before .before .before .before .before .before .before .before .before .args in
+    let pre = c .before .before .before .before .before .before .before .before .before .before .before .before .before .before .before .before .before .before .before .before .before .before .before .before .before .before .before .pre in
+    let node = c .before .before .before .before .before .before .before .before .before .before .before .before .before .before .before .before .before .before .before .before .before .before .before .node in
+    let if1 = c .before .before .before .before .before .before .before .before .before .before .before .before .before .before .before .before .before .before .before .before .before .if1 in
+    let if2 = c .before .before .before .before .before .before .before .before .before .before .before .before .before .before .before .before .before .before .before .if2 in
+    let chooses = c .before .before .before .before .before .before .before .before .before .before .before .before .before .before .before .before .before .before .chooses in
+    let if4 = c .before .before .before .before .before .before .before .before .before .before .before .before .before .before .before .before .before .if4 in
+    let takes = c .before .before .before .before .before .before .before .before .before .before .before .before .before .before .before .before .takes in
+    let listing = c .before .before .before .before .before .before .before .before .before .before .before .before .before .before .before .listing in
+    let operands = c .before .before .before .before .before .before .before .before .before .before .before .before .operands in
+    let o = c .before .before .before .before .before .before .o in
+    let put-operation = c .before .before .put-operation in
     let node-gives = node .result in
     let b = args .b .now in
     let node2 = args .at in
@@ -1655,13 +1583,13 @@ node-returns-8 t c =
     let apply-is = wholes.apply-is b (args .d) node2 node-gives ensures (pre .1 .1 .0) (omega (arith, if1 .left)) (if2 .left) sym2 in
     let op = knows .op in
     let apply2 = apply op terms2 in (
-      says-as _ _ _ _ _ (c .closed4 .ensures .0) (as-node _ _ term2 apply2 _ _ _ _ x (cursor-in (args .at) (args .path) (args .c .now)) _ _ _ apply-is (wholes.past-is b (args .d) node2 node-gives ensures (pre .1 .1 .0)) (wholes.finished
+      as-node _ _ term2 apply2 _ _ _ _ x (cursor-in (args .at) (args .path) (args .c .now)) _ _ _ apply-is (wholes.past-is b (args .d) node2 node-gives ensures (pre .1 .1 .0)) (wholes.finished
           (context-of (args .kinds .now) (layout-of (args .l .now) .generated)) refl op terms2 node-gives _ (past b (args .d - 1) children x) knows refl
           (wholes.count-kids b (args .d - 1) children x) (ready-term term2 apply2 apply-is (pre .1 .0) x) (operands .last .1 .0) (o .given .0 .0)
           (cursor-of operands-cells) (operands .kept .1 .0) (collects.collected _ _ _ _ _ _ _ _ _ (o .given .0 .0) (cursor-of operands-cells)
-          (lists-as _ _ _ _ _ _ _ _ _ _ _ _ _ _ (takes .ensures) (listing .ensures) (operands .ensures .0)) o-known) (finish .last .0) (finish .result)
-          (finish .ensures))),
-      c .closed4 .ensures .1,
+          (lists-as _ _ _ _ _ _ _ _ _ _ _ _ _ _ (takes .ensures) (listing .ensures) (operands .ensures .0)) o-known) (put-operation .last .0) (low-of (put-operation .result) (put-operation .last .1 .1 .1 .1 .1 .1 .0))
+          (put-operation .ensures .0)),
+      c .before .before .put-operation .ensures .1,
     )
 
 operand-add-lower : (t : ℕ) → operand-lts.Need-add-lower (operand-calls t) (operand-at t) operand.Post
@@ -2068,17 +1996,10 @@ pub +branch+link+lower+node+operand+operands-spec : {M : Type 1} → statement M
     node.Post
     (node-node-requires t)
     (node-add-next t)
-    (node-element-copy-out-operands t)
-    (node-element-copy-out-t34 t)
-    (node-element-copy-out-if1 t)
-    (node-element-copy-out-t41 t)
-    (node-element-copy-out-t44 t)
-    (node-element-copy-out-t47 t)
-    (node-lower-leaf-requires t)
-    (node-closed-requires t)
+    (node-put-leaf-requires t)
     (node-same-length t)
     (node-returns t)
-    (node-closed-requires-2 t)
+    (node-closed-requires t)
     (node-returns-2 t)
     (node-sub-link t)
     (node-link-requires t)
@@ -2098,7 +2019,7 @@ pub +branch+link+lower+node+operand+operands-spec : {M : Type 1} → statement M
     (node-branch-requires t)
     (node-same-length-4 t)
     (node-returns-5 t)
-    (node-closed-requires-3 t)
+    (node-closed-requires-2 t)
     (node-returns-6 t)
     (node-takes-requires t)
     (node-listing-requires t)
@@ -2109,13 +2030,7 @@ pub +branch+link+lower+node+operand+operands-spec : {M : Type 1} → statement M
     (node-enum-told-2 t)
     (node-same-length-5 t)
     (node-returns-7 t)
-    (node-element-copy-out-t34-2 t)
-    (node-element-copy-out-t31 t)
-    (node-element-copy-out-t37 t)
-    (node-element-copy-out-t87 t)
-    (node-element-copy-out-t90 t)
-    (node-finish-requires t)
-    (node-closed-requires-4 t)
+    (node-put-operation-requires t)
     (node-same-length-6 t)
     (node-returns-8 t))
     (λ t. operand-lts.spec (operand-calls t) (operand-at t)
