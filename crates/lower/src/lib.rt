@@ -508,6 +508,74 @@ fn finish(p: &mut [u8], l: Layout, s: Site, f: reader::Fields, v: Value, c: Curs
     Low::Fault(INVALID_INPUT, k)
 }
 
+// A leaf, with what is next free in the cells.
+fn put_leaf(
+    p: &mut [u8],
+    kinds: &[u8],
+    l: &[usize; 3],
+    k: usize,
+    long: usize,
+    f: reader::Fields,
+    at: usize,
+    path: usize,
+    c: &mut [usize; 6],
+) -> usize
+    requires { ⌜ Ready (layout-of (now l)) (now p) (site-at k long) (cursor-in at path (now c)) 1 0 0 × (length (now c) ≡ 6) ⌝ }
+    ensures { λ r. ⌜ Says (own-piece (context-of (now (kinds .entry)) (layout-of (now (l .entry)) .generated)) (leaf f) (place (layout-of (now (l .entry))) (now (p .entry)) (site-at k long)) k (cursor-in at path (now (c .entry))) at) (layout-of (now (l .entry))) (cursor-in at path (now (c .entry))) (now (p .entry)) (now (p .exit)) (low-of r (now (c .exit))) × (length (now (c .exit)) ≡ 6) ⌝ }
+{
+    let y = Layout {
+        paths: l[0],
+        lists: l[1],
+        generated: l[2] != 0,
+    };
+    let s = Site {
+        path: k,
+        length: long,
+    };
+    let e = Cursor {
+        node: at,
+        reg: c[1],
+        code: c[2],
+        path: path,
+        entry: c[4],
+    };
+    let r = lower_leaf(p, kinds, y, s, f, e);
+    closed(r, c)
+}
+
+// An operation whose children are lowered, with what is next free in the cells.
+fn put_operation(
+    p: &mut [u8],
+    l: &[usize; 3],
+    k: usize,
+    long: usize,
+    f: reader::Fields,
+    v: Value,
+    c: &mut [usize; 6],
+) -> usize
+    requires { ⌜ Ready (layout-of (now l)) (now p) (site-at k long) (cursor-of (now c)) 1 0 0 × (f .operator < 16) × (getD (now c) 4 0 + f .children < 2 ^ 64) × (length (now c) ≡ 6) ⌝ }
+    ensures { λ r. ⌜ Says (finish-piece (context-of [] (layout-of (now (l .entry)) .generated)) f v (place (layout-of (now (l .entry))) (now (p .entry)) (site-at k long)) k (cursor-of (now (c .entry)))) (layout-of (now (l .entry))) (cursor-of (now (c .entry))) (now (p .entry)) (now (p .exit)) (low-of r (now (c .exit))) × (length (now (c .exit)) ≡ 6) ⌝ }
+{
+    let y = Layout {
+        paths: l[0],
+        lists: l[1],
+        generated: l[2] != 0,
+    };
+    let s = Site {
+        path: k,
+        length: long,
+    };
+    let e = Cursor {
+        node: c[0],
+        reg: c[1],
+        code: c[2],
+        path: c[3],
+        entry: c[4],
+    };
+    let r = finish(p, y, s, f, v, e);
+    closed(r, c)
+}
+
 // ---- the cycle
 
 // Each part takes where path records and list entries begin (`l`), the path's record and the length of its text (`k`, `long`),
@@ -597,25 +665,8 @@ fn node(
 {
     let f = reader::node(b, at);
     let next = at + NODE_SIZE;
-    let y = Layout {
-        paths: l[0],
-        lists: l[1],
-        generated: l[2] != 0,
-    };
-    let s = Site {
-        path: k,
-        length: long,
-    };
     if f.kind < 3 {
-        let e = Cursor {
-            node: next,
-            reg: c[1],
-            code: c[2],
-            path: path,
-            entry: c[4],
-        };
-        let r = lower_leaf(p, kinds, y, s, f, e);
-        return closed(r, c);
+        return put_leaf(p, kinds, l, k, long, f, next, path, c);
     }
     if f.kind == 6 {
         if f.children < 2 {
@@ -671,15 +722,7 @@ fn node(
     let Low::Done(w, _) = o else {
         return m;
     };
-    let g = Cursor {
-        node: c[0],
-        reg: c[1],
-        code: c[2],
-        path: c[3],
-        entry: c[4],
-    };
-    let r = finish(p, y, s, f, w, g);
-    closed(r, c)
+    put_operation(p, l, k, long, f, w, c)
 }
 
 // And or Or of at least two children: the first is a condition.
@@ -906,6 +949,45 @@ fn operands(
         });
         return closed(r, c);
     }
+    operand(
+        b,
+        p,
+        kinds,
+        l,
+        k,
+        long,
+        want,
+        lists,
+        i,
+        left,
+        d,
+        at,
+        path,
+        c,
+    )
+}
+
+// The next of them, and those after it.
+fn operand(
+    b: &[u8],
+    p: &mut [u8],
+    kinds: &[u8],
+    l: &[usize; 3],
+    k: usize,
+    long: usize,
+    want: bool,
+    lists: bool,
+    i: usize,
+    left: usize,
+    d: usize,
+    at: usize,
+    path: usize,
+    c: &mut [usize; 6],
+) -> usize
+    requires { ⌜ Ready (layout-of (now l)) (now p) (site-at k long) (cursor-in at path (now c)) (instruction-counts (terms (kids (now b) d left at))) (path-counts (terms (kids (now b) d left at))) (entry-counts (terms (kids (now b) d left at)) + cond lists (i + left) 0) ⌝ }
+    requires { ⌜ (all-well-formed (kids (now b) d left at) ≡ true) × (i + left < 65536) × (length (now c) ≡ 6) × (1 ≤ left) ⌝ }
+    ensures { λ r. ⌜ Lists (layout-of (now (l .entry))) lists (terms (kids (now (b .entry)) d left at)) i (operands-piece (context-of (now (kinds .entry)) (layout-of (now (l .entry)) .generated)) want (terms (kids (now (b .entry)) d left at)) (place (layout-of (now (l .entry))) (now (p .entry)) (site-at k long)) i k (cursor-in at path (now (c .entry))) (past (now (b .entry)) d left at)) (cursor-in at path (now (c .entry))) (now (p .entry)) (now (p .exit)) (low-of r (now (c .exit))) × (length (now (c .exit)) ≡ 6) ⌝ }
+{
     let m = lower(b, p, kinds, l, k, long, 3 + i, true, 1, d, at, path, c);
     let a = opened(m, c);
     let Low::Done(v, _) = a else {

@@ -1,5 +1,5 @@
 use Rattle.lower.specs.Cells.{cursor-in, cursor-of, layout-of, low-of, site-at}
-use Rattle.lower.proofs.Cells.{arms-packs, closes-done, finish-packs, known-done, known-small, leaf-packs, lists-same, packs-at, says-as}
+use Rattle.lower.proofs.Cells.{arms-packs, closes-done, known-done, known-small, lists-same, packs-at, says-as}
 use Rattle.lower.proofs.Wholes as wholes
 use Rattle.lower.proofs.Collects as collects
 use Rattle.lower.proofs.Choices as choices
@@ -27,19 +27,22 @@ use borrow.Fn.Kinds.{In}
 use borrow.Fn.PlainCycle.{Measures, is, falls, and}
 use Rattle.lower.proofs.branch.Reads as branch
 use Rattle.lower.proofs.branch.Kinds as branch-kinds
-use Rattle.lower.proofs.+branch+link+lower+node+operands.Lts-branch as branch-lts
+use Rattle.lower.proofs.+branch+link+lower+node+operand+operands.Lts-branch as branch-lts
 use Rattle.lower.proofs.link.Reads as link
 use Rattle.lower.proofs.link.Kinds as link-kinds
-use Rattle.lower.proofs.+branch+link+lower+node+operands.Lts-link as link-lts
+use Rattle.lower.proofs.+branch+link+lower+node+operand+operands.Lts-link as link-lts
 use Rattle.lower.proofs.lower.Reads as lower
 use Rattle.lower.proofs.lower.Kinds as lower-kinds
-use Rattle.lower.proofs.+branch+link+lower+node+operands.Lts-lower as lower-lts
+use Rattle.lower.proofs.+branch+link+lower+node+operand+operands.Lts-lower as lower-lts
 use Rattle.lower.proofs.node.Reads as node
 use Rattle.lower.proofs.node.Kinds as node-kinds
-use Rattle.lower.proofs.+branch+link+lower+node+operands.Lts-node as node-lts
+use Rattle.lower.proofs.+branch+link+lower+node+operand+operands.Lts-node as node-lts
+use Rattle.lower.proofs.operand.Reads as operand
+use Rattle.lower.proofs.operand.Kinds as operand-kinds
+use Rattle.lower.proofs.+branch+link+lower+node+operand+operands.Lts-operand as operand-lts
 use Rattle.lower.proofs.operands.Reads as operands
 use Rattle.lower.proofs.operands.Kinds as operands-kinds
-use Rattle.lower.proofs.+branch+link+lower+node+operands.Lts-operands as operands-lts
+use Rattle.lower.proofs.+branch+link+lower+node+operand+operands.Lts-operands as operands-lts
 use Rattle.lower.proofs.ahead.Reads as ahead-reads
 use Rattle.lower.proofs.all.Reads as all-reads
 use Rattle.lower.proofs.any.Reads as any-reads
@@ -47,21 +50,21 @@ use Rattle.lower.proofs.chooses.Reads as chooses-reads
 use Rattle.lower.proofs.closed.Reads as closed-reads
 use Rattle.lower.proofs.constant.Reads as constant-reads
 use Rattle.lower.proofs.enter.Reads as enter-reads
-use Rattle.lower.proofs.finish.Reads as finish-reads
 use Rattle.lower.proofs.join.Reads as join-reads
 use Rattle.lower.proofs.list_entry.Reads as list-entry-reads
 use Rattle.lower.proofs.listing.Reads as listing-reads
-use Rattle.lower.proofs.lower_leaf.Reads as lower-leaf-reads
 use Rattle.lower.proofs.no_operands.Reads as no-operands-reads
 use Rattle.lower.proofs.number.Reads as number-reads
+use Rattle.lower.proofs.put_leaf.Reads as put-leaf-reads
+use Rattle.lower.proofs.put_operation.Reads as put-operation-reads
 use Rattle.lower.proofs.opened.Reads as opened-reads
 use Rattle.lower.proofs.put_slot.Reads as put-slot-reads
 use Rattle.lower.proofs.same.Reads as same-reads
 use Rattle.lower.proofs.takes.Reads as takes-reads
 use Rattle.lower.proofs.unsupported.Reads as unsupported-reads
 use Rattle.reader.proofs.node.Reads as node-reads
-use Rattle.lower.proofs.+branch+link+lower+node+operands.{statement}
-use Rattle.lower.proofs.+branch+link+lower+node+operands.Tie.{close}
+use Rattle.lower.proofs.+branch+link+lower+node+operand+operands.{statement}
+use Rattle.lower.proofs.+branch+link+lower+node+operand+operands.Tie.{close}
 
 abbrev μ-branch : Measures 5 branch-kinds.ps ℕ
 μ-branch κs a = 1048576 * a .1 .1 .1 .1 .1 .1 .1 .1 .1 .1 .0 + 4 * a .1 .1 .1 .1 .1 .1 .1 .1 .0 + 4 * a .1 .1 .1 .1 .1 .1 .1 .1 .1 .0 + 2
@@ -74,6 +77,9 @@ abbrev μ-lower : Measures 5 lower-kinds.ps ℕ
 
 abbrev μ-node : Measures 5 node-kinds.ps ℕ
 μ-node κs a = 1048576 * a .1 .1 .1 .1 .1 .1 .0
+
+abbrev μ-operand : Measures 5 operand-kinds.ps ℕ
+μ-operand κs a = 1048576 * a .1 .1 .1 .1 .1 .1 .1 .1 .1 .1 .0 + 4 * a .1 .1 .1 .1 .1 .1 .1 .1 .1 .0 + 5
 
 abbrev μ-operands : Measures 5 operands-kinds.ps ℕ
 μ-operands κs a = 1048576 * a .1 .1 .1 .1 .1 .1 .1 .1 .1 .1 .0 + 4 * a .1 .1 .1 .1 .1 .1 .1 .1 .1 .0 + 6
@@ -101,6 +107,13 @@ node-at t = and 5 node-kinds.ps (is 5 node-kinds.ps μ-node t) node.Pre
 
 abbrev node-below : ℕ → In 5 node-kinds.ps
 node-below t = and 5 node-kinds.ps (falls 5 node-kinds.ps _<_ μ-node t) node.Pre
+
+abbrev operand-at : ℕ → In 5 operand-kinds.ps
+operand-at t = and 5 operand-kinds.ps (is 5 operand-kinds.ps μ-operand t) operand.Pre
+
+abbrev operand-below : ℕ → In 5 operand-kinds.ps
+operand-below t =
+    and 5 operand-kinds.ps (falls 5 operand-kinds.ps _<_ μ-operand t) operand.Pre
 
 abbrev operands-at : ℕ → In 5 operands-kinds.ps
 operands-at t = and 5 operands-kinds.ps (is 5 operands-kinds.ps μ-operands t) operands.Pre
@@ -155,8 +168,8 @@ abbrev node-calls : ℕ → node-lts.Claims
 node-calls t = (
   node-reads.Asked,
   node-reads.Learnt,
-  lower-leaf-reads.Asked,
-  lower-leaf-reads.Learnt,
+  put-leaf-reads.Asked,
+  put-leaf-reads.Learnt,
   closed-reads.Asked,
   closed-reads.Learnt,
   link-below t,
@@ -175,16 +188,12 @@ node-calls t = (
   listing-reads.Learnt,
   operands-below t,
   operands.Post,
-  finish-reads.Asked,
-  finish-reads.Learnt,
+  put-operation-reads.Asked,
+  put-operation-reads.Learnt,
 )
 
-abbrev operands-calls : ℕ → operands-lts.Claims
-operands-calls t = (
-  no-operands-reads.Asked,
-  no-operands-reads.Learnt,
-  closed-reads.Asked,
-  closed-reads.Learnt,
+abbrev operand-calls : ℕ → operand-lts.Claims
+operand-calls t = (
   lower-below t,
   lower.Post,
   opened-reads.Asked,
@@ -201,6 +210,16 @@ operands-calls t = (
   any-reads.Learnt,
   number-reads.Asked,
   number-reads.Learnt,
+)
+
+abbrev operands-calls : ℕ → operands-lts.Claims
+operands-calls t = (
+  no-operands-reads.Asked,
+  no-operands-reads.Learnt,
+  closed-reads.Asked,
+  closed-reads.Learnt,
+  operand-below t,
+  operand.Post,
 )
 
 branch-element-copy-out-generated : (t : ℕ) → branch-lts.Need-element-copy-out-generated (branch-calls t) (branch-at t) branch.Post
@@ -1123,82 +1142,60 @@ node-add-next t c =
       c .before .before .before .before .good .0 .0,
     )
 
-node-element-copy-out-operands : (t : ℕ) → node-lts.Need-element-copy-out-operands (node-calls t) (node-at t) node.Post
-node-element-copy-out-operands t c = search needs
-
-node-element-copy-out-t34 : (t : ℕ) → node-lts.Need-element-copy-out-t34 (node-calls t) (node-at t) node.Post
-node-element-copy-out-t34 t c = search needs
-
-node-element-copy-out-if1 : (t : ℕ) → node-lts.Need-element-copy-out-if1 (node-calls t) (node-at t) node.Post
-node-element-copy-out-if1 t c = search needs
-
-node-element-copy-out-t41 : (t : ℕ) → node-lts.Need-element-copy-out-t41 (node-calls t) (node-at t) node.Post
-node-element-copy-out-t41 t c = search needs
-
-node-element-copy-out-t44 : (t : ℕ) → node-lts.Need-element-copy-out-t44 (node-calls t) (node-at t) node.Post
-node-element-copy-out-t44 t c = search needs
-
-node-element-copy-out-t47 : (t : ℕ) → node-lts.Need-element-copy-out-t47 (node-calls t) (node-at t) node.Post
-node-element-copy-out-t47 t c = search needs
-
-node-lower-leaf-requires : (t : ℕ) → node-lts.Need-lower-leaf-requires (node-calls t) (node-at t) node.Post
-node-lower-leaf-requires t c κs =
-    let args = c .before .before .before .before .before .before .before .before .before .before .before .before .before .args in
-    let pre = c .before .before .before .before .before .before .before .before .before .before .before .before .before .pre in
-    let node = c .before .before .before .before .before .before .before .before .before .node in
-    let node2 = args .at in
-    ready-moved (leaf-ready (node .result) (ready-term (term (tree-in (args .d) (args .b .now) node2)) (leaf (node .result))
-    (wholes.leaf-term-is (args .b .now) (args .d) node2 (node .result) (node .ensures .0) (pre .1 .1 .0) (c .before .before .before .before .if1 .taken)) (pre .1 .0) node2))
-    (node2 + node-size)
-
-node-closed-requires : (t : ℕ) → node-lts.Need-closed-requires (node-calls t) (node-at t) node.Post
-node-closed-requires t c κs =
-    let ready = c .before .before .before .before .before .before .before .before .before .before .before .before .before .before .before .before .before .pre .1 .0 in
-    let node = c .before .before .before .before .before .before .before .before .before .before .before .before .before .node in
-    (leaf-packs _ (node .result) _ _ _ _ _ _ _ _ (c .before .before .before .lower-leaf .ensures) (omega (arith, ready .registers, ready .brief)), c .before .before .before .before .before .before .before .before .before .before .before .before .before .before .before .before .before .pre .1 .1 .1)
+node-put-leaf-requires : (t : ℕ) → node-lts.Need-put-leaf-requires (node-calls t) (node-at t) node.Post
+node-put-leaf-requires t c κs =
+    let args = c .before .before .before .before .before .before .before .before .args in
+    let pre = c .before .before .before .before .before .before .before .before .pre in
+    let node = c .before .before .before .before .node in
+    let node2 = args .at in (
+      ready-moved (leaf-ready (node .result) (ready-term (term (tree-in (args .d) (args .b .now) node2)) (leaf (node .result))
+          (wholes.leaf-term-is (args .b .now) (args .d) node2 (node .result) (node .ensures .0) (pre .1 .1 .0) (c .before .before .if1 .taken)) (pre .1 .0) node2))
+          (node2 + node-size),
+      pre .1 .1 .1,
+    )
 
 node-same-length : (t : ℕ) → node-lts.Need-same-length (node-calls t) (node-at t) node.Post
 node-same-length t c = search needs
 
 node-returns : (t : ℕ) → node-lts.Need-returns (node-calls t) (node-at t) node.Post
 node-returns t c =
-    let args = c .before .before .before .before .before .before .before .before .before .before .before .before .before .before .before .before .before .before .args in
-    let pre = c .before .before .before .before .before .before .before .before .before .before .before .before .before .before .before .before .before .before .pre in
-    let node = c .before .before .before .before .before .before .before .before .before .before .before .before .before .before .node in
-    let if1 = c .before .before .before .before .before .before .before .before .before .if1 in
+    let args = c .before .before .before .before .before .before .before .before .before .before .before .args in
+    let pre = c .before .before .before .before .before .before .before .before .before .before .before .pre in
+    let node = c .before .before .before .before .before .before .before .node in
+    let if1 = c .before .before .before .before .before .if1 in
     let node2 = args .at in (
-      says-as _ _ _ _ _ (c .closed .ensures .0) (as-node _ _ (term (tree-in (args .d) (args .b .now) node2)) (leaf (node .result)) _ _ (node2 + node-size) _ (node2 + node-size) (cursor-in (args .at) (args .path) (args .c .now)) _ _ _
+      as-node _ _ (term (tree-in (args .d) (args .b .now) node2)) (leaf (node .result)) _ _ (node2 + node-size) _ (node2 + node-size) (cursor-in (args .at) (args .path) (args .c .now)) _ _ _
           (wholes.leaf-term-is (args .b .now) (args .d) node2 (node .result) (node .ensures .0) (pre .1 .1 .0) (if1 .taken))
           (wholes.leaf-size (args .b .now) (args .d) node2 (node .result) (node .ensures .0) (pre .1 .1 .0) (if1 .taken))
-          (c .before .before .before .before .lower-leaf .ensures)),
-      c .closed .ensures .1,
+          (c .before .before .put-leaf .ensures .0),
+      c .before .before .put-leaf .ensures .1,
     )
 
-node-closed-requires-2 : (t : ℕ) → node-lts.Need-closed-requires-2 (node-calls t) (node-at t) node.Post
-node-closed-requires-2 t c κs = (tt, c .before .before .before .before .before .before .before .before .before .before .before .before .before .before .pre .1 .1 .1)
+node-closed-requires : (t : ℕ) → node-lts.Need-closed-requires (node-calls t) (node-at t) node.Post
+node-closed-requires t c κs = (tt, c .before .before .before .before .before .before .before .before .before .before .before .pre .1 .1 .1)
 
 node-returns-2 : (t : ℕ) → node-lts.Need-returns-2 (node-calls t) (node-at t) node.Post
 node-returns-2 t c =
-    let pre = c .before .before .before .before .before .before .before .before .before .before .before .before .before .before .before .pre in
-    let args = c .before .before .before .before .before .before .before .before .before .before .before .before .before .before .before .args in
-    let node = c .before .before .before .before .before .before .before .before .before .before .before .node in (
-      says-as _ _ _ _ _ (c .closed2 .ensures .0) (miscounted-here (pre .1 .0) _ (term (tree-in (args .d) (args .b .now) (args .at))) _ (wholes.few-is (args .b .now) (args .d) (args .at)
+    let pre = c .before .before .before .before .before .before .before .before .before .before .before .before .pre in
+    let args = c .before .before .before .before .before .before .before .before .before .before .before .before .args in
+    let node = c .before .before .before .before .before .before .before .before .node in (
+      says-as _ _ _ _ _ (c .closed .ensures .0) (miscounted-here (pre .1 .0) _ (term (tree-in (args .d) (args .b .now) (args .at))) _ (wholes.few-is (args .b .now) (args .d) (args .at)
           (node .result) (node .ensures .0) (pre .1 .1 .0) (c .before .before .before .before .if2 .taken) (c .before .before .if3 .taken))),
-      c .closed2 .ensures .1,
+      c .closed .ensures .1,
     )
 
 node-sub-link : (t : ℕ) → node-lts.Need-sub-link (node-calls t) (node-at t) node.Post
 node-sub-link t c =
-    let args = c .before .before .before .before .before .before .before .before .before .before .before .before .before .before .before .args in
-    let pre = c .before .before .before .before .before .before .before .before .before .before .before .before .before .before .before .pre in
-    let node = c .before .before .before .before .before .before .before .before .before .before .before .node in
+    let args = c .before .before .before .before .before .before .before .before .before .before .before .before .args in
+    let pre = c .before .before .before .before .before .before .before .before .before .before .before .before .pre in
+    let node = c .before .before .before .before .before .before .before .before .node in
     omega (arith, wholes.node-deep (args .b .now) (args .d) (args .at) (node .result) (node .ensures .0) (pre .1 .1 .0))
 
 node-link-requires : (t : ℕ) → node-lts.Need-link-requires (node-calls t) (node-at t) node.Post
 node-link-requires t c κs =
-    let pre = c .before .before .before .before .before .before .before .before .before .before .before .before .before .before .before .before .pre in
-    let args = c .before .before .before .before .before .before .before .before .before .before .before .before .before .before .before .before .args in
-    let node = c .before .before .before .before .before .before .before .before .before .before .before .before .node in
+    let pre = c .before .before .before .before .before .before .before .before .before .before .before .before .before .pre in
+    let args = c .before .before .before .before .before .before .before .before .before .before .before .before .before .args in
+    let node = c .before .before .before .before .before .before .before .before .before .node in
     let node-gives = node .result in
     let b = args .b .now in
     let node2 = args .at in
@@ -1217,9 +1214,9 @@ node-same-length-2 t c = search needs
 
 node-returns-3 : (t : ℕ) → node-lts.Need-returns-3 (node-calls t) (node-at t) node.Post
 node-returns-3 t c =
-    let args = c .before .before .before .before .before .before .before .before .before .before .before .before .before .before .before .before .before .before .before .args in
-    let pre = c .before .before .before .before .before .before .before .before .before .before .before .before .before .before .before .before .before .before .before .pre in
-    let node = c .before .before .before .before .before .before .before .before .before .before .before .before .before .before .before .node in
+    let args = c .before .before .before .before .before .before .before .before .before .before .before .before .before .before .before .before .args in
+    let pre = c .before .before .before .before .before .before .before .before .before .before .before .before .before .before .before .before .pre in
+    let node = c .before .before .before .before .before .before .before .before .before .before .before .before .node in
     let if2 = c .before .before .before .before .before .before .before .before .if2 in
     let node-gives = node .result in
     let b = args .b .now in
@@ -1236,16 +1233,16 @@ node-chooses-requires t c κs = search needs
 
 node-sub-lower : (t : ℕ) → node-lts.Need-sub-lower (node-calls t) (node-at t) node.Post
 node-sub-lower t c =
-    let args = c .before .before .before .before .before .before .before .before .before .before .before .before .before .before .before .before .args in
-    let pre = c .before .before .before .before .before .before .before .before .before .before .before .before .before .before .before .before .pre in
-    let node = c .before .before .before .before .before .before .before .before .before .before .before .before .node in
+    let args = c .before .before .before .before .before .before .before .before .before .before .before .before .before .args in
+    let pre = c .before .before .before .before .before .before .before .before .before .before .before .before .before .pre in
+    let node = c .before .before .before .before .before .before .before .before .before .node in
     omega (arith, wholes.node-deep (args .b .now) (args .d) (args .at) (node .result) (node .ensures .0) (pre .1 .1 .0))
 
 node-lower-requires : (t : ℕ) → node-lts.Need-lower-requires (node-calls t) (node-at t) node.Post
 node-lower-requires t c κs =
-    let pre = c .before .before .before .before .before .before .before .before .before .before .before .before .before .before .before .before .before .pre in
-    let args = c .before .before .before .before .before .before .before .before .before .before .before .before .before .before .before .before .before .args in
-    let node = c .before .before .before .before .before .before .before .before .before .before .before .before .before .node in
+    let pre = c .before .before .before .before .before .before .before .before .before .before .before .before .before .before .pre in
+    let args = c .before .before .before .before .before .before .before .before .before .before .before .before .before .before .args in
+    let node = c .before .before .before .before .before .before .before .before .before .before .node in
     let args2 = args .d - 1 in
     let node-gives = node .result in
     let b = args .b .now in
@@ -1285,9 +1282,9 @@ node-same-length-3 t c = search needs
 node-returns-4 : (t : ℕ) → node-lts.Need-returns-4 (node-calls t) (node-at t) node.Post
 node-returns-4 t c =
     let lower-cells = c .before .before .before .before .before .before .lower .last .1 .1 .1 .1 .1 .1 .1 .1 .1 .1 .1 .1 .0 in
-    let args = c .before .before .before .before .before .before .before .before .before .before .before .before .before .before .before .before .before .before .before .before .before .before .before .before .args in
-    let pre = c .before .before .before .before .before .before .before .before .before .before .before .before .before .before .before .before .before .before .before .before .before .before .before .before .pre in
-    let node = c .before .before .before .before .before .before .before .before .before .before .before .before .before .before .before .before .before .before .before .before .node in
+    let args = c .before .before .before .before .before .before .before .before .before .before .before .before .before .before .before .before .before .before .before .before .before .args in
+    let pre = c .before .before .before .before .before .before .before .before .before .before .before .before .before .before .before .before .before .before .before .before .before .pre in
+    let node = c .before .before .before .before .before .before .before .before .before .before .before .before .before .before .before .before .before .node in
     let chooses = c .before .before .before .before .before .before .before .before .before .before .before .before .chooses in
     let if4 = c .before .before .before .before .before .before .before .before .before .before .before .if4 in
     let if5 = c .before .before .before .before .before .before .before .before .before .if5 in
@@ -1309,9 +1306,9 @@ node-returns-4 t c =
 
 node-sub-branch : (t : ℕ) → node-lts.Need-sub-branch (node-calls t) (node-at t) node.Post
 node-sub-branch t c =
-    let args = c .before .before .before .before .before .before .before .before .before .before .before .before .before .before .before .before .before .before .before .before .before .before .before .before .before .before .args in
-    let pre = c .before .before .before .before .before .before .before .before .before .before .before .before .before .before .before .before .before .before .before .before .before .before .before .before .before .before .pre in
-    let node = c .before .before .before .before .before .before .before .before .before .before .before .before .before .before .before .before .before .before .before .before .before .before .node in
+    let args = c .before .before .before .before .before .before .before .before .before .before .before .before .before .before .before .before .before .before .before .before .before .before .before .args in
+    let pre = c .before .before .before .before .before .before .before .before .before .before .before .before .before .before .before .before .before .before .before .before .before .before .before .pre in
+    let node = c .before .before .before .before .before .before .before .before .before .before .before .before .before .before .before .before .before .before .before .node in
     omega (arith, wholes.node-deep (args .b .now) (args .d) (args .at) (node .result) (node .ensures .0) (pre .1 .1 .0))
 
 node-element-copy-out-branch : (t : ℕ) → node-lts.Need-element-copy-out-branch (node-calls t) (node-at t) node.Post
@@ -1324,9 +1321,9 @@ node-branch-requires : (t : ℕ) → node-lts.Need-branch-requires (node-calls t
 node-branch-requires t c κs =
     let a-known = known-done _ _ _ _ _ (c .before .before .before .before .before .before .before .opened .ensures) (c .before .before .before .before .before .a .given .1) in
     let lower-cells = c .before .before .before .before .before .before .before .before .before .before .before .lower .last .1 .1 .1 .1 .1 .1 .1 .1 .1 .1 .1 .1 .0 in
-    let pre = c .before .before .before .before .before .before .before .before .before .before .before .before .before .before .before .before .before .before .before .before .before .before .before .before .before .before .before .before .before .pre in
-    let args = c .before .before .before .before .before .before .before .before .before .before .before .before .before .before .before .before .before .before .before .before .before .before .before .before .before .before .before .before .before .args in
-    let node = c .before .before .before .before .before .before .before .before .before .before .before .before .before .before .before .before .before .before .before .before .before .before .before .before .before .node in
+    let pre = c .before .before .before .before .before .before .before .before .before .before .before .before .before .before .before .before .before .before .before .before .before .before .before .before .before .before .pre in
+    let args = c .before .before .before .before .before .before .before .before .before .before .before .before .before .before .before .before .before .before .before .before .before .before .before .before .before .before .args in
+    let node = c .before .before .before .before .before .before .before .before .before .before .before .before .before .before .before .before .before .before .before .before .before .before .node in
     let chooses = c .before .before .before .before .before .before .before .before .before .before .before .before .before .before .before .before .before .chooses in
     let if4 = c .before .before .before .before .before .before .before .before .before .before .before .before .before .before .before .before .if4 in
     let if5 = c .before .before .before .before .before .before .before .before .before .before .before .before .before .before .if5 in
@@ -1379,9 +1376,9 @@ node-returns-5 t c =
     let a-known = known-done _ _ _ _ _ (c .before .before .before .before .before .before .before .before .before .before .opened .ensures) (c .before .before .before .before .before .before .before .before .a .given .1) in
     let lower-cells = c .before .before .before .before .before .before .before .before .before .before .before .before .before .before .lower .last .1 .1 .1 .1 .1 .1 .1 .1 .1 .1 .1 .1 .0 in
     let branch-cells = c .before .before .branch .last .1 .1 .1 .1 .1 .1 .1 .1 .1 .1 .1 .1 .1 .0 in
-    let args = c .before .before .before .before .before .before .before .before .before .before .before .before .before .before .before .before .before .before .before .before .before .before .before .before .before .before .before .before .before .before .before .before .args in
-    let pre = c .before .before .before .before .before .before .before .before .before .before .before .before .before .before .before .before .before .before .before .before .before .before .before .before .before .before .before .before .before .before .before .before .pre in
-    let node = c .before .before .before .before .before .before .before .before .before .before .before .before .before .before .before .before .before .before .before .before .before .before .before .before .before .before .before .before .node in
+    let args = c .before .before .before .before .before .before .before .before .before .before .before .before .before .before .before .before .before .before .before .before .before .before .before .before .before .before .before .before .before .args in
+    let pre = c .before .before .before .before .before .before .before .before .before .before .before .before .before .before .before .before .before .before .before .before .before .before .before .before .before .before .before .before .before .pre in
+    let node = c .before .before .before .before .before .before .before .before .before .before .before .before .before .before .before .before .before .before .before .before .before .before .before .before .before .node in
     let chooses = c .before .before .before .before .before .before .before .before .before .before .before .before .before .before .before .before .before .before .before .before .chooses in
     let if4 = c .before .before .before .before .before .before .before .before .before .before .before .before .before .before .before .before .before .before .before .if4 in
     let if5 = c .before .before .before .before .before .before .before .before .before .before .before .before .before .before .before .before .before .if5 in
@@ -1402,18 +1399,18 @@ node-returns-5 t c =
       c .before .before .branch .ensures .1,
     )
 
-node-closed-requires-3 : (t : ℕ) → node-lts.Need-closed-requires-3 (node-calls t) (node-at t) node.Post
-node-closed-requires-3 t c κs = (tt, c .before .before .before .before .before .before .before .before .before .before .before .before .before .before .before .before .pre .1 .1 .1)
+node-closed-requires-2 : (t : ℕ) → node-lts.Need-closed-requires-2 (node-calls t) (node-at t) node.Post
+node-closed-requires-2 t c κs = (tt, c .before .before .before .before .before .before .before .before .before .before .before .before .before .pre .1 .1 .1)
 
 node-returns-6 : (t : ℕ) → node-lts.Need-returns-6 (node-calls t) (node-at t) node.Post
 node-returns-6 t c =
-    let pre = c .before .before .before .before .before .before .before .before .before .before .before .before .before .before .before .before .before .pre in
-    let args = c .before .before .before .before .before .before .before .before .before .before .before .before .before .before .before .before .before .args in
-    let node = c .before .before .before .before .before .before .before .before .before .before .before .before .before .node in (
-      says-as _ _ _ _ _ (c .closed3 .ensures .0) (miscounted-here (pre .1 .0) _ (term (tree-in (args .d) (args .b .now) (args .at))) _ (wholes.wrong-is (args .b .now) (args .d)
+    let pre = c .before .before .before .before .before .before .before .before .before .before .before .before .before .before .pre in
+    let args = c .before .before .before .before .before .before .before .before .before .before .before .before .before .before .args in
+    let node = c .before .before .before .before .before .before .before .before .before .before .node in (
+      says-as _ _ _ _ _ (c .closed2 .ensures .0) (miscounted-here (pre .1 .0) _ (term (tree-in (args .d) (args .b .now) (args .at))) _ (wholes.wrong-is (args .b .now) (args .d)
           (args .at) (node .result) (node .ensures .0) (pre .1 .1 .0) (sym (c .before .before .before .before .before .chooses .ensures) ∙ c .before .before .before .before .if4 .taken)
           (c .before .before .if5 .left))),
-      c .closed3 .ensures .1,
+      c .closed2 .ensures .1,
     )
 
 node-takes-requires : (t : ℕ) → node-lts.Need-takes-requires (node-calls t) (node-at t) node.Post
@@ -1424,16 +1421,16 @@ node-listing-requires t c κs = search needs
 
 node-sub-operands : (t : ℕ) → node-lts.Need-sub-operands (node-calls t) (node-at t) node.Post
 node-sub-operands t c =
-    let args = c .before .before .before .before .before .before .before .before .before .before .before .before .before .before .before .before .args in
-    let pre = c .before .before .before .before .before .before .before .before .before .before .before .before .before .before .before .before .pre in
-    let node = c .before .before .before .before .before .before .before .before .before .before .before .before .node in
+    let args = c .before .before .before .before .before .before .before .before .before .before .before .before .before .args in
+    let pre = c .before .before .before .before .before .before .before .before .before .before .before .before .before .pre in
+    let node = c .before .before .before .before .before .before .before .before .before .node in
     omega (arith, wholes.node-deep (args .b .now) (args .d) (args .at) (node .result) (node .ensures .0) (pre .1 .1 .0))
 
 node-operands-requires : (t : ℕ) → node-lts.Need-operands-requires (node-calls t) (node-at t) node.Post
 node-operands-requires t c κs =
-    let pre = c .before .before .before .before .before .before .before .before .before .before .before .before .before .before .before .before .before .pre in
-    let args = c .before .before .before .before .before .before .before .before .before .before .before .before .before .before .before .before .before .args in
-    let node = c .before .before .before .before .before .before .before .before .before .before .before .before .before .node in
+    let pre = c .before .before .before .before .before .before .before .before .before .before .before .before .before .before .pre in
+    let args = c .before .before .before .before .before .before .before .before .before .before .before .before .before .before .args in
+    let node = c .before .before .before .before .before .before .before .before .before .before .node in
     let if1 = c .before .before .before .before .before .before .before .before .if1 in
     let if2 = c .before .before .before .before .before .before .if2 in
     let chooses = c .before .before .before .before .before .chooses in
@@ -1473,9 +1470,9 @@ node-same-length-5 t c = search needs
 node-returns-7 : (t : ℕ) → node-lts.Need-returns-7 (node-calls t) (node-at t) node.Post
 node-returns-7 t c =
     let operands-cells = c .before .before .before .before .before .before .operands .last .1 .1 .1 .1 .1 .1 .1 .1 .1 .1 .1 .1 .1 .0 in
-    let args = c .before .before .before .before .before .before .before .before .before .before .before .before .before .before .before .before .before .before .before .before .before .before .before .before .args in
-    let pre = c .before .before .before .before .before .before .before .before .before .before .before .before .before .before .before .before .before .before .before .before .before .before .before .before .pre in
-    let node = c .before .before .before .before .before .before .before .before .before .before .before .before .before .before .before .before .before .before .before .before .node in
+    let args = c .before .before .before .before .before .before .before .before .before .before .before .before .before .before .before .before .before .before .before .before .before .args in
+    let pre = c .before .before .before .before .before .before .before .before .before .before .before .before .before .before .before .before .before .before .before .before .before .pre in
+    let node = c .before .before .before .before .before .before .before .before .before .before .before .before .before .before .before .before .before .node in
     let if1 = c .before .before .before .before .before .before .before .before .before .before .before .before .before .before .before .if1 in
     let if2 = c .before .before .before .before .before .before .before .before .before .before .before .before .before .if2 in
     let chooses = c .before .before .before .before .before .before .before .before .before .before .before .before .chooses in
@@ -1507,37 +1504,22 @@ node-returns-7 t c =
       c .before .before .before .before .before .before .operands .ensures .1,
     )
 
-node-element-copy-out-t34-2 : (t : ℕ) → node-lts.Need-element-copy-out-t34-2 (node-calls t) (node-at t) node.Post
-node-element-copy-out-t34-2 t c = search needs
-
-node-element-copy-out-t31 : (t : ℕ) → node-lts.Need-element-copy-out-t31 (node-calls t) (node-at t) node.Post
-node-element-copy-out-t31 t c = search needs
-
-node-element-copy-out-t37 : (t : ℕ) → node-lts.Need-element-copy-out-t37 (node-calls t) (node-at t) node.Post
-node-element-copy-out-t37 t c = search needs
-
-node-element-copy-out-t87 : (t : ℕ) → node-lts.Need-element-copy-out-t87 (node-calls t) (node-at t) node.Post
-node-element-copy-out-t87 t c = search needs
-
-node-element-copy-out-t90 : (t : ℕ) → node-lts.Need-element-copy-out-t90 (node-calls t) (node-at t) node.Post
-node-element-copy-out-t90 t c = search needs
-
-node-finish-requires : (t : ℕ) → node-lts.Need-finish-requires (node-calls t) (node-at t) node.Post
-node-finish-requires t c κs =
-    let o-known = known-done _ _ _ _ _ (c .before .before .before .before .before .before .before .before .before .opened2 .ensures) (c .before .before .before .before .before .before .before .o .given .1) in
-    let operands-cells = c .before .before .before .before .before .before .before .before .before .before .before .before .before .operands .last .1 .1 .1 .1 .1 .1 .1 .1 .1 .1 .1 .1 .1 .0 in
-    let args = c .before .before .before .before .before .before .before .before .before .before .before .before .before .before .before .before .before .before .before .before .before .before .before .before .before .before .before .before .before .before .before .args in
-    let pre = c .before .before .before .before .before .before .before .before .before .before .before .before .before .before .before .before .before .before .before .before .before .before .before .before .before .before .before .before .before .before .before .pre in
-    let good = c .before .before .before .before .before .before .before .before .before .before .before .before .before .before .before .before .before .before .before .before .before .before .before .before .before .before .before .before .before .before .before .good in
-    let node = c .before .before .before .before .before .before .before .before .before .before .before .before .before .before .before .before .before .before .before .before .before .before .before .before .before .before .before .node in
-    let if1 = c .before .before .before .before .before .before .before .before .before .before .before .before .before .before .before .before .before .before .before .before .before .before .if1 in
-    let if2 = c .before .before .before .before .before .before .before .before .before .before .before .before .before .before .before .before .before .before .before .before .if2 in
-    let chooses = c .before .before .before .before .before .before .before .before .before .before .before .before .before .before .before .before .before .before .before .chooses in
-    let if4 = c .before .before .before .before .before .before .before .before .before .before .before .before .before .before .before .before .before .before .if4 in
-    let takes = c .before .before .before .before .before .before .before .before .before .before .before .before .before .before .before .before .before .takes in
-    let listing = c .before .before .before .before .before .before .before .before .before .before .before .before .before .before .before .before .listing in
-    let operands = c .before .before .before .before .before .before .before .before .before .before .before .before .before .operands in
-    let o = c .before .before .before .before .before .before .before .o in
+node-put-operation-requires : (t : ℕ) → node-lts.Need-put-operation-requires (node-calls t) (node-at t) node.Post
+node-put-operation-requires t c κs =
+    let o-known = known-done _ _ _ _ _ (c .before .before .before .before .before .opened2 .ensures) (c .before .before .before .o .given .1) in
+    let operands-cells = c .before .before .before .before .before .before .before .before .before .operands .last .1 .1 .1 .1 .1 .1 .1 .1 .1 .1 .1 .1 .1 .0 in
+    let args = c .before .before .before .before .before .before .before .before .before .before .before .before .before .before .before .before .before .before .before .before .before .before .before .before .args in
+    let pre = c .before .before .before .before .before .before .before .before .before .before .before .before .before .before .before .before .before .before .before .before .before .before .before .before .pre in
+    let good = c .before .before .before .before .before .before .before .before .before .before .before .before .before .before .before .before .before .before .before .before .before .before .before .before .good in
+    let node = c .before .before .before .before .before .before .before .before .before .before .before .before .before .before .before .before .before .before .before .before .node in
+    let if1 = c .before .before .before .before .before .before .before .before .before .before .before .before .before .before .before .before .before .before .if1 in
+    let if2 = c .before .before .before .before .before .before .before .before .before .before .before .before .before .before .before .before .if2 in
+    let chooses = c .before .before .before .before .before .before .before .before .before .before .before .before .before .before .before .chooses in
+    let if4 = c .before .before .before .before .before .before .before .before .before .before .before .before .before .before .if4 in
+    let takes = c .before .before .before .before .before .before .before .before .before .before .before .before .before .takes in
+    let listing = c .before .before .before .before .before .before .before .before .before .before .before .before .listing in
+    let operands = c .before .before .before .before .before .before .before .before .before .operands in
+    let o = c .before .before .before .o in
     let b = args .b .now in
     let node-gives = node .result in
     let node2 = args .at in
@@ -1566,63 +1548,28 @@ node-finish-requires t c κs =
             (operands .kept .1 .0) collected,
         good .1 .0 .0,
       ),
+      operands .ensures .1,
     )
-
-node-closed-requires-4 : (t : ℕ) → node-lts.Need-closed-requires-4 (node-calls t) (node-at t) node.Post
-node-closed-requires-4 t c κs =
-    let o-known = known-done _ _ _ _ _ (c .before .before .before .before .before .before .before .before .before .before .before .before .before .opened2 .ensures) (c .before .before .before .before .before .before .before .before .before .before .before .o .given .1) in
-    let operands-cells = c .before .before .before .before .before .before .before .before .before .before .before .before .before .before .before .before .before .operands .last .1 .1 .1 .1 .1 .1 .1 .1 .1 .1 .1 .1 .1 .0 in
-    let args = c .before .before .before .before .before .before .before .before .before .before .before .before .before .before .before .before .before .before .before .before .before .before .before .before .before .before .before .before .before .before .before .before .before .before .before .args in
-    let pre = c .before .before .before .before .before .before .before .before .before .before .before .before .before .before .before .before .before .before .before .before .before .before .before .before .before .before .before .before .before .before .before .before .before .before .before .pre in
-    let node = c .before .before .before .before .before .before .before .before .before .before .before .before .before .before .before .before .before .before .before .before .before .before .before .before .before .before .before .before .before .before .before .node in
-    let if1 = c .before .before .before .before .before .before .before .before .before .before .before .before .before .before .before .before .before .before .before .before .before .before .before .before .before .before .if1 in
-    let if2 = c .before .before .before .before .before .before .before .before .before .before .before .before .before .before .before .before .before .before .before .before .before .before .before .before .if2 in
-    let chooses = c .before .before .before .before .before .before .before .before .before .before .before .before .before .before .before .before .before .before .before .before .before .before .before .chooses in
-    let if4 = c .before .before .before .before .before .before .before .before .before .before .before .before .before .before .before .before .before .before .before .before .before .before .if4 in
-    let takes = c .before .before .before .before .before .before .before .before .before .before .before .before .before .before .before .before .before .before .before .before .before .takes in
-    let listing = c .before .before .before .before .before .before .before .before .before .before .before .before .before .before .before .before .before .before .before .before .listing in
-    let operands = c .before .before .before .before .before .before .before .before .before .before .before .before .before .before .before .before .before .operands in
-    let o = c .before .before .before .before .before .before .before .before .before .before .before .o in
-    let b = args .b .now in
-    let node-gives = node .result in
-    let node2 = args .at in
-    let o-next = cursor-of operands-cells in
-    let x = node2 + node-size in
-    let children = node-gives .children in
-    let sym2 = sym (chooses .ensures) ∙ if4 .left in
-    let context = context-of (args .kinds .now) (layout-of (args .l .now) .generated) in
-    let after = past b (args .d - 1) children x in
-    let terms2 = terms (kids b (args .d - 1) children x) in
-    let count-kids = wholes.count-kids b (args .d - 1) children x in
-    let knows = wholes.knows b (args .d) node2 node-gives (node .ensures .0) (pre .1 .1 .0) (omega (arith, if1 .left)) (if2 .left) sym2 in
-    let op = knows .op in
-    let collected = collects.collected _ _ _ _ _ _ _ _ _ (o .given .0 .0) o-next
-    (lists-as _ _ _ _ _ _ _ _ _ _ _ _ _ _ (takes .ensures) (listing .ensures) (operands .ensures .0)) o-known in
-    let ready-term2 = ready-term (term (tree-in (args .d) b node2)) (apply op terms2)
-    (wholes.apply-is b (args .d) node2 node-gives (node .ensures .0) (pre .1 .1 .0) (omega (arith, if1 .left)) (if2 .left) sym2) (pre .1 .0) x in
-    let ready = wholes.ready-finish context refl op terms2 node-gives _ after knows refl count-kids ready-term2 (operands .last .1 .0) (o .given .0 .0) o-next
-    (operands .kept .1 .0) collected in
-    (finish-packs _ _ _ _ _ _ _ _ _ _ (c .before .before .before .finish .ensures) (omega (arith, ready .registers, ready .brief)), operands .ensures .1)
 
 node-same-length-6 : (t : ℕ) → node-lts.Need-same-length-6 (node-calls t) (node-at t) node.Post
 node-same-length-6 t c = search needs
 
 node-returns-8 : (t : ℕ) → node-lts.Need-returns-8 (node-calls t) (node-at t) node.Post
 node-returns-8 t c =
-    let o-known = known-done _ _ _ _ _ (c .before .before .before .before .before .before .before .before .before .before .before .before .before .before .opened2 .ensures) (c .before .before .before .before .before .before .before .before .before .before .before .before .o .given .1) in
-    let operands-cells = c .before .before .before .before .before .before .before .before .before .before .before .before .before .before .before .before .before .before .operands .last .1 .1 .1 .1 .1 .1 .1 .1 .1 .1 .1 .1 .1 .0 in
-    let args = c .before .before .before .before .before .before .before .before .before .before .before .before .before .before .before .before .before .before .before .before .before .before .before .before .before .before .before .before .before .before .before .before .before .before .before .before .args in
-    let pre = c .before .before .before .before .before .before .before .before .before .before .before .before .before .before .before .before .before .before .before .before .before .before .before .before .before .before .before .before .before .before .before .before .before .before .before .before .pre in
-    let node = c .before .before .before .before .before .before .before .before .before .before .before .before .before .before .before .before .before .before .before .before .before .before .before .before .before .before .before .before .before .before .before .before .node in
-    let if1 = c .before .before .before .before .before .before .before .before .before .before .before .before .before .before .before .before .before .before .before .before .before .before .before .before .before .before .before .if1 in
-    let if2 = c .before .before .before .before .before .before .before .before .before .before .before .before .before .before .before .before .before .before .before .before .before .before .before .before .before .if2 in
-    let chooses = c .before .before .before .before .before .before .before .before .before .before .before .before .before .before .before .before .before .before .before .before .before .before .before .before .chooses in
-    let if4 = c .before .before .before .before .before .before .before .before .before .before .before .before .before .before .before .before .before .before .before .before .before .before .before .if4 in
-    let takes = c .before .before .before .before .before .before .before .before .before .before .before .before .before .before .before .before .before .before .before .before .before .before .takes in
-    let listing = c .before .before .before .before .before .before .before .before .before .before .before .before .before .before .before .before .before .before .before .before .before .listing in
-    let operands = c .before .before .before .before .before .before .before .before .before .before .before .before .before .before .before .before .before .before .operands in
-    let o = c .before .before .before .before .before .before .before .before .before .before .before .before .o in
-    let finish = c .before .before .before .before .finish in
+    let o-known = known-done _ _ _ _ _ (c .before .before .before .before .before .before .before .before .opened2 .ensures) (c .before .before .before .before .before .before .o .given .1) in
+    let operands-cells = c .before .before .before .before .before .before .before .before .before .before .before .before .operands .last .1 .1 .1 .1 .1 .1 .1 .1 .1 .1 .1 .1 .1 .0 in
+    let args = c .before .before .before .before .before .before .before .before .before .before .before .before .before .before .before .before .before .before .before .before .before .before .before .before .before .before .before .args in
+    let pre = c .before .before .before .before .before .before .before .before .before .before .before .before .before .before .before .before .before .before .before .before .before .before .before .before .before .before .before .pre in
+    let node = c .before .before .before .before .before .before .before .before .before .before .before .before .before .before .before .before .before .before .before .before .before .before .before .node in
+    let if1 = c .before .before .before .before .before .before .before .before .before .before .before .before .before .before .before .before .before .before .before .before .before .if1 in
+    let if2 = c .before .before .before .before .before .before .before .before .before .before .before .before .before .before .before .before .before .before .before .if2 in
+    let chooses = c .before .before .before .before .before .before .before .before .before .before .before .before .before .before .before .before .before .before .chooses in
+    let if4 = c .before .before .before .before .before .before .before .before .before .before .before .before .before .before .before .before .before .if4 in
+    let takes = c .before .before .before .before .before .before .before .before .before .before .before .before .before .before .before .before .takes in
+    let listing = c .before .before .before .before .before .before .before .before .before .before .before .before .before .before .before .listing in
+    let operands = c .before .before .before .before .before .before .before .before .before .before .before .before .operands in
+    let o = c .before .before .before .before .before .before .o in
+    let put-operation = c .before .before .put-operation in
     let node-gives = node .result in
     let b = args .b .now in
     let node2 = args .at in
@@ -1636,23 +1583,300 @@ node-returns-8 t c =
     let apply-is = wholes.apply-is b (args .d) node2 node-gives ensures (pre .1 .1 .0) (omega (arith, if1 .left)) (if2 .left) sym2 in
     let op = knows .op in
     let apply2 = apply op terms2 in (
-      says-as _ _ _ _ _ (c .closed4 .ensures .0) (as-node _ _ term2 apply2 _ _ _ _ x (cursor-in (args .at) (args .path) (args .c .now)) _ _ _ apply-is (wholes.past-is b (args .d) node2 node-gives ensures (pre .1 .1 .0)) (wholes.finished
+      as-node _ _ term2 apply2 _ _ _ _ x (cursor-in (args .at) (args .path) (args .c .now)) _ _ _ apply-is (wholes.past-is b (args .d) node2 node-gives ensures (pre .1 .1 .0)) (wholes.finished
           (context-of (args .kinds .now) (layout-of (args .l .now) .generated)) refl op terms2 node-gives _ (past b (args .d - 1) children x) knows refl
           (wholes.count-kids b (args .d - 1) children x) (ready-term term2 apply2 apply-is (pre .1 .0) x) (operands .last .1 .0) (o .given .0 .0)
           (cursor-of operands-cells) (operands .kept .1 .0) (collects.collected _ _ _ _ _ _ _ _ _ (o .given .0 .0) (cursor-of operands-cells)
-          (lists-as _ _ _ _ _ _ _ _ _ _ _ _ _ _ (takes .ensures) (listing .ensures) (operands .ensures .0)) o-known) (finish .last .0) (finish .result)
-          (finish .ensures))),
-      c .closed4 .ensures .1,
+          (lists-as _ _ _ _ _ _ _ _ _ _ _ _ _ _ (takes .ensures) (listing .ensures) (operands .ensures .0)) o-known) (put-operation .last .0) (low-of (put-operation .result) (put-operation .last .1 .1 .1 .1 .1 .1 .0))
+          (put-operation .ensures .0)),
+      c .before .before .put-operation .ensures .1,
     )
 
-operands-element-copy-out-t27 : (t : ℕ) → operands-lts.Need-element-copy-out-t27 (operands-calls t) (operands-at t) operands.Post
-operands-element-copy-out-t27 t c = search needs
+operand-add-lower : (t : ℕ) → operand-lts.Need-add-lower (operand-calls t) (operand-at t) operand.Post
+operand-add-lower t c = search needs
 
-operands-element-copy-out-t30 : (t : ℕ) → operands-lts.Need-element-copy-out-t30 (operands-calls t) (operands-at t) operands.Post
-operands-element-copy-out-t30 t c = search needs
+operand-lower-requires : (t : ℕ) → operand-lts.Need-lower-requires (operand-calls t) (operand-at t) operand.Post
+operand-lower-requires t c κs =
+    let pre = c .before .before .before .before .before .pre in
+    let args = c .before .before .before .before .before .args in
+    let b = args .b .now in
+    let node = args .at in
+    let after = past b (args .d) 1 node in (
+      omega (arith, pre .0, c .before .before .before .before .before .pre .1 .1 .3),
+      (
+        collects.ready-child (args .lists) (context-of (args .kinds .now) (layout-of (args .l .now) .generated)) (args .want) (arm b (args .d) true 1 node)
+            (terms (kids b (args .d) (args .left - 1) after)) (args .i) after (past b (args .d) (args .left) node)
+            (operands-ready b (args .d) (args .left) node (args .lists) (args .i) (λ z. omega (arith, z, pre .1 .1 .3)) (pre .1 .0)),
+        (
+          one-well b (args .d) 1 node refl (first-well b (args .d) (args .left) node (λ z. omega (arith, z, pre .1 .1 .3)) (pre .1 .1 .0)),
+          omega (arith, pre .1 .1 .1),
+          omega arith,
+          pre .1 .1 .2,
+        ),
+      ),
+    )
 
-operands-element-copy-out-t33 : (t : ℕ) → operands-lts.Need-element-copy-out-t33 (operands-calls t) (operands-at t) operands.Post
-operands-element-copy-out-t33 t c = search needs
+operand-opened-requires : (t : ℕ) → operand-lts.Need-opened-requires (operand-calls t) (operand-at t) operand.Post
+operand-opened-requires t c κs = tt
+
+operand-enum-known-a : (t : ℕ) → operand-lts.Need-enum-known-a (operand-calls t) (operand-at t) operand.Post
+operand-enum-known-a t c = search needs
+
+operand-enum-told : (t : ℕ) → operand-lts.Need-enum-told (operand-calls t) (operand-at t) operand.Post
+operand-enum-told t c = search needs
+
+operand-same-length : (t : ℕ) → operand-lts.Need-same-length (operand-calls t) (operand-at t) operand.Post
+operand-same-length t c = search needs
+
+operand-returns : (t : ℕ) → operand-lts.Need-returns (operand-calls t) (operand-at t) operand.Post
+operand-returns t c =
+    let lower-cells = c .before .before .before .before .before .before .lower .last .1 .1 .1 .1 .1 .1 .1 .1 .1 .1 .1 .1 .0 in
+    let args = c .before .before .before .before .before .before .before .before .before .before .before .before .args in
+    let pre = c .before .before .before .before .before .before .before .before .before .before .before .before .pre in
+    let lower = c .before .before .before .before .before .before .lower in
+    let b = args .b .now in
+    let node = args .at in
+    let given3 = c .enum-told .given .0 .0 in
+    let given2 = c .enum-told .given .0 .1 .0 in
+    let after = past b (args .d) 1 node in (
+      operands-as _ _ _ _ _ _ _ _ _ _ _ _ b (args .d) (args .left) node (λ z. omega (arith, z, pre .1 .1 .3)) (collects.child-refused (args .lists)
+          (context-of (args .kinds .now) (layout-of (args .l .now) .generated)) (args .want) (arm b (args .d) true 1 node) (terms (kids b (args .d) (args .left - 1) after))
+          (args .i) after (past b (args .d) (args .left) node)
+          (operands-ready b (args .d) (args .left) node (args .lists) (args .i) (λ z. omega (arith, z, pre .1 .1 .3)) (pre .1 .0)) (lower .last .1 .0) (low-of (lower .result) lower-cells) given3
+          given2 (refused _ _ _ _ _ _ given3 given2 (at-argument _ _ _ _ (args .i) _ _ _ _ _ _ (lower .ensures .0)) (sym (c .before .before .opened .ensures) ∙ c .enum-told .given .1))
+          (sym (c .before .before .opened .ensures) ∙ c .enum-told .given .1)),
+      c .before .before .before .before .before .before .lower .ensures .1,
+    )
+
+operand-add-operands : (t : ℕ) → operand-lts.Need-add-operands (operand-calls t) (operand-at t) operand.Post
+operand-add-operands t c = omega (arith, c .before .before .before .before .before .before .before .before .before .before .before .before .before .before .pre .1 .1 .1)
+
+operand-sub-operands : (t : ℕ) → operand-lts.Need-sub-operands (operand-calls t) (operand-at t) operand.Post
+operand-sub-operands t c = search needs
+
+operand-element-copy-out-operands : (t : ℕ) → operand-lts.Need-element-copy-out-operands (operand-calls t) (operand-at t) operand.Post
+operand-element-copy-out-operands t c = search needs
+
+operand-element-copy-out-operands-2 : (t : ℕ) → operand-lts.Need-element-copy-out-operands-2 (operand-calls t) (operand-at t) operand.Post
+operand-element-copy-out-operands-2 t c = search needs
+
+operand-operands-requires : (t : ℕ) → operand-lts.Need-operands-requires (operand-calls t) (operand-at t) operand.Post
+operand-operands-requires t c κs =
+    let a-known = known-done _ _ _ _ _ (c .before .before .before .before .before .before .before .opened .ensures) (c .before .before .before .before .before .a .given .1) in
+    let lower-cells = c .before .before .before .before .before .before .before .before .before .before .before .lower .last .1 .1 .1 .1 .1 .1 .1 .1 .1 .1 .1 .1 .0 in
+    let pre = c .before .before .before .before .before .before .before .before .before .before .before .before .before .before .before .before .before .pre in
+    let args = c .before .before .before .before .before .before .before .before .before .before .before .before .before .before .before .before .before .args in
+    let lower = c .before .before .before .before .before .before .before .before .before .before .before .lower in
+    let a = c .before .before .before .before .before .a in
+    let lists = args .lists in
+    let b = args .b .now in
+    let node = args .at in
+    let a-value = a .given .0 .0 in
+    let a-next = cursor-of lower-cells in
+    let lower-bytes = lower .last .1 .0 in
+    let after2 = past b (args .d) 1 node in
+    let context = context-of (args .kinds .now) (layout-of (args .l .now) .generated) in
+    let whole = arm b (args .d) true 1 node in
+    let after = past b (args .d) (args .left) node in
+    let terms2 = terms (kids b (args .d) (args .left - 1) after2) in
+    let is-taken = taken _ _ _ _ _ _ a-value a-next (at-argument _ _ _ _ (args .i) _ _ _ _ _ _ (lower .ensures .0)) a-known in (
+      omega (arith, pre .0, c .before .before .before .before .before .before .before .before .before .before .before .before .before .before .before .before .before .pre .1 .1 .3),
+      (
+        rest-ready b (args .d) (args .left - 1) _ _ (sym (collects.is-node lists context (args .want) whole terms2 (args .i) after2 after
+            (operands-ready b (args .d) (args .left) node lists (args .i) (λ z. omega (arith, z, pre .1 .1 .3)) (pre .1 .0)) lower-bytes a-value a-next is-taken)) lists
+            (args .i) (collects.ready-rest lists context (args .want) whole terms2 (args .i) after2 after
+            (operands-ready b (args .d) (args .left) node lists (args .i) (λ z. omega (arith, z, pre .1 .1 .3)) (pre .1 .0)) lower-bytes a-value a-next is-taken),
+        (
+          rest-well-at b (args .d) (args .left) node (a-next .node) (λ z. omega (arith, z, pre .1 .1 .3)) (pre .1 .1 .0) (collects.is-node lists context (args .want)
+              whole terms2 (args .i) after2 after (operands-ready b (args .d) (args .left) node lists (args .i) (λ z. omega (arith, z, pre .1 .1 .3)) (pre .1 .0))
+              lower-bytes a-value a-next is-taken),
+          omega (arith, pre .1 .1 .1, c .before .before .before .before .before .before .before .before .before .before .before .before .before .before .before .before .before .pre .1 .1 .3),
+          c .before .before .before .before .before .before .before .before .before .before .before .lower .ensures .1,
+        ),
+      ),
+    )
+
+operand-opened-requires-2 : (t : ℕ) → operand-lts.Need-opened-requires-2 (operand-calls t) (operand-at t) operand.Post
+operand-opened-requires-2 t c κs = tt
+
+operand-enum-known-rest : (t : ℕ) → operand-lts.Need-enum-known-rest (operand-calls t) (operand-at t) operand.Post
+operand-enum-known-rest t c = search needs
+
+operand-enum-told-2 : (t : ℕ) → operand-lts.Need-enum-told-2 (operand-calls t) (operand-at t) operand.Post
+operand-enum-told-2 t c = search needs
+
+operand-same-length-2 : (t : ℕ) → operand-lts.Need-same-length-2 (operand-calls t) (operand-at t) operand.Post
+operand-same-length-2 t c = search needs
+
+operand-returns-2 : (t : ℕ) → operand-lts.Need-returns-2 (operand-calls t) (operand-at t) operand.Post
+operand-returns-2 t c =
+    let a-known = known-done _ _ _ _ _ (c .before .before .before .before .before .before .before .before .before .before .before .before .before .before .opened .ensures) (c .before .before .before .before .before .before .before .before .before .before .before .before .a .given .1) in
+    let lower-cells = c .before .before .before .before .before .before .before .before .before .before .before .before .before .before .before .before .before .before .lower .last .1 .1 .1 .1 .1 .1 .1 .1 .1 .1 .1 .1 .0 in
+    let operands-cells = c .before .before .before .before .before .before .operands .last .1 .1 .1 .1 .1 .1 .1 .1 .1 .1 .1 .1 .1 .0 in
+    let args = c .before .before .before .before .before .before .before .before .before .before .before .before .before .before .before .before .before .before .before .before .before .before .before .before .args in
+    let pre = c .before .before .before .before .before .before .before .before .before .before .before .before .before .before .before .before .before .before .before .before .before .before .before .before .pre in
+    let lower = c .before .before .before .before .before .before .before .before .before .before .before .before .before .before .before .before .before .before .lower in
+    let a = c .before .before .before .before .before .before .before .before .before .before .before .before .a in
+    let operands = c .before .before .before .before .before .before .operands in
+    let b = args .b .now in
+    let node = args .at in
+    let a-next = cursor-of lower-cells in
+    let given4 = sym (c .before .before .opened2 .ensures) ∙ c .enum-told2 .given .1 in
+    let given3 = c .enum-told2 .given .0 .0 in
+    let given2 = c .enum-told2 .given .0 .1 .0 in
+    let after2 = past b (args .d) 1 node in
+    let context = context-of (args .kinds .now) (layout-of (args .l .now) .generated) in
+    let whole = arm b (args .d) true 1 node in
+    let after = past b (args .d) (args .left) node in
+    let terms2 = terms (kids b (args .d) (args .left - 1) after2) in
+    let is-taken = taken _ _ _ _ _ _ (a .given .0 .0) a-next (at-argument _ _ _ _ (args .i) _ _ _ _ _ _ (lower .ensures .0)) a-known in (
+      operands-as _ _ _ _ _ _ _ _ _ _ _ _ b (args .d) (args .left) node (λ z. omega (arith, z, pre .1 .1 .3)) (collects.rest-refused (args .lists) context (args .want)
+          whole terms2 (args .i) after2 after (operands-ready b (args .d) (args .left) node (args .lists) (args .i) (λ z. omega (arith, z, pre .1 .1 .3)) (pre .1 .0))
+          (lower .last .1 .0) (a .given .0 .0) a-next is-taken (operands .last .1 .0) (low-of (operands .result) operands-cells) given3 given2 (collects.turned _ _ _ _ _ _ _ _ _
+          given3 given2 (rest-as _ _ _ _ _ _ _ _ _ _ _ b (args .d) (args .left) node (a-next .node) (collects.is-node (args .lists) context (args .want)
+          whole terms2 (args .i) after2 after (operands-ready b (args .d) (args .left) node (args .lists) (args .i) (λ z. omega (arith, z, pre .1 .1 .3)) (pre .1 .0))
+          (lower .last .1 .0) (a .given .0 .0) a-next is-taken) (λ z. omega (arith, z, pre .1 .1 .3)) (operands .ensures .0)) given4) given4),
+      c .before .before .before .before .before .before .operands .ensures .1,
+    )
+
+operand-same-requires : (t : ℕ) → operand-lts.Need-same-requires (operand-calls t) (operand-at t) operand.Post
+operand-same-requires t c κs = search needs
+
+operand-element-copy-out-list-entry : (t : ℕ) → operand-lts.Need-element-copy-out-list-entry (operand-calls t) (operand-at t) operand.Post
+operand-element-copy-out-list-entry t c = search needs
+
+operand-element-copy-out-list-entry-2 : (t : ℕ) → operand-lts.Need-element-copy-out-list-entry-2 (operand-calls t) (operand-at t) operand.Post
+operand-element-copy-out-list-entry-2 t c = search needs
+
+operand-add-list-entry : (t : ℕ) → operand-lts.Need-add-list-entry (operand-calls t) (operand-at t) operand.Post
+operand-add-list-entry t c =
+    let a-known = known-done _ _ _ _ _ (c .before .before .before .before .before .before .before .before .before .before .before .before .before .before .before .before .before .before .before .opened .ensures) (c .before .before .before .before .before .before .before .before .before .before .before .before .before .before .before .before .before .a .given .1) in
+    let rest-known = known-done _ _ _ _ _ (c .before .before .before .before .before .before .before .opened2 .ensures) (c .before .before .before .before .before .rest .given .1) in
+    let lower-cells = c .before .before .before .before .before .before .before .before .before .before .before .before .before .before .before .before .before .before .before .before .before .before .before .lower .last .1 .1 .1 .1 .1 .1 .1 .1 .1 .1 .1 .1 .0 in
+    let operands-cells = c .before .before .before .before .before .before .before .before .before .before .before .operands .last .1 .1 .1 .1 .1 .1 .1 .1 .1 .1 .1 .1 .1 .0 in
+    let args = c .before .before .before .before .before .before .before .before .before .before .before .before .before .before .before .before .before .before .before .before .before .before .before .before .before .before .before .before .before .args in
+    let pre = c .before .before .before .before .before .before .before .before .before .before .before .before .before .before .before .before .before .before .before .before .before .before .before .before .before .before .before .before .before .pre in
+    let good = c .before .before .before .before .before .before .before .before .before .before .before .before .before .before .before .before .before .before .before .before .before .before .before .before .before .before .before .before .before .good in
+    let lower = c .before .before .before .before .before .before .before .before .before .before .before .before .before .before .before .before .before .before .before .before .before .before .before .lower in
+    let a = c .before .before .before .before .before .before .before .before .before .before .before .before .before .before .before .before .before .a in
+    let operands = c .before .before .before .before .before .before .before .before .before .before .before .operands in
+    let rest = c .before .before .before .before .before .rest in
+    let b = args .b .now in
+    let node = args .at in
+    let a-next = cursor-of lower-cells in
+    let after2 = past b (args .d) 1 node in
+    let context = context-of (args .kinds .now) (layout-of (args .l .now) .generated) in
+    let whole = arm b (args .d) true 1 node in
+    let after = past b (args .d) (args .left) node in
+    let terms2 = terms (kids b (args .d) (args .left - 1) after2) in
+    let is-taken = taken _ _ _ _ _ _ (a .given .0 .0) a-next (at-argument _ _ _ _ (args .i) _ _ _ _ _ _ (lower .ensures .0)) a-known in
+    omega (
+      arith,
+      collects.entry-small (args .lists) context (args .want) whole terms2 (args .i) after2 after
+          (operands-ready b (args .d) (args .left) node (args .lists) (args .i) (λ z. omega (arith, z, pre .1 .1 .3)) (pre .1 .0)) (lower .last .1 .0) (a .given .0 .0) a-next
+          is-taken (operands .last .1 .0) (rest .given .0 .0) (cursor-of operands-cells) (operands .kept .1 .0) (collects.collected _ _ _ _ _ _ _ _ _
+          (rest .given .0 .0) (cursor-of operands-cells) (rest-as _ _ _ _ _ _ _ _ _ _ _ b (args .d) (args .left) node (a-next .node) (collects.is-node
+          (args .lists) context (args .want) whole terms2 (args .i) after2 after
+          (operands-ready b (args .d) (args .left) node (args .lists) (args .i) (λ z. omega (arith, z, pre .1 .1 .3)) (pre .1 .0)) (lower .last .1 .0) (a .given .0 .0) a-next
+          is-taken) (λ z. omega (arith, z, pre .1 .1 .3)) (operands .ensures .0)) rest-known),
+      pre .1 .1 .1,
+      good .1 .0 .0,
+    )
+
+operand-list-entry-requires : (t : ℕ) → operand-lts.Need-list-entry-requires (operand-calls t) (operand-at t) operand.Post
+operand-list-entry-requires t c κs =
+    let a-known = known-done _ _ _ _ _ (c .before .before .before .before .before .before .before .before .before .before .before .before .before .before .before .before .before .before .before .opened .ensures) (c .before .before .before .before .before .before .before .before .before .before .before .before .before .before .before .before .before .a .given .1) in
+    let rest-known = known-done _ _ _ _ _ (c .before .before .before .before .before .before .before .opened2 .ensures) (c .before .before .before .before .before .rest .given .1) in
+    let lower-cells = c .before .before .before .before .before .before .before .before .before .before .before .before .before .before .before .before .before .before .before .before .before .before .before .lower .last .1 .1 .1 .1 .1 .1 .1 .1 .1 .1 .1 .1 .0 in
+    let operands-cells = c .before .before .before .before .before .before .before .before .before .before .before .operands .last .1 .1 .1 .1 .1 .1 .1 .1 .1 .1 .1 .1 .1 .0 in
+    let args = c .before .before .before .before .before .before .before .before .before .before .before .before .before .before .before .before .before .before .before .before .before .before .before .before .before .before .before .before .before .args in
+    let pre = c .before .before .before .before .before .before .before .before .before .before .before .before .before .before .before .before .before .before .before .before .before .before .before .before .before .before .before .before .before .pre in
+    let lower = c .before .before .before .before .before .before .before .before .before .before .before .before .before .before .before .before .before .before .before .before .before .before .before .lower in
+    let a = c .before .before .before .before .before .before .before .before .before .before .before .before .before .before .before .before .before .a in
+    let operands = c .before .before .before .before .before .before .before .before .before .before .before .operands in
+    let rest = c .before .before .before .before .before .rest in
+    let b = args .b .now in
+    let node = args .at in
+    let a-next = cursor-of lower-cells in
+    let after2 = past b (args .d) 1 node in
+    let context = context-of (args .kinds .now) (layout-of (args .l .now) .generated) in
+    let whole = arm b (args .d) true 1 node in
+    let after = past b (args .d) (args .left) node in
+    let terms2 = terms (kids b (args .d) (args .left - 1) after2) in
+    let is-taken = taken _ _ _ _ _ _ (a .given .0 .0) a-next (at-argument _ _ _ _ (args .i) _ _ _ _ _ _ (lower .ensures .0)) a-known in
+    collects.entry-room (args .lists) context (args .want) whole terms2 (args .i) after2 after
+    (operands-ready b (args .d) (args .left) node (args .lists) (args .i) (λ z. omega (arith, z, pre .1 .1 .3)) (pre .1 .0)) (lower .last .1 .0) (a .given .0 .0) a-next
+    is-taken (operands .last .1 .0) (rest .given .0 .0) (cursor-of operands-cells) (operands .kept .1 .0) (collects.collected _ _ _ _ _ _ _ _ _
+    (rest .given .0 .0) (cursor-of operands-cells) (rest-as _ _ _ _ _ _ _ _ _ _ _ b (args .d) (args .left) node (a-next .node) (collects.is-node
+    (args .lists) context (args .want) whole terms2 (args .i) after2 after
+    (operands-ready b (args .d) (args .left) node (args .lists) (args .i) (λ z. omega (arith, z, pre .1 .1 .3)) (pre .1 .0)) (lower .last .1 .0) (a .given .0 .0) a-next
+    is-taken) (λ z. omega (arith, z, pre .1 .1 .3)) (operands .ensures .0)) rest-known)
+
+operand-all-requires : (t : ℕ) → operand-lts.Need-all-requires (operand-calls t) (operand-at t) operand.Post
+operand-all-requires t c κs = search needs
+
+operand-any-requires : (t : ℕ) → operand-lts.Need-any-requires (operand-calls t) (operand-at t) operand.Post
+operand-any-requires t c κs = search needs
+
+operand-number-requires : (t : ℕ) → operand-lts.Need-number-requires (operand-calls t) (operand-at t) operand.Post
+operand-number-requires t c κs =
+    let first-opened = c .before .before .before .before .before .before .before .before .before .before .before .before .before .before .before .before .before .before .before .before .before .before .before .before .opened in
+    let first-given = c .before .before .before .before .before .before .before .before .before .before .before .before .before .before .before .before .before .before .before .before .before .before .a in
+    let first = known-small _ _ _ _ _ (first-opened .ensures) (first-given .given .1) in
+    let others = known-small _ _ _ _ _ (c .before .before .before .before .before .before .before .before .before .before .before .before .opened2 .ensures) (c .before .before .before .before .before .before .before .before .before .before .rest .given .1) in
+    (first .0, others .0, others .1)
+
+operand-same-length-3 : (t : ℕ) → operand-lts.Need-same-length-3 (operand-calls t) (operand-at t) operand.Post
+operand-same-length-3 t c =
+    let lower = c .before .before .before .before .before .before .before .before .before .before .before .before .before .before .before .before .before .before .before .before .before .before .before .before .before .before .before .before .before .lower in
+    let operands = c .before .before .before .before .before .before .before .before .before .before .before .before .before .before .before .before .before .operands in
+    omega (arith, c .before .before .before .before .before .list-entry .kept .0, operands .kept .1 .0, lower .kept .1 .0)
+
+operand-returns-3 : (t : ℕ) → operand-lts.Need-returns-3 (operand-calls t) (operand-at t) operand.Post
+operand-returns-3 t c =
+    let a-known-opened = c .before .before .before .before .before .before .before .before .before .before .before .before .before .before .before .before .before .before .before .before .before .before .before .before .before .opened in
+    let a-known-given = c .before .before .before .before .before .before .before .before .before .before .before .before .before .before .before .before .before .before .before .before .before .before .before .a in
+    let a-known = known-done _ _ _ _ _ (a-known-opened .ensures) (a-known-given .given .1) in
+    let rest-known = known-done _ _ _ _ _ (c .before .before .before .before .before .before .before .before .before .before .before .before .before .opened2 .ensures) (c .before .before .before .before .before .before .before .before .before .before .before .rest .given .1) in
+    let lower-cells = c .before .before .before .before .before .before .before .before .before .before .before .before .before .before .before .before .before .before .before .before .before .before .before .before .before .before .before .before .before .lower .last .1 .1 .1 .1 .1 .1 .1 .1 .1 .1 .1 .1 .0 in
+    let operands-cells = c .before .before .before .before .before .before .before .before .before .before .before .before .before .before .before .before .before .operands .last .1 .1 .1 .1 .1 .1 .1 .1 .1 .1 .1 .1 .1 .0 in
+    let args = c .before .before .before .before .before .before .before .before .before .before .before .before .before .before .before .before .before .before .before .before .before .before .before .before .before .before .before .before .before .before .before .before .before .before .before .args in
+    let pre = c .before .before .before .before .before .before .before .before .before .before .before .before .before .before .before .before .before .before .before .before .before .before .before .before .before .before .before .before .before .before .before .before .before .before .before .pre in
+    let lower = c .before .before .before .before .before .before .before .before .before .before .before .before .before .before .before .before .before .before .before .before .before .before .before .before .before .before .before .before .before .lower in
+    let a = c .before .before .before .before .before .before .before .before .before .before .before .before .before .before .before .before .before .before .before .before .before .before .before .a in
+    let operands = c .before .before .before .before .before .before .before .before .before .before .before .before .before .before .before .before .before .operands in
+    let rest = c .before .before .before .before .before .before .before .before .before .before .before .rest in
+    let same = c .before .before .before .before .before .before .before .before .before .same in
+    let list-entry = c .before .before .before .before .before .list-entry in
+    let b = args .b .now in
+    let node = args .at in
+    let rest-value = rest .given .0 .0 in
+    let a-next = cursor-of lower-cells in
+    let after2 = past b (args .d) 1 node in
+    let context = context-of (args .kinds .now) (layout-of (args .l .now) .generated) in
+    let whole = arm b (args .d) true 1 node in
+    let after = past b (args .d) (args .left) node in
+    let terms2 = terms (kids b (args .d) (args .left - 1) after2) in
+    let is-taken = taken _ _ _ _ _ _ (a .given .0 .0) a-next (at-argument _ _ _ _ (args .i) _ _ _ _ _ _ (lower .ensures .0)) a-known in (
+      lists-same _ _ _ _ _ _ _ _ (closes-done (c .number .result) operands-cells _ _ (c .number .ensures .0) (c .number .ensures .1) refl) (operands-as _ _ _ _ _ _ _ _ _ _ _ _ b (args .d) (args .left) node (λ z. omega (arith, z, pre .1 .1 .3)) (collects.all-collected (args .lists) context (args .want)
+          whole terms2 (args .i) after2 after (operands-ready b (args .d) (args .left) node (args .lists) (args .i) (λ z. omega (arith, z, pre .1 .1 .3)) (pre .1 .0))
+          (lower .last .1 .0) (a .given .0 .0) a-next is-taken (operands .last .1 .0) rest-value (cursor-of operands-cells) (operands .kept .1 .0)
+          (collects.collected _ _ _ _ _ _ _ _ _ rest-value (cursor-of operands-cells) (rest-as _ _ _ _ _ _ _ _ _ _ _ b (args .d) (args .left) node
+          (a-next .node) (collects.is-node (args .lists) context (args .want) whole terms2 (args .i) after2 after
+          (operands-ready b (args .d) (args .left) node (args .lists) (args .i) (λ z. omega (arith, z, pre .1 .1 .3)) (pre .1 .0)) (lower .last .1 .0) (a .given .0 .0) a-next
+          is-taken) (λ z. omega (arith, z, pre .1 .1 .3)) (operands .ensures .0)) rest-known) (list-entry .last .0) (c .before .before .all .result) (c .before .any .result)
+          (list-entry .ensures) (c .before .before .all .ensures ∙ ap (λ (x : Bool). x && rest-value .boolean) (same .ensures)) (c .before .any .ensures))),
+      c .before .before .before .before .before .before .before .before .before .before .before .before .before .before .before .before .before .operands .ensures .1,
+    )
+
+operands-element-copy-out-t19 : (t : ℕ) → operands-lts.Need-element-copy-out-t19 (operands-calls t) (operands-at t) operands.Post
+operands-element-copy-out-t19 t c = search needs
+
+operands-element-copy-out-t22 : (t : ℕ) → operands-lts.Need-element-copy-out-t22 (operands-calls t) (operands-at t) operands.Post
+operands-element-copy-out-t22 t c = search needs
+
+operands-element-copy-out-t25 : (t : ℕ) → operands-lts.Need-element-copy-out-t25 (operands-calls t) (operands-at t) operands.Post
+operands-element-copy-out-t25 t c = search needs
 
 operands-no-operands-requires : (t : ℕ) → operands-lts.Need-no-operands-requires (operands-calls t) (operands-at t) operands.Post
 operands-no-operands-requires t c κs = search needs
@@ -1670,292 +1894,20 @@ operands-returns t c =
       c .closed .ensures .1,
     )
 
-operands-add-lower : (t : ℕ) → operands-lts.Need-add-lower (operands-calls t) (operands-at t) operands.Post
-operands-add-lower t c = search needs
-
-operands-lower-requires : (t : ℕ) → operands-lts.Need-lower-requires (operands-calls t) (operands-at t) operands.Post
-operands-lower-requires t c κs =
+operands-operand-requires : (t : ℕ) → operands-lts.Need-operand-requires (operands-calls t) (operands-at t) operands.Post
+operands-operand-requires t c κs =
     let pre = c .before .before .before .before .before .before .pre in
-    let args = c .before .before .before .before .before .before .args in
-    let b = args .b .now in
-    let node = args .at in
-    let after = past b (args .d) 1 node in (
-      omega (arith, pre .0, c .before .before .if1 .left),
-      (
-        collects.ready-child (args .lists) (context-of (args .kinds .now) (layout-of (args .l .now) .generated)) (args .want) (arm b (args .d) true 1 node)
-            (terms (kids b (args .d) (args .left - 1) after)) (args .i) after (past b (args .d) (args .left) node)
-            (operands-ready b (args .d) (args .left) node (args .lists) (args .i) (λ z. c .before .before .if1 .left z) (pre .1 .0)),
-        (
-          one-well b (args .d) 1 node refl (first-well b (args .d) (args .left) node (λ z. c .before .before .if1 .left z) (pre .1 .1 .0)),
-          omega (arith, pre .1 .1 .1),
-          omega arith,
-          pre .1 .1 .2,
-        ),
-      ),
-    )
-
-operands-opened-requires : (t : ℕ) → operands-lts.Need-opened-requires (operands-calls t) (operands-at t) operands.Post
-operands-opened-requires t c κs = tt
-
-operands-enum-known-a : (t : ℕ) → operands-lts.Need-enum-known-a (operands-calls t) (operands-at t) operands.Post
-operands-enum-known-a t c = search needs
-
-operands-enum-told : (t : ℕ) → operands-lts.Need-enum-told (operands-calls t) (operands-at t) operands.Post
-operands-enum-told t c = search needs
+    (omega (arith, pre .0), (pre .1 .0, (pre .1 .1 .0, pre .1 .1 .1, pre .1 .1 .2, omega (arith, c .before .before .if1 .left))))
 
 operands-same-length : (t : ℕ) → operands-lts.Need-same-length (operands-calls t) (operands-at t) operands.Post
 operands-same-length t c = search needs
 
 operands-returns-2 : (t : ℕ) → operands-lts.Need-returns-2 (operands-calls t) (operands-at t) operands.Post
-operands-returns-2 t c =
-    let lower-cells = c .before .before .before .before .before .before .lower .last .1 .1 .1 .1 .1 .1 .1 .1 .1 .1 .1 .1 .0 in
-    let args = c .before .before .before .before .before .before .before .before .before .before .before .before .before .args in
-    let pre = c .before .before .before .before .before .before .before .before .before .before .before .before .before .pre in
-    let if1 = c .before .before .before .before .before .before .before .before .before .if1 in
-    let lower = c .before .before .before .before .before .before .lower in
-    let b = args .b .now in
-    let node = args .at in
-    let given3 = c .enum-told .given .0 .0 in
-    let given2 = c .enum-told .given .0 .1 .0 in
-    let after = past b (args .d) 1 node in (
-      operands-as _ _ _ _ _ _ _ _ _ _ _ _ b (args .d) (args .left) node (λ z. if1 .left z) (collects.child-refused (args .lists)
-          (context-of (args .kinds .now) (layout-of (args .l .now) .generated)) (args .want) (arm b (args .d) true 1 node) (terms (kids b (args .d) (args .left - 1) after))
-          (args .i) after (past b (args .d) (args .left) node)
-          (operands-ready b (args .d) (args .left) node (args .lists) (args .i) (λ z. if1 .left z) (pre .1 .0)) (lower .last .1 .0) (low-of (lower .result) lower-cells) given3
-          given2 (refused _ _ _ _ _ _ given3 given2 (at-argument _ _ _ _ (args .i) _ _ _ _ _ _ (lower .ensures .0)) (sym (c .before .before .opened .ensures) ∙ c .enum-told .given .1))
-          (sym (c .before .before .opened .ensures) ∙ c .enum-told .given .1)),
-      c .before .before .before .before .before .before .lower .ensures .1,
-    )
+operands-returns-2 t c = c .before .before .operand .ensures
 
-operands-add-operands : (t : ℕ) → operands-lts.Need-add-operands (operands-calls t) (operands-at t) operands.Post
-operands-add-operands t c = omega (arith, c .before .before .before .before .before .before .before .before .before .before .before .before .before .before .before .pre .1 .1 .1)
-
-operands-sub-operands : (t : ℕ) → operands-lts.Need-sub-operands (operands-calls t) (operands-at t) operands.Post
-operands-sub-operands t c = search needs
-
-operands-element-copy-out-operands : (t : ℕ) → operands-lts.Need-element-copy-out-operands (operands-calls t) (operands-at t) operands.Post
-operands-element-copy-out-operands t c = search needs
-
-operands-element-copy-out-operands-2 : (t : ℕ) → operands-lts.Need-element-copy-out-operands-2 (operands-calls t) (operands-at t) operands.Post
-operands-element-copy-out-operands-2 t c = search needs
-
-operands-operands-requires : (t : ℕ) → operands-lts.Need-operands-requires (operands-calls t) (operands-at t) operands.Post
-operands-operands-requires t c κs =
-    let a-known = known-done _ _ _ _ _ (c .before .before .before .before .before .before .before .opened .ensures) (c .before .before .before .before .before .a .given .1) in
-    let lower-cells = c .before .before .before .before .before .before .before .before .before .before .before .lower .last .1 .1 .1 .1 .1 .1 .1 .1 .1 .1 .1 .1 .0 in
-    let pre = c .before .before .before .before .before .before .before .before .before .before .before .before .before .before .before .before .before .before .pre in
-    let args = c .before .before .before .before .before .before .before .before .before .before .before .before .before .before .before .before .before .before .args in
-    let if1 = c .before .before .before .before .before .before .before .before .before .before .before .before .before .before .if1 in
-    let lower = c .before .before .before .before .before .before .before .before .before .before .before .lower in
-    let a = c .before .before .before .before .before .a in
-    let lists = args .lists in
-    let b = args .b .now in
-    let node = args .at in
-    let a-value = a .given .0 .0 in
-    let a-next = cursor-of lower-cells in
-    let lower-bytes = lower .last .1 .0 in
-    let after2 = past b (args .d) 1 node in
-    let context = context-of (args .kinds .now) (layout-of (args .l .now) .generated) in
-    let whole = arm b (args .d) true 1 node in
-    let after = past b (args .d) (args .left) node in
-    let terms2 = terms (kids b (args .d) (args .left - 1) after2) in
-    let is-taken = taken _ _ _ _ _ _ a-value a-next (at-argument _ _ _ _ (args .i) _ _ _ _ _ _ (lower .ensures .0)) a-known in (
-      omega (arith, pre .0, if1 .left),
-      (
-        rest-ready b (args .d) (args .left - 1) _ _ (sym (collects.is-node lists context (args .want) whole terms2 (args .i) after2 after
-            (operands-ready b (args .d) (args .left) node lists (args .i) (λ z. if1 .left z) (pre .1 .0)) lower-bytes a-value a-next is-taken)) lists
-            (args .i) (collects.ready-rest lists context (args .want) whole terms2 (args .i) after2 after
-            (operands-ready b (args .d) (args .left) node lists (args .i) (λ z. if1 .left z) (pre .1 .0)) lower-bytes a-value a-next is-taken),
-        (
-          rest-well-at b (args .d) (args .left) node (a-next .node) (λ z. if1 .left z) (pre .1 .1 .0) (collects.is-node lists context (args .want)
-              whole terms2 (args .i) after2 after (operands-ready b (args .d) (args .left) node lists (args .i) (λ z. if1 .left z) (pre .1 .0))
-              lower-bytes a-value a-next is-taken),
-          omega (arith, pre .1 .1 .1, if1 .left),
-          c .before .before .before .before .before .before .before .before .before .before .before .lower .ensures .1,
-        ),
-      ),
-    )
-
-operands-opened-requires-2 : (t : ℕ) → operands-lts.Need-opened-requires-2 (operands-calls t) (operands-at t) operands.Post
-operands-opened-requires-2 t c κs = tt
-
-operands-enum-known-rest : (t : ℕ) → operands-lts.Need-enum-known-rest (operands-calls t) (operands-at t) operands.Post
-operands-enum-known-rest t c = search needs
-
-operands-enum-told-2 : (t : ℕ) → operands-lts.Need-enum-told-2 (operands-calls t) (operands-at t) operands.Post
-operands-enum-told-2 t c = search needs
-
-operands-same-length-2 : (t : ℕ) → operands-lts.Need-same-length-2 (operands-calls t) (operands-at t) operands.Post
-operands-same-length-2 t c = search needs
-
-operands-returns-3 : (t : ℕ) → operands-lts.Need-returns-3 (operands-calls t) (operands-at t) operands.Post
-operands-returns-3 t c =
-    let a-known = known-done _ _ _ _ _ (c .before .before .before .before .before .before .before .before .before .before .before .before .before .before .opened .ensures) (c .before .before .before .before .before .before .before .before .before .before .before .before .a .given .1) in
-    let lower-cells = c .before .before .before .before .before .before .before .before .before .before .before .before .before .before .before .before .before .before .lower .last .1 .1 .1 .1 .1 .1 .1 .1 .1 .1 .1 .1 .0 in
-    let operands-cells = c .before .before .before .before .before .before .operands .last .1 .1 .1 .1 .1 .1 .1 .1 .1 .1 .1 .1 .1 .0 in
-    let args = c .before .before .before .before .before .before .before .before .before .before .before .before .before .before .before .before .before .before .before .before .before .before .before .before .before .args in
-    let pre = c .before .before .before .before .before .before .before .before .before .before .before .before .before .before .before .before .before .before .before .before .before .before .before .before .before .pre in
-    let if1 = c .before .before .before .before .before .before .before .before .before .before .before .before .before .before .before .before .before .before .before .before .before .if1 in
-    let lower = c .before .before .before .before .before .before .before .before .before .before .before .before .before .before .before .before .before .before .lower in
-    let a = c .before .before .before .before .before .before .before .before .before .before .before .before .a in
-    let operands = c .before .before .before .before .before .before .operands in
-    let b = args .b .now in
-    let node = args .at in
-    let a-next = cursor-of lower-cells in
-    let given4 = sym (c .before .before .opened2 .ensures) ∙ c .enum-told2 .given .1 in
-    let given3 = c .enum-told2 .given .0 .0 in
-    let given2 = c .enum-told2 .given .0 .1 .0 in
-    let after2 = past b (args .d) 1 node in
-    let context = context-of (args .kinds .now) (layout-of (args .l .now) .generated) in
-    let whole = arm b (args .d) true 1 node in
-    let after = past b (args .d) (args .left) node in
-    let terms2 = terms (kids b (args .d) (args .left - 1) after2) in
-    let is-taken = taken _ _ _ _ _ _ (a .given .0 .0) a-next (at-argument _ _ _ _ (args .i) _ _ _ _ _ _ (lower .ensures .0)) a-known in (
-      operands-as _ _ _ _ _ _ _ _ _ _ _ _ b (args .d) (args .left) node (λ z. if1 .left z) (collects.rest-refused (args .lists) context (args .want)
-          whole terms2 (args .i) after2 after (operands-ready b (args .d) (args .left) node (args .lists) (args .i) (λ z. if1 .left z) (pre .1 .0))
-          (lower .last .1 .0) (a .given .0 .0) a-next is-taken (operands .last .1 .0) (low-of (operands .result) operands-cells) given3 given2 (collects.turned _ _ _ _ _ _ _ _ _
-          given3 given2 (rest-as _ _ _ _ _ _ _ _ _ _ _ b (args .d) (args .left) node (a-next .node) (collects.is-node (args .lists) context (args .want)
-          whole terms2 (args .i) after2 after (operands-ready b (args .d) (args .left) node (args .lists) (args .i) (λ z. if1 .left z) (pre .1 .0))
-          (lower .last .1 .0) (a .given .0 .0) a-next is-taken) (λ z. if1 .left z) (operands .ensures .0)) given4) given4),
-      c .before .before .before .before .before .before .operands .ensures .1,
-    )
-
-operands-same-requires : (t : ℕ) → operands-lts.Need-same-requires (operands-calls t) (operands-at t) operands.Post
-operands-same-requires t c κs = search needs
-
-operands-element-copy-out-list-entry : (t : ℕ) → operands-lts.Need-element-copy-out-list-entry (operands-calls t) (operands-at t) operands.Post
-operands-element-copy-out-list-entry t c = search needs
-
-operands-element-copy-out-list-entry-2 : (t : ℕ) → operands-lts.Need-element-copy-out-list-entry-2 (operands-calls t) (operands-at t) operands.Post
-operands-element-copy-out-list-entry-2 t c = search needs
-
-operands-add-list-entry : (t : ℕ) → operands-lts.Need-add-list-entry (operands-calls t) (operands-at t) operands.Post
-operands-add-list-entry t c =
-    let a-known = known-done _ _ _ _ _ (c .before .before .before .before .before .before .before .before .before .before .before .before .before .before .before .before .before .before .before .opened .ensures) (c .before .before .before .before .before .before .before .before .before .before .before .before .before .before .before .before .before .a .given .1) in
-    let rest-known = known-done _ _ _ _ _ (c .before .before .before .before .before .before .before .opened2 .ensures) (c .before .before .before .before .before .rest .given .1) in
-    let lower-cells = c .before .before .before .before .before .before .before .before .before .before .before .before .before .before .before .before .before .before .before .before .before .before .before .lower .last .1 .1 .1 .1 .1 .1 .1 .1 .1 .1 .1 .1 .0 in
-    let operands-cells = c .before .before .before .before .before .before .before .before .before .before .before .operands .last .1 .1 .1 .1 .1 .1 .1 .1 .1 .1 .1 .1 .1 .0 in
-    let args = c .before .before .before .before .before .before .before .before .before .before .before .before .before .before .before .before .before .before .before .before .before .before .before .before .before .before .before .before .before .before .args in
-    let pre = c .before .before .before .before .before .before .before .before .before .before .before .before .before .before .before .before .before .before .before .before .before .before .before .before .before .before .before .before .before .before .pre in
-    let good = c .before .before .before .before .before .before .before .before .before .before .before .before .before .before .before .before .before .before .before .before .before .before .before .before .before .before .before .before .before .before .good in
-    let if1 = c .before .before .before .before .before .before .before .before .before .before .before .before .before .before .before .before .before .before .before .before .before .before .before .before .before .before .if1 in
-    let lower = c .before .before .before .before .before .before .before .before .before .before .before .before .before .before .before .before .before .before .before .before .before .before .before .lower in
-    let a = c .before .before .before .before .before .before .before .before .before .before .before .before .before .before .before .before .before .a in
-    let operands = c .before .before .before .before .before .before .before .before .before .before .before .operands in
-    let rest = c .before .before .before .before .before .rest in
-    let b = args .b .now in
-    let node = args .at in
-    let a-next = cursor-of lower-cells in
-    let after2 = past b (args .d) 1 node in
-    let context = context-of (args .kinds .now) (layout-of (args .l .now) .generated) in
-    let whole = arm b (args .d) true 1 node in
-    let after = past b (args .d) (args .left) node in
-    let terms2 = terms (kids b (args .d) (args .left - 1) after2) in
-    let is-taken = taken _ _ _ _ _ _ (a .given .0 .0) a-next (at-argument _ _ _ _ (args .i) _ _ _ _ _ _ (lower .ensures .0)) a-known in
-    omega (
-      arith,
-      collects.entry-small (args .lists) context (args .want) whole terms2 (args .i) after2 after
-          (operands-ready b (args .d) (args .left) node (args .lists) (args .i) (λ z. if1 .left z) (pre .1 .0)) (lower .last .1 .0) (a .given .0 .0) a-next
-          is-taken (operands .last .1 .0) (rest .given .0 .0) (cursor-of operands-cells) (operands .kept .1 .0) (collects.collected _ _ _ _ _ _ _ _ _
-          (rest .given .0 .0) (cursor-of operands-cells) (rest-as _ _ _ _ _ _ _ _ _ _ _ b (args .d) (args .left) node (a-next .node) (collects.is-node
-          (args .lists) context (args .want) whole terms2 (args .i) after2 after
-          (operands-ready b (args .d) (args .left) node (args .lists) (args .i) (λ z. if1 .left z) (pre .1 .0)) (lower .last .1 .0) (a .given .0 .0) a-next
-          is-taken) (λ z. if1 .left z) (operands .ensures .0)) rest-known),
-      pre .1 .1 .1,
-      good .1 .0 .0,
-    )
-
-operands-list-entry-requires : (t : ℕ) → operands-lts.Need-list-entry-requires (operands-calls t) (operands-at t) operands.Post
-operands-list-entry-requires t c κs =
-    let a-known = known-done _ _ _ _ _ (c .before .before .before .before .before .before .before .before .before .before .before .before .before .before .before .before .before .before .before .opened .ensures) (c .before .before .before .before .before .before .before .before .before .before .before .before .before .before .before .before .before .a .given .1) in
-    let rest-known = known-done _ _ _ _ _ (c .before .before .before .before .before .before .before .opened2 .ensures) (c .before .before .before .before .before .rest .given .1) in
-    let lower-cells = c .before .before .before .before .before .before .before .before .before .before .before .before .before .before .before .before .before .before .before .before .before .before .before .lower .last .1 .1 .1 .1 .1 .1 .1 .1 .1 .1 .1 .1 .0 in
-    let operands-cells = c .before .before .before .before .before .before .before .before .before .before .before .operands .last .1 .1 .1 .1 .1 .1 .1 .1 .1 .1 .1 .1 .1 .0 in
-    let args = c .before .before .before .before .before .before .before .before .before .before .before .before .before .before .before .before .before .before .before .before .before .before .before .before .before .before .before .before .before .before .args in
-    let pre = c .before .before .before .before .before .before .before .before .before .before .before .before .before .before .before .before .before .before .before .before .before .before .before .before .before .before .before .before .before .before .pre in
-    let if1 = c .before .before .before .before .before .before .before .before .before .before .before .before .before .before .before .before .before .before .before .before .before .before .before .before .before .before .if1 in
-    let lower = c .before .before .before .before .before .before .before .before .before .before .before .before .before .before .before .before .before .before .before .before .before .before .before .lower in
-    let a = c .before .before .before .before .before .before .before .before .before .before .before .before .before .before .before .before .before .a in
-    let operands = c .before .before .before .before .before .before .before .before .before .before .before .operands in
-    let rest = c .before .before .before .before .before .rest in
-    let b = args .b .now in
-    let node = args .at in
-    let a-next = cursor-of lower-cells in
-    let after2 = past b (args .d) 1 node in
-    let context = context-of (args .kinds .now) (layout-of (args .l .now) .generated) in
-    let whole = arm b (args .d) true 1 node in
-    let after = past b (args .d) (args .left) node in
-    let terms2 = terms (kids b (args .d) (args .left - 1) after2) in
-    let is-taken = taken _ _ _ _ _ _ (a .given .0 .0) a-next (at-argument _ _ _ _ (args .i) _ _ _ _ _ _ (lower .ensures .0)) a-known in
-    collects.entry-room (args .lists) context (args .want) whole terms2 (args .i) after2 after
-    (operands-ready b (args .d) (args .left) node (args .lists) (args .i) (λ z. if1 .left z) (pre .1 .0)) (lower .last .1 .0) (a .given .0 .0) a-next
-    is-taken (operands .last .1 .0) (rest .given .0 .0) (cursor-of operands-cells) (operands .kept .1 .0) (collects.collected _ _ _ _ _ _ _ _ _
-    (rest .given .0 .0) (cursor-of operands-cells) (rest-as _ _ _ _ _ _ _ _ _ _ _ b (args .d) (args .left) node (a-next .node) (collects.is-node
-    (args .lists) context (args .want) whole terms2 (args .i) after2 after
-    (operands-ready b (args .d) (args .left) node (args .lists) (args .i) (λ z. if1 .left z) (pre .1 .0)) (lower .last .1 .0) (a .given .0 .0) a-next
-    is-taken) (λ z. if1 .left z) (operands .ensures .0)) rest-known)
-
-operands-all-requires : (t : ℕ) → operands-lts.Need-all-requires (operands-calls t) (operands-at t) operands.Post
-operands-all-requires t c κs = search needs
-
-operands-any-requires : (t : ℕ) → operands-lts.Need-any-requires (operands-calls t) (operands-at t) operands.Post
-operands-any-requires t c κs = search needs
-
-operands-number-requires : (t : ℕ) → operands-lts.Need-number-requires (operands-calls t) (operands-at t) operands.Post
-operands-number-requires t c κs =
-    let first-opened = c .before .before .before .before .before .before .before .before .before .before .before .before .before .before .before .before .before .before .before .before .before .before .before .before .opened in
-    let first-given = c .before .before .before .before .before .before .before .before .before .before .before .before .before .before .before .before .before .before .before .before .before .before .a in
-    let first = known-small _ _ _ _ _ (first-opened .ensures) (first-given .given .1) in
-    let others = known-small _ _ _ _ _ (c .before .before .before .before .before .before .before .before .before .before .before .before .opened2 .ensures) (c .before .before .before .before .before .before .before .before .before .before .rest .given .1) in
-    (first .0, others .0, others .1)
-
-operands-same-length-3 : (t : ℕ) → operands-lts.Need-same-length-3 (operands-calls t) (operands-at t) operands.Post
-operands-same-length-3 t c =
-    let lower = c .before .before .before .before .before .before .before .before .before .before .before .before .before .before .before .before .before .before .before .before .before .before .before .before .before .before .before .before .before .lower in
-    let operands = c .before .before .before .before .before .before .before .before .before .before .before .before .before .before .before .before .before .operands in
-    omega (arith, c .before .before .before .before .before .list-entry .kept .0, operands .kept .1 .0, lower .kept .1 .0)
-
-operands-returns-4 : (t : ℕ) → operands-lts.Need-returns-4 (operands-calls t) (operands-at t) operands.Post
-operands-returns-4 t c =
-    let a-known-opened = c .before .before .before .before .before .before .before .before .before .before .before .before .before .before .before .before .before .before .before .before .before .before .before .before .before .opened in
-    let a-known-given = c .before .before .before .before .before .before .before .before .before .before .before .before .before .before .before .before .before .before .before .before .before .before .before .a in
-    let a-known = known-done _ _ _ _ _ (a-known-opened .ensures) (a-known-given .given .1) in
-    let rest-known = known-done _ _ _ _ _ (c .before .before .before .before .before .before .before .before .before .before .before .before .before .opened2 .ensures) (c .before .before .before .before .before .before .before .before .before .before .before .rest .given .1) in
-    let lower-cells = c .before .before .before .before .before .before .before .before .before .before .before .before .before .before .before .before .before .before .before .before .before .before .before .before .before .before .before .before .before .lower .last .1 .1 .1 .1 .1 .1 .1 .1 .1 .1 .1 .1 .0 in
-    let operands-cells = c .before .before .before .before .before .before .before .before .before .before .before .before .before .before .before .before .before .operands .last .1 .1 .1 .1 .1 .1 .1 .1 .1 .1 .1 .1 .1 .0 in
-    let args = c .before .before .before .before .before .before .before .before .before .before .before .before .before .before .before .before .before .before .before .before .before .before .before .before .before .before .before .before .before .before .before .before .before .before .before .before .args in
-    let pre = c .before .before .before .before .before .before .before .before .before .before .before .before .before .before .before .before .before .before .before .before .before .before .before .before .before .before .before .before .before .before .before .before .before .before .before .before .pre in
-    let if1 = c .before .before .before .before .before .before .before .before .before .before .before .before .before .before .before .before .before .before .before .before .before .before .before .before .before .before .before .before .before .before .before .before .if1 in
-    let lower = c .before .before .before .before .before .before .before .before .before .before .before .before .before .before .before .before .before .before .before .before .before .before .before .before .before .before .before .before .before .lower in
-    let a = c .before .before .before .before .before .before .before .before .before .before .before .before .before .before .before .before .before .before .before .before .before .before .before .a in
-    let operands = c .before .before .before .before .before .before .before .before .before .before .before .before .before .before .before .before .before .operands in
-    let rest = c .before .before .before .before .before .before .before .before .before .before .before .rest in
-    let same = c .before .before .before .before .before .before .before .before .before .same in
-    let list-entry = c .before .before .before .before .before .list-entry in
-    let b = args .b .now in
-    let node = args .at in
-    let rest-value = rest .given .0 .0 in
-    let a-next = cursor-of lower-cells in
-    let after2 = past b (args .d) 1 node in
-    let context = context-of (args .kinds .now) (layout-of (args .l .now) .generated) in
-    let whole = arm b (args .d) true 1 node in
-    let after = past b (args .d) (args .left) node in
-    let terms2 = terms (kids b (args .d) (args .left - 1) after2) in
-    let is-taken = taken _ _ _ _ _ _ (a .given .0 .0) a-next (at-argument _ _ _ _ (args .i) _ _ _ _ _ _ (lower .ensures .0)) a-known in (
-      lists-same _ _ _ _ _ _ _ _ (closes-done (c .number .result) operands-cells _ _ (c .number .ensures .0) (c .number .ensures .1) refl) (operands-as _ _ _ _ _ _ _ _ _ _ _ _ b (args .d) (args .left) node (λ z. if1 .left z) (collects.all-collected (args .lists) context (args .want)
-          whole terms2 (args .i) after2 after (operands-ready b (args .d) (args .left) node (args .lists) (args .i) (λ z. if1 .left z) (pre .1 .0))
-          (lower .last .1 .0) (a .given .0 .0) a-next is-taken (operands .last .1 .0) rest-value (cursor-of operands-cells) (operands .kept .1 .0)
-          (collects.collected _ _ _ _ _ _ _ _ _ rest-value (cursor-of operands-cells) (rest-as _ _ _ _ _ _ _ _ _ _ _ b (args .d) (args .left) node
-          (a-next .node) (collects.is-node (args .lists) context (args .want) whole terms2 (args .i) after2 after
-          (operands-ready b (args .d) (args .left) node (args .lists) (args .i) (λ z. if1 .left z) (pre .1 .0)) (lower .last .1 .0) (a .given .0 .0) a-next
-          is-taken) (λ z. if1 .left z) (operands .ensures .0)) rest-known) (list-entry .last .0) (c .before .before .all .result) (c .before .any .result)
-          (list-entry .ensures) (c .before .before .all .ensures ∙ ap (λ (x : Bool). x && rest-value .boolean) (same .ensures)) (c .before .any .ensures))),
-      c .before .before .before .before .before .before .before .before .before .before .before .before .before .before .before .before .before .operands .ensures .1,
-    )
-
-pub +branch+link+lower+node+operands-spec : {M : Type 1} → statement M
-+branch+link+lower+node+operands-spec =
-    close μ-branch μ-link μ-lower μ-node μ-operands (λ t. branch-lts.spec (branch-calls t) (branch-at t)
+pub +branch+link+lower+node+operand+operands-spec : {M : Type 1} → statement M
++branch+link+lower+node+operand+operands-spec =
+    close μ-branch μ-link μ-lower μ-node μ-operand μ-operands (λ t. branch-lts.spec (branch-calls t) (branch-at t)
     branch.Post
     (branch-element-copy-out-generated t)
     (branch-unsupported-requires t)
@@ -2044,17 +1996,10 @@ pub +branch+link+lower+node+operands-spec : {M : Type 1} → statement M
     node.Post
     (node-node-requires t)
     (node-add-next t)
-    (node-element-copy-out-operands t)
-    (node-element-copy-out-t34 t)
-    (node-element-copy-out-if1 t)
-    (node-element-copy-out-t41 t)
-    (node-element-copy-out-t44 t)
-    (node-element-copy-out-t47 t)
-    (node-lower-leaf-requires t)
-    (node-closed-requires t)
+    (node-put-leaf-requires t)
     (node-same-length t)
     (node-returns t)
-    (node-closed-requires-2 t)
+    (node-closed-requires t)
     (node-returns-2 t)
     (node-sub-link t)
     (node-link-requires t)
@@ -2074,7 +2019,7 @@ pub +branch+link+lower+node+operands-spec : {M : Type 1} → statement M
     (node-branch-requires t)
     (node-same-length-4 t)
     (node-returns-5 t)
-    (node-closed-requires-3 t)
+    (node-closed-requires-2 t)
     (node-returns-6 t)
     (node-takes-requires t)
     (node-listing-requires t)
@@ -2085,47 +2030,46 @@ pub +branch+link+lower+node+operands-spec : {M : Type 1} → statement M
     (node-enum-told-2 t)
     (node-same-length-5 t)
     (node-returns-7 t)
-    (node-element-copy-out-t34-2 t)
-    (node-element-copy-out-t31 t)
-    (node-element-copy-out-t37 t)
-    (node-element-copy-out-t87 t)
-    (node-element-copy-out-t90 t)
-    (node-finish-requires t)
-    (node-closed-requires-4 t)
+    (node-put-operation-requires t)
     (node-same-length-6 t)
     (node-returns-8 t))
+    (λ t. operand-lts.spec (operand-calls t) (operand-at t)
+    operand.Post
+    (operand-add-lower t)
+    (operand-lower-requires t)
+    (operand-opened-requires t)
+    (operand-enum-known-a t)
+    (operand-enum-told t)
+    (operand-same-length t)
+    (operand-returns t)
+    (operand-add-operands t)
+    (operand-sub-operands t)
+    (operand-element-copy-out-operands t)
+    (operand-element-copy-out-operands-2 t)
+    (operand-operands-requires t)
+    (operand-opened-requires-2 t)
+    (operand-enum-known-rest t)
+    (operand-enum-told-2 t)
+    (operand-same-length-2 t)
+    (operand-returns-2 t)
+    (operand-same-requires t)
+    (operand-element-copy-out-list-entry t)
+    (operand-element-copy-out-list-entry-2 t)
+    (operand-add-list-entry t)
+    (operand-list-entry-requires t)
+    (operand-all-requires t)
+    (operand-any-requires t)
+    (operand-number-requires t)
+    (operand-same-length-3 t)
+    (operand-returns-3 t))
     λ t. operands-lts.spec (operands-calls t) (operands-at t)
     operands.Post
-    (operands-element-copy-out-t27 t)
-    (operands-element-copy-out-t30 t)
-    (operands-element-copy-out-t33 t)
+    (operands-element-copy-out-t19 t)
+    (operands-element-copy-out-t22 t)
+    (operands-element-copy-out-t25 t)
     (operands-no-operands-requires t)
     (operands-closed-requires t)
     (operands-returns t)
-    (operands-add-lower t)
-    (operands-lower-requires t)
-    (operands-opened-requires t)
-    (operands-enum-known-a t)
-    (operands-enum-told t)
+    (operands-operand-requires t)
     (operands-same-length t)
     (operands-returns-2 t)
-    (operands-add-operands t)
-    (operands-sub-operands t)
-    (operands-element-copy-out-operands t)
-    (operands-element-copy-out-operands-2 t)
-    (operands-operands-requires t)
-    (operands-opened-requires-2 t)
-    (operands-enum-known-rest t)
-    (operands-enum-told-2 t)
-    (operands-same-length-2 t)
-    (operands-returns-3 t)
-    (operands-same-requires t)
-    (operands-element-copy-out-list-entry t)
-    (operands-element-copy-out-list-entry-2 t)
-    (operands-add-list-entry t)
-    (operands-list-entry-requires t)
-    (operands-all-requires t)
-    (operands-any-requires t)
-    (operands-number-requires t)
-    (operands-same-length-3 t)
-    (operands-returns-4 t)
