@@ -107,10 +107,10 @@ fn so_far(number: u64, reading: Reading, used: usize, length: usize) -> Listed
 fn is_ready(p: &[u8], values: usize, regs: usize) -> bool
     ensures { λ r. ⌜ (r ≡ true → Ready (now (p .entry)) values regs) × (r ≡ false → Ready (now (p .entry)) values regs → ⊥) ⌝ }
 {
-    if values < program::word(p, INPUTS_AT) {
+    if values < reader::word(p, INPUTS_AT) {
         return false;
     }
-    if regs < program::word(p, REGISTERS_AT) {
+    if regs < reader::word(p, REGISTERS_AT) {
         return false;
     }
     program::is_program(p)

@@ -39,8 +39,8 @@ fn run_values(p: &[u8], inputs: &[f64], regs: &mut [f64]) -> Outcome
     ensures { λ r. ⌜ Runs (now (p .entry)) (now (inputs .entry)) r ⌝ }
     ensures place { λ r. ⌜ Writable (now (p .entry)) 8192 (r .answer) ⌝ }
 {
-    let budget = program::word(p, CODE_AT);
-    let n = program::word(p, REGISTERS_AT);
+    let budget = reader::word(p, CODE_AT);
+    let n = reader::word(p, REGISTERS_AT);
     zero_registers(regs, n);
     let state = run::fresh_state();
     let r = run::run_reply(p, inputs, &mut regs[..n], budget, state);

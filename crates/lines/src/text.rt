@@ -77,10 +77,10 @@ fn path_length(p: &[u8], k: usize) -> usize
     requires { ⌜ k < path-total (now p) ⌝ }
     ensures { λ r. ⌜ r ≡ length-at (now (p .entry)) k ⌝ }
 {
-    let code = program::word(p, CODE_AT);
-    let paths = program::word(p, PATHS_AT);
+    let code = reader::word(p, CODE_AT);
+    let paths = reader::word(p, PATHS_AT);
     if k < paths {
-        return program::word(p, HEADER_SIZE + SLOT_SIZE * code + RECORD_SIZE * k + 8);
+        return reader::word(p, HEADER_SIZE + SLOT_SIZE * code + RECORD_SIZE * k + 8);
     }
     0
 }
