@@ -6,6 +6,7 @@
 // program's length and the byte after the program. Then come the formula, the name line, the text and the program. Numbers
 // have 4 bytes, the least first.
 use cases::Tally;
+use cases::all;
 use cases::cut;
 use cases::fill;
 use cases::holds;
@@ -53,9 +54,12 @@ fn case_from(b: &[u8], at: usize, from: usize, path: &mut [u8], program: &mut [u
 fn case_at(b: &[u8], at: usize) -> bool {
     let mut path = [0u8; 8200];
     let mut program = [0u8; 65536];
-    let n = cut(reader::word(b, plus(at, 8)), 8200);
-    let m = cut(reader::word(b, plus(at, 12)), 65536);
-    case_from(b, at, plus(at, 36), &mut path[0..n], &mut program[0..m])
+    let path_length = reader::word(b, plus(at, 8));
+    let length = reader::word(b, plus(at, 12));
+    let n = cut(path_length, 8200);
+    let m = cut(length, 65536);
+    let same = case_from(b, at, plus(at, 36), &mut path[0..n], &mut program[0..m]);
+    all(all(n == path_length, m == length), same)
 }
 
 // Where the next case begins.

@@ -10,6 +10,7 @@ ghost use mathlib.Core.Bool.{true};
 ghost use Prim.Native.Nat.{_*_, _≤_};
 ghost use lib.ListN.{length};
 use cases::Tally;
+use cases::all;
 use cases::cut;
 use cases::take;
 use check::same;
@@ -85,8 +86,10 @@ fn next_case(t: Tally) -> Tally {
     if !there {
         return cases::end(t);
     }
-    let n = NODE_SIZE * cut(half(&head, 4), 256);
-    let m = NODE_SIZE * cut(half(&head, 6), 1024);
+    let nodes = half(&head, 4);
+    let size = half(&head, 6);
+    let n = NODE_SIZE * cut(nodes, 256);
+    let m = NODE_SIZE * cut(size, 1024);
     let mut f = [0u8; 4096];
     let mut tree = [0u8; 16384];
     let mut out = [255u8; 16384];
@@ -97,7 +100,8 @@ fn next_case(t: Tally) -> Tally {
         state: head[2] == 1,
     };
     let right = compare(&f, n, by, head[0], &tree, m, &mut out);
-    cases::counted(t, right, 0)
+    let fits = all(nodes <= 256, size <= 1024);
+    cases::counted(t, all(fits, right), 0)
 }
 
 fn main() {

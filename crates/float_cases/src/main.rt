@@ -6,6 +6,7 @@
 // numbers. The arguments are zeros, subnormals, infinities, NaNs, ends of range, neighbours of squares and of
 // half way cases, negative multiples and remainders too small to move b, and random bits.
 use cases::Tally;
+use cases::all;
 use cases::hex;
 
 fn truth(b: bool) -> u64 {
@@ -40,7 +41,8 @@ fn next_case(t: Tally) -> Tally {
     let a = hex(&record, 1, 17);
     let b = hex(&record, 17, 33);
     let c = hex(&record, 33, 49);
-    let right = outcome(record[0], a.value, b.value) == c.value;
+    let fine = all(a.fine, all(b.fine, c.fine));
+    let right = all(fine, outcome(record[0], a.value, b.value) == c.value);
     if !right {
         io::write_all(1, &record);
     }

@@ -199,9 +199,6 @@ module _ (b digits exp M r : ℕ) (B : b < infinity-bits) (D : digits * 2 ^ exp 
   pub root-small : r < 2 ^ 54
   root-small = root-lt (M * 2 ^ 54) r (2 ^ 54) R (omega arith)
 
-  pub bits-lt : k * 2 ^ 52 + (r + 1) / 2 < infinity-bits
-  bits-lt = let z = root-small in omega arith
-
   magnitude-pos : 0 < magnitude b
   magnitude-pos = first-pos (magnitude b) (2 ^ 52) (lt-of-lt-of-le (mul-pos (lt-of-lt-of-le (pow-pos 52) some) (pow-pos exp)) (le-of-eq D))
 

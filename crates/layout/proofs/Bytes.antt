@@ -1,21 +1,14 @@
 -- Little-endian numbers in lists of bytes: what is written is read again.
-use mathlib.Core.Path.{_≡_, refl, ap, sym, _∙_}
-use mathlib.Core.List.{List, [], _++_}
-use Prim.Native.Nat.{ℕ, zero, suc, _+_, _/_, _≤_, _<_}
+use mathlib.Core.Path.{_≡_, ap, sym, _∙_}
+use mathlib.Core.List.{List, _++_}
+use Prim.Native.Nat.{ℕ, _+_, _≤_, _<_}
 use native.Mathlib.Nat.{add-assoc, add-zero}
 use native.Mathlib.Omega.{arith}
 use lib.ListN.{length, length-append, List·getD-append}
 use lib.Seq.{getD-append-add}
 use Rattle.formula.specs.Text.{byte-at, half-at, little-endian, long-at, word-at}
 
-pub length-little-endian : (w n : ℕ) → length (little-endian w n) ≡ w
-length-little-endian zero n = refl
-length-little-endian (suc w) n = ap suc (length-little-endian w (n / 256))
-
 -- ---- a number at the head of a list
-
-pub head-byte : (n : ℕ) (rest : List ℕ) → n < 256 → byte-at (little-endian 1 n ++ rest) 0 ≡ n
-head-byte n rest h = omega arith
 
 pub head-half : (n : ℕ) (rest : List ℕ) → n < 65536 → half-at (little-endian 2 n ++ rest) 0 ≡ n
 unfolding half-at
@@ -28,32 +21,6 @@ head-word n rest h = omega arith
 pub head-long : (n : ℕ) (rest : List ℕ) → n < 18446744073709551616 → long-at (little-endian 8 n ++ rest) 0 ≡ n
 unfolding long-at word-at half-at
 head-long n rest h = omega arith
-
--- ---- numbers of bytes
-
-module _ (b : List ℕ) (bytes : (i : ℕ) → byte-at b i < 256) (at : ℕ) where
-  pub half-below : half-at b at < 65536
-  unfolding half-at
-  half-below = omega (arith, bytes at, bytes (at + 1))
-
-  pub word-below : word-at b at < 4294967296
-  unfolding word-at half-at
-  word-below = omega (arith, bytes at, bytes (at + 1), bytes (at + 2), bytes (at + 2 + 1))
-
-  pub long-below : long-at b at < 18446744073709551616
-  unfolding long-at word-at half-at
-  long-below =
-      omega (
-        arith,
-        bytes at,
-        bytes (at + 1),
-        bytes (at + 2),
-        bytes (at + 2 + 1),
-        bytes (at + 4),
-        bytes (at + 4 + 1),
-        bytes (at + 4 + 2),
-        bytes (at + 4 + 2 + 1),
-      )
 
 -- ---- a number behind other bytes
 
@@ -153,22 +120,3 @@ module _ (b : List ℕ) (at : ℕ) (u v w x y z : List ℕ) (i j k l m : ℕ) (v
   holds-seven t n tn h =
       let uz : length (u ++ v ++ w ++ x ++ y ++ z) ≡ length u + length v + length w + length x + length y + length z = simp length-append in
       (holds-six (holds-left b at (u ++ v ++ w ++ x ++ y ++ z) t h), holds-right b at (u ++ v ++ w ++ x ++ y ++ z) t n (omega arith) h)
-
--- ---- a number in the midst of a list
-
-module _ (a rest : List ℕ) (n : ℕ) where
-  pub byte-there : n < 256 → byte-at (a ++ little-endian 1 n ++ rest) (length a) ≡ n
-  byte-there h =
-      holds-byte _ (length a) (little-endian 1 n) (holds-here a (little-endian 1 n) rest) 0 (length a) (omega arith) (omega arith) ∙ head-byte n [] h
-
-  pub half-there : n < 65536 → half-at (a ++ little-endian 2 n ++ rest) (length a) ≡ n
-  half-there h =
-      holds-half _ (length a) (little-endian 2 n) (holds-here a (little-endian 2 n) rest) 0 (length a) (omega arith) (omega arith) ∙ head-half n [] h
-
-  pub word-there : n < 4294967296 → word-at (a ++ little-endian 4 n ++ rest) (length a) ≡ n
-  word-there h =
-      holds-word _ (length a) (little-endian 4 n) (holds-here a (little-endian 4 n) rest) 0 (length a) (omega arith) (omega arith) ∙ head-word n [] h
-
-  pub long-there : n < 18446744073709551616 → long-at (a ++ little-endian 8 n ++ rest) (length a) ≡ n
-  long-there h =
-      holds-long _ (length a) (little-endian 8 n) (holds-here a (little-endian 8 n) rest) 0 (length a) (omega arith) (omega arith) ∙ head-long n [] h

@@ -13,7 +13,7 @@ use Rattle.formula.specs.Term.{Term, Terms, _and_, apply, branch, branch-term, 
 use Rattle.machine.specs.Check.{Context}
 use Rattle.machine.specs.Lower.{instruction-count, instruction-counts, register-count, register-counts, result-registers}
 use Rattle.layout.specs.Opcode.{listing}
-use Rattle.layout.specs.Image.{below, below-all, entries, entry-count, entry-counts, header, image, lists, lists-all, operation-slot, own-entries, path-count, path-counts, path-record, slots, slots-all}
+use Rattle.layout.specs.Image.{below, below-all, entries, entry-count, entry-counts, image, lists, lists-all, operation-slot, own-entries, path-count, path-counts, path-record, slots, slots-all}
 
 length-cond : (c : Bool) (a b : List ℕ) (n : ℕ) → length a ≡ n → length b ≡ n → length (cond c a b) ≡ n
 length-cond true a b n h l = h
@@ -52,9 +52,6 @@ mutual
   length-slots-all (t and ts) k q r n e =
       simp length-append
       (omega (arith, length-slots t q (suc q) r n e, length-slots-all ts k (q + path-count t) (r + register-count t) (n + instruction-count t) (e + entry-count t)))
-
-pub length-path-record : (k : ℕ) (p : Path) → length (path-record k p) ≡ 12
-length-path-record k p = refl
 
 length-six : (a b c d e f : List ℕ) → length (a ++ b ++ c ++ d ++ e ++ f) ≡ length a + length b + length c + length d + length e + length f
 length-six a b c d e f = simp length-append
@@ -120,9 +117,6 @@ mutual
   pub length-lists-all : (ts : Terms) (r : ℕ) → length (lists-all ts r) ≡ 4 * entry-counts ts
   length-lists-all end r = refl
   length-lists-all (t and ts) r = simp length-append (omega (arith, length-lists t r, length-lists-all ts (r + register-count t)))
-
-pub length-header : (C : Context) (t : Term) → length (header C t) ≡ 32
-length-header C t = refl
 
 pub length-image : (C : Context) (f : Formula)
     → length (image C f) ≡ 32 + 24 * instruction-count (term f) + 12 * path-count (term f) + 4 * entry-count (term f)

@@ -303,10 +303,6 @@ small-image C f nodes known = omega (arith, bounds f)
 
 module _ (C : Context) (f : Formula) (rest : List ℕ) (ok : fault C (term f) root ≡ none) (nodes : size f ≤ 16384) (literals : Literals (term f))
     (known : length (C .symbols) ≤ 256) (short : 17 * longest-path (term f) ≤ 8188) where
-  pub image-well-formed : well-formed (image C f ++ rest) ≡ true
-  image-well-formed =
-      written-well-formed (image C f ++ rest) C (term f) (written C f rest) (small-image C f nodes known) ok literals (narrow f (omega arith)) short
-
   pub read-back : program-at (image C f ++ rest) ≡ program C (term f)
   read-back = written-program (image C f ++ rest) C (term f) (written C f rest) (small-image C f nodes known) ok literals (narrow f (omega arith)) short
 

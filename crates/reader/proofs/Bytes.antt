@@ -1,10 +1,10 @@
 -- Little-endian numbers: what is written is read again, and what is read is written again.
 use mathlib.Core.Path.{_≡_, refl, sym, ap, _∙_}
 use mathlib.Core.List.{List, [], _∷_, _++_}
-use Prim.Native.Nat.{ℕ, zero, suc, _+_, _-_, _*_, _/_, _%_, _≤_, _<_}
+use Prim.Native.Nat.{ℕ, zero, suc, _+_, _*_, _/_, _%_, _≤_, _<_}
 use native.Mathlib.Omega.{arith}
-use lib.ListN.{length, getD, take, drop, length-append, List·getD-append, length-drop}
-use lib.Seq.{getD-append-add, getD-take, getD-drop, ext-getD, length-take-le, drop-cons}
+use lib.ListN.{length, getD, take, drop, length-append, List·getD-append}
+use lib.Seq.{getD-append-add, drop-cons}
 use Rattle.formula.specs.Text.{half-at, word-at, long-at, little-endian}
 use Rattle.formula.specs.Node.{Fields, fields-at, node-bytes, node-size}
 
@@ -37,21 +37,6 @@ shows-second b at at' xs ys e s =
           ∙ s .each (length xs + k) (omega (arith, length-append xs ys))
           ∙ getD-append-add xs ys k 0;
     }
-
--- bytes that were copied from somewhere show there
-pub shows-part : (b : List ℕ) (at : ℕ) (xs : List ℕ) → at + length xs ≤ length b → take (length xs) (drop at b) ≡ xs → Shows b at xs
-shows-part b at xs h e =
-    record {
-      inside = h;
-      each = λ k l.
-          sym (ap (λ (ys : List ℕ). getD ys k 0) (sym e) ∙ getD-take (length xs) (drop at b) k 0 l ∙ getD-drop at b k 0);
-    }
-
-pub shows-is : (b : List ℕ) (at : ℕ) (xs : List ℕ) → Shows b at xs → xs ≡ take (length xs) (drop at b)
-shows-is b at xs s =
-    let l : length (take (length xs) (drop at b)) ≡ length xs = length-take-le (length xs) (drop at b) (omega (arith, length-drop at b, s .inside)) in
-    ext-getD 0 xs (take (length xs) (drop at b)) (sym l)
-    (λ k h. sym (getD-take (length xs) (drop at b) k 0 h ∙ getD-drop at b k 0 ∙ s .each k h))
 
 -- ---- numbers that fit
 

@@ -134,7 +134,8 @@ fn formula_case(line: &[u8], work: &mut [u8]) -> bool {
     let at = after_space(line, 0);
     let n = unhex(&line[at..], work);
     let m = judged(&work[0..n]);
-    same_marks(line, m)
+    let d = cases::hex(line, at, line.len());
+    cases::all(d.fine, same_marks(line, m))
 }
 
 fn repeated_case(line: &[u8], work: &mut [u8]) -> bool {
@@ -147,7 +148,8 @@ fn repeated_case(line: &[u8], work: &mut [u8]) -> bool {
     let k = unhex(&line[at..], &mut nodes);
     let n = repeated(&nodes[0..k], first, last, work);
     let m = judged(&work[0..n]);
-    same_marks(line, m)
+    let d = cases::hex(line, at, line.len());
+    cases::all(d.fine, same_marks(line, m))
 }
 
 // The kind i as recorded: a digit from the third byte of the line on, and zero past the count.

@@ -6,6 +6,7 @@
 // in bytes, the numbers of inputs, registers and calls, then those bytes, inputs and registers. A call has 14 cells, the
 // text that the path slice begins with, and the registers after it.
 use cases::Tally;
+use cases::all;
 use cases::cell;
 use cases::cut;
 use cases::fill;
@@ -106,13 +107,14 @@ fn one_call(
     inputs: &[f64],
     regs: &mut [f64],
     path: &mut [u8],
+    fits: bool,
 ) -> Replayed {
     let at = before.at;
     let state = before.state;
     let tally = before.tally;
     fill(path);
     let r = call(b, at, p, inputs, regs, path, state);
-    let t = cases::counted(tally, same_call(b, at, regs, path, r), 0);
+    let t = cases::counted(tally, all(fits, same_call(b, at, regs, path, r)), 0);
     let after = r.state;
     Replayed {
         at: plus(plus(at, 15), plus(size(b, plus(at, 13)) / 8, regs.len())),
@@ -123,8 +125,17 @@ fn one_call(
 
 fn with_path(b: &[u8], before: Replayed, p: &[u8], inputs: &[f64], regs: &mut [f64]) -> Replayed {
     let mut path = [0u8; 8200];
-    let room = cut(size(b, plus(before.at, 1)), 8200);
-    one_call(b, before, p, inputs, regs, &mut path[0..room])
+    let length = size(b, plus(before.at, 1));
+    let room = cut(length, 8200);
+    one_call(
+        b,
+        before,
+        p,
+        inputs,
+        regs,
+        &mut path[0..room],
+        room == length,
+    )
 }
 
 fn replay(
@@ -157,6 +168,14 @@ fn calls_at(b: &[u8], at: usize) -> usize {
     plus(registers_at(b, at), size(b, plus(at, 2)))
 }
 
+// A list that asks for more than 64 inputs or registers counts as a call that came out otherwise.
+fn checked(b: &[u8], at: usize, t: Tally) -> Tally {
+    if size(b, plus(at, 1)) <= 64 && size(b, plus(at, 2)) <= 64 {
+        return t;
+    }
+    cases::counted(t, false, 0)
+}
+
 // A list whose inputs and registers are in the beginnings of the slices.
 fn list_in(b: &[u8], at: usize, t: Tally, inputs: &[f64], regs: &mut [f64]) -> Replayed {
     let n = cut(size(b, plus(at, 1)), inputs.len());
@@ -185,7 +204,7 @@ fn list(b: &[u8], at: usize, t: Tally) -> Replayed {
     let mut regs = [0.0; 64];
     read_values(b, inputs_at(b, at), &mut inputs);
     read_values(b, registers_at(b, at), &mut regs);
-    list_in(b, at, t, &inputs, &mut regs)
+    list_in(b, at, checked(b, at, t), &inputs, &mut regs)
 }
 
 fn all_lists(b: &[u8], lists: usize) -> Tally {
