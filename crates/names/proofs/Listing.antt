@@ -3,7 +3,7 @@ use mathlib.Core.Path.{_≡_, refl, sym, ap, _∙_, subst}
 use mathlib.Core.Bool.{Bool, true, false, cond, not, _&&_, _||_, and-false}
 use mathlib.Core.List.{List, [], _∷_, _++_, map, append-assoc}
 use mathlib.Core.Option.{Option, none, some}
-use Prim.Native.Nat.{ℕ, zero, suc, _+_, _-_, _≤_, _<_}
+use Prim.Native.Nat.{ℕ, zero, suc, _+_, _-_, _%_, _≤_, _<_}
 use native.Mathlib.Omega.{arith}
 use lib.ListN.{length, getD, take, drop, set, length-append, length-drop, length-set, take-append-drop, List·getD-append}
 use lib.Seq.{drop-cons, drop-drop, take-all, take-at, take-suc, take-length, getD-take, getD-drop, getD-at, getD-set-same, getD-set-other, length-take-le, set-at}
@@ -11,12 +11,13 @@ use lib.Dec.{eqb, leb}
 use borrow.Author.Tests.{eqb-true, eqb-false, ne-eqb, eq-eqb, le-leb, lt-leb}
 use Rattle.formula.specs.Text.{same-bytes, all, split, joined, all-some, zeros}
 use Rattle.formula.specs.Names.{Symbol, symbol-of, unlike, none-twice, table, symbols-of, kinds}
-use Rattle.names.specs.Lines.{Ends, entry, free, kind-number, Listed, mark, Marked, names-of, part, prefixed, repeats}
+use Rattle.names.specs.Lines.{Ends, entry, free, kind-number, Listed, mark, Marked, Placed, names-of, part, prefixed, repeats}
 use Rattle.names.specs.declared.Entry.{Entry}
 use Rattle.names.specs.declared.Entry.the-variants.{Named, NoEntry}
 use Rattle.names.specs.declared.Names.{Names}
 use Rattle.names.proofs.Splits.{no-true, and-both, and-first, and-second, free-from, split-end, split-next, prefixed-start, prefixed-more, prefixed-none, prefixed-some}
 use Rattle.names.proofs.Entries.{formed, part-front}
+use Rattle.names.proofs.Marks.{placed-stays}
 use Rattle.formula.proofs.Tests.{or-none}
 
 abbrev pub part-symbol : List ℕ → Option Symbol
@@ -403,6 +404,17 @@ module _ (line starts lengths ks : List ℕ) (count at end : ℕ) (g : Listing l
           ∙ h i b
           ∙ ap (λ (x : ℕ). mark (take x (drop (getD starts i 0) line))) (sym (length-other i b))
           ∙ ap (λ (x : ℕ). mark (take (getD (set lengths count n) i 0) (drop x line))) (sym (start-other i b)))
+
+pub placed-more : (marks taken : List ℕ) (count m : ℕ) → count < length marks → length taken ≡ 1024 → Placed marks taken count
+    → Placed (set marks count m) (set taken (m % 1024) 1) (count + 1)
+placed-more marks taken count m l lt h j =
+    let i = m % 1024 in
+    let s = set taken i 1 in
+    stored-by (eqb j count) (λ (k : ℕ). getD s (getD (set marks count m) k 0 % 1024) 0 ≡ 1) j count refl
+    (ap (λ (y : ℕ). getD s (y % 1024) 0) (getD-set-same marks count m 0 l) ∙ getD-set-same taken i 1 0 (omega arith))
+    (λ k b.
+    ap (λ (y : ℕ). getD s (y % 1024) 0) (getD-set-other marks count k m 0 (λ z. omega arith))
+    ∙ placed-stays taken i (getD marks k 0 % 1024) (omega arith) (h k b))
 
 -- ---- the names before, from the last one down
 

@@ -95,6 +95,10 @@ mark xs = mark-from 0 xs
 abbrev pub Marked : List ℕ → List ℕ → List ℕ → List ℕ → ℕ → Type 0
 Marked line starts lengths marks count = (k : ℕ) → k < count → getD marks k 0 ≡ mark (take (getD lengths k 0) (drop (getD starts k 0) line))
 
+-- the first k marks have taken their places in a table of 1024
+abbrev pub Placed : List ℕ → List ℕ → ℕ → Type 0
+Placed marks taken count = (k : ℕ) → k < count → getD taken (getD marks k 0 % 1024) 0 ≡ 1
+
 -- the table of a name line, or of none: refusal 3
 abbrev pub names-of : Option (List Symbol) → Names
 names-of none = record { ok = false; count = 0; kinds = zeros 256 }

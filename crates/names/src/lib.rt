@@ -5,7 +5,7 @@ ghost use lib.ListN.{length, take, drop};
 ghost use Rattle.formula.specs.Text.{same-bytes, split, zeros};
 ghost use Rattle.formula.specs.Names.{is-letter, is-digit, is-name, kind-of, symbol-of, symbols-of};
 ghost use Rattle.formula.specs.Values.{digit-of, hex as hex-text};
-ghost use Rattle.names.specs.Lines.{place, kind-place, part, Ends, entry, repeats, Listed, Marked, mark, names-of};
+ghost use Rattle.names.specs.Lines.{place, kind-place, part, Ends, entry, repeats, Listed, Marked, Placed, mark, names-of};
 
 // ---- Digits of values: "each value is 16 lower-case hexadecimal digits, the bits of an f64, joined by commas."
 
@@ -223,6 +223,27 @@ fn is_repeated(
     false
 }
 
+// The same, with a table of the places that the marks before have taken: where the place of x is free, no name before has its mark.
+fn comes_again(
+    line: &[u8],
+    starts: &[usize; 256],
+    lengths: &[usize; 256],
+    marks: &[usize; 256],
+    taken: &[u8; 1024],
+    count: usize,
+    at: usize,
+    n: usize,
+    x: usize,
+) -> bool
+    requires { ⌜ (count ≤ 256) × (at + n ≤ length (now line)) × Listed (now line) (now starts) (now lengths) count × Marked (now line) (now starts) (now lengths) (now marks) count × (x ≡ mark (take n (drop at (now line)))) × Placed (now marks) (now taken) count ⌝ }
+    ensures { λ r. ⌜ r ≡ repeats (now (line .entry)) (now (starts .entry)) (now (lengths .entry)) (take n (drop at (now (line .entry)))) count ⌝ }
+{
+    if taken[x % 1024] == 0 {
+        return false;
+    }
+    is_repeated(line, starts, lengths, marks, count, at, n, x)
+}
+
 // The names of a line: how many there are, and the kind of each, 0 parameter, 1 state, 2 time, 3 input; zeros after them.
 pub struct Names {
     pub ok: bool,
@@ -248,6 +269,7 @@ pub fn read_names(line: &[u8]) -> Names
     let mut starts = [0usize; 256];
     let mut lengths = [0usize; 256];
     let mut marks = [0usize; 256];
+    let mut taken = [0u8; 1024];
     let mut kinds = [0u8; 256];
     if line.len() == 0 {
         return Names {
@@ -268,13 +290,14 @@ pub fn read_names(line: &[u8]) -> Names
             return no_names();
         }
         let x = mark_of(line, at, n);
-        let again = is_repeated(line, &starts, &lengths, &marks, count, at, n, x);
+        let again = comes_again(line, &starts, &lengths, &marks, &taken, count, at, n, x);
         if again {
             return no_names();
         }
         starts[count] = at;
         lengths[count] = n;
         marks[count] = x;
+        taken[x % 1024] = 1;
         kinds[count] = kind;
         count += 1;
         if end == line.len() {

@@ -1,25 +1,25 @@
 use Rattle.names.proofs.read_names.Statement.{statement}
 use Rattle.names.proofs.read_names.Tie as tie
 use mathlib.Core.Path.{_≡_, refl, _∙_}
-use Prim.Native.Nat.{_-_}
-use Rattle.names.specs.Lines.{Marked}
+use Prim.Native.Nat.{_-_, _%_}
+use Rattle.names.specs.Lines.{Marked, Placed}
 use native.Mathlib.Omega.{arith}
 use borrow.Author.Needs.{needs}
 use lib.ListN.{length, length-set}
-use Rattle.names.proofs.Listing.{Listing, found, listing-start, listing-empty, no-entry, too-many, repeated, listing-done, listing-more, marked-more}
+use Rattle.names.proofs.Listing.{Listing, found, listing-start, listing-empty, no-entry, too-many, repeated, listing-done, listing-more, marked-more, placed-more}
 
 abbrev Inv-loop : tie.InvT-loop
-Inv-loop line starts₀ lengths₀ marks₀ kinds₀ count₀ at₀ starts lengths marks kinds count at =
-    Listing line starts lengths kinds count at × (length marks ≡ 256) × Marked line starts lengths marks count
+Inv-loop line starts₀ lengths₀ marks₀ taken₀ kinds₀ count₀ at₀ starts lengths marks taken kinds count at =
+    Listing line starts lengths kinds count at × (length marks ≡ 256) × Marked line starts lengths marks count × (length taken ≡ 1024) × Placed marks taken count
 
 abbrev μ-loop : tie.MeasureT-loop
-μ-loop line starts₀ lengths₀ marks₀ kinds₀ count₀ at₀ starts lengths marks kinds count at = length line - at
+μ-loop line starts₀ lengths₀ marks₀ taken₀ kinds₀ count₀ at₀ starts lengths marks taken kinds count at = length line - at
 
 returns : tie.Need-returns Inv-loop μ-loop
 returns c = listing-empty (c .before .before .args .line .now) _ (c .if1 .taken) refl
 
 loop-holds : tie.Need-loop-holds Inv-loop μ-loop
-loop-holds c = (listing-start (c .before .before .args .line .now) _ _ _ (c .if1 .left) refl refl refl, refl, λ k l. absurd (omega arith))
+loop-holds c = (listing-start (c .before .before .args .line .now) _ _ _ (c .if1 .left) refl refl refl, refl, λ k l. absurd (omega arith), refl, λ k l. absurd (omega arith))
 
 entry-end-requires : tie.Need-entry-end-requires Inv-loop μ-loop
 entry-end-requires c κs = c .loop .inv .0 .inside
@@ -73,20 +73,21 @@ mark-of-requires c κs =
     found (args .line .now) (loop .at) (entry-end .result) (found′ .given .0 .0) (found′ .given .0 .1 .0) (entry-at .result) (entry-end .ensures)
     (entry-at .ensures) (found′ .given .1) .inside
 
-is-repeated-requires : tie.Need-is-repeated-requires Inv-loop μ-loop
-is-repeated-requires c κs =
-    let args = c .before .before .before .before .before .before .before .before .before .before .before .before .before .args in
-    let loop = c .before .before .before .before .before .before .before .before .before .before .loop in
-    let entry-end = c .before .before .before .before .before .before .before .before .before .entry-end in
-    let entry-at = c .before .before .before .before .before .before .before .before .entry-at in
-    let found′ = c .before .before .before .before .before .before .found in
-    let mark-of = c .before .before .before .mark-of in (
+comes-again-requires : tie.Need-comes-again-requires Inv-loop μ-loop
+comes-again-requires c κs =
+    let args = c .before .before .before .before .before .before .before .before .before .before .before .before .before .before .args in
+    let loop = c .before .before .before .before .before .before .before .before .before .before .before .loop in
+    let entry-end = c .before .before .before .before .before .before .before .before .before .before .entry-end in
+    let entry-at = c .before .before .before .before .before .before .before .before .before .entry-at in
+    let found′ = c .before .before .before .before .before .before .before .found in
+    let mark-of = c .before .before .before .before .mark-of in (
       loop .inv .0 .few,
       found (args .line .now) (loop .at) (entry-end .result) (found′ .given .0 .0) (found′ .given .0 .1 .0) (entry-at .result) (entry-end .ensures)
           (entry-at .ensures) (found′ .given .1) .inside,
       loop .inv .0 .listed,
       loop .inv .2,
       mark-of .ensures,
+      loop .inv .4,
     )
 
 no-names-requires-3 : tie.Need-no-names-requires-3 Inv-loop μ-loop
@@ -94,100 +95,105 @@ no-names-requires-3 c κs = tt
 
 returns-4 : tie.Need-returns-4 Inv-loop μ-loop
 returns-4 c =
-    let args = c .before .before .before .before .before .before .before .before .before .before .before .before .before .before .before .before .args in
-    let loop = c .before .before .before .before .before .before .before .before .before .before .before .before .before .loop in
-    let entry-end = c .before .before .before .before .before .before .before .before .before .before .before .before .entry-end in
-    let entry-at = c .before .before .before .before .before .before .before .before .before .before .before .entry-at in
-    let found′ = c .before .before .before .before .before .before .before .before .before .found in
-    let is-repeated = c .before .before .is-repeated in
+    let args = c .before .before .before .before .before .before .before .before .before .before .before .before .before .before .before .before .before .args in
+    let loop = c .before .before .before .before .before .before .before .before .before .before .before .before .before .before .loop in
+    let entry-end = c .before .before .before .before .before .before .before .before .before .before .before .before .before .entry-end in
+    let entry-at = c .before .before .before .before .before .before .before .before .before .before .before .before .entry-at in
+    let found′ = c .before .before .before .before .before .before .before .before .before .before .found in
+    let comes-again = c .before .before .comes-again in
     c .no-names3 .ensures
     ∙ repeated (args .line .now) (loop .starts) (loop .lengths) (loop .kinds) (loop .count) (loop .at) (entry-end .result) (loop .inv .0)
     (entry-end .ensures) (found′ .given .0 .0) (found′ .given .0 .1 .0)
     (found (args .line .now) (loop .at) (entry-end .result) (found′ .given .0 .0) (found′ .given .0 .1 .0) (entry-at .result) (entry-end .ensures)
     (entry-at .ensures) (found′ .given .1))
-    (is-repeated .result) (is-repeated .ensures) (c .before .if3 .taken)
+    (comes-again .result) (comes-again .ensures) (c .before .if3 .taken)
 
 mul-starts : tie.Need-mul-starts Inv-loop μ-loop
-mul-starts c = omega (arith, c .before .before .before .before .before .before .before .before .before .before .before .before .loop .inv .0 .few)
+mul-starts c = omega (arith, c .before .before .before .before .before .before .before .before .before .before .before .before .before .loop .inv .0 .few)
 
 array-write-starts : tie.Need-array-write-starts Inv-loop μ-loop
 array-write-starts c =
-    let loop = c .before .before .before .before .before .before .before .before .before .before .before .before .loop in
-    let if2 = c .before .before .before .before .before .before .if2 in
+    let loop = c .before .before .before .before .before .before .before .before .before .before .before .before .before .loop in
+    let if2 = c .before .before .before .before .before .before .before .if2 in
     omega (arith, loop .inv .0 .few, if2 .left)
 
 mul-lengths : tie.Need-mul-lengths Inv-loop μ-loop
-mul-lengths c = omega (arith, c .before .before .before .before .before .before .before .before .before .before .before .before .loop .inv .0 .few)
+mul-lengths c = omega (arith, c .before .before .before .before .before .before .before .before .before .before .before .before .before .loop .inv .0 .few)
 
 array-write-lengths : tie.Need-array-write-lengths Inv-loop μ-loop
 array-write-lengths c =
-    let loop = c .before .before .before .before .before .before .before .before .before .before .before .before .loop in
-    let if2 = c .before .before .before .before .before .before .if2 in
+    let loop = c .before .before .before .before .before .before .before .before .before .before .before .before .before .loop in
+    let if2 = c .before .before .before .before .before .before .before .if2 in
     omega (arith, loop .inv .0 .few, if2 .left)
 
 mul-marks : tie.Need-mul-marks Inv-loop μ-loop
-mul-marks c = omega (arith, c .before .before .before .before .before .before .before .before .before .before .before .before .loop .inv .0 .few)
+mul-marks c = omega (arith, c .before .before .before .before .before .before .before .before .before .before .before .before .before .loop .inv .0 .few)
 
 array-write-marks : tie.Need-array-write-marks Inv-loop μ-loop
 array-write-marks c =
-    let loop = c .before .before .before .before .before .before .before .before .before .before .before .before .loop in
-    let if2 = c .before .before .before .before .before .before .if2 in
+    let loop = c .before .before .before .before .before .before .before .before .before .before .before .before .before .loop in
+    let if2 = c .before .before .before .before .before .before .before .if2 in
     omega (arith, loop .inv .0 .few, if2 .left)
+
+array-write-taken : tie.Need-array-write-taken Inv-loop μ-loop
+array-write-taken c = omega arith
 
 array-write-kinds : tie.Need-array-write-kinds Inv-loop μ-loop
 array-write-kinds c =
-    let loop = c .before .before .before .before .before .before .before .before .before .before .before .before .loop in
-    let if2 = c .before .before .before .before .before .before .if2 in
+    let loop = c .before .before .before .before .before .before .before .before .before .before .before .before .before .loop in
+    let if2 = c .before .before .before .before .before .before .before .if2 in
     omega (arith, loop .inv .0 .few, if2 .left)
 
 add-count : tie.Need-add-count Inv-loop μ-loop
-add-count c = omega (arith, c .before .before .before .before .before .before .before .before .before .before .before .before .loop .inv .0 .few)
+add-count c = omega (arith, c .before .before .before .before .before .before .before .before .before .before .before .before .before .loop .inv .0 .few)
 
 returns-5 : tie.Need-returns-5 Inv-loop μ-loop
 returns-5 c =
-    let args = c .before .before .before .before .before .before .before .before .before .before .before .before .before .before .before .before .args in
-    let loop = c .before .before .before .before .before .before .before .before .before .before .before .before .before .loop in
-    let entry-end = c .before .before .before .before .before .before .before .before .before .before .before .before .entry-end in
-    let entry-at = c .before .before .before .before .before .before .before .before .before .before .before .entry-at in
-    let found′ = c .before .before .before .before .before .before .before .before .before .found in
-    let if2 = c .before .before .before .before .before .before .before .if2 in
-    let is-repeated = c .before .before .is-repeated in
+    let args = c .before .before .before .before .before .before .before .before .before .before .before .before .before .before .before .before .before .args in
+    let loop = c .before .before .before .before .before .before .before .before .before .before .before .before .before .before .loop in
+    let entry-end = c .before .before .before .before .before .before .before .before .before .before .before .before .before .entry-end in
+    let entry-at = c .before .before .before .before .before .before .before .before .before .before .before .before .entry-at in
+    let found′ = c .before .before .before .before .before .before .before .before .before .before .found in
+    let if2 = c .before .before .before .before .before .before .before .before .if2 in
+    let comes-again = c .before .before .comes-again in
     listing-done (args .line .now) (loop .starts) (loop .lengths) (loop .kinds) (loop .count) (loop .at) (entry-end .result) (loop .inv .0)
     (entry-end .ensures) (found′ .given .0 .0) (found′ .given .0 .1 .0)
     (found (args .line .now) (loop .at) (entry-end .result) (found′ .given .0 .0) (found′ .given .0 .1 .0) (entry-at .result) (entry-end .ensures)
     (entry-at .ensures) (found′ .given .1))
-    (is-repeated .result) (is-repeated .ensures) (c .before .if3 .left) (if2 .left) (c .if4 .taken)
+    (comes-again .result) (comes-again .ensures) (c .before .if3 .left) (if2 .left) (c .if4 .taken)
 
 add-at : tie.Need-add-at Inv-loop μ-loop
 add-at c =
-    let good = c .before .before .before .before .before .before .before .before .before .before .before .before .before .before .before .before .good in
-    let entry-end = c .before .before .before .before .before .before .before .before .before .before .before .before .entry-end in
+    let good = c .before .before .before .before .before .before .before .before .before .before .before .before .before .before .before .before .before .good in
+    let entry-end = c .before .before .before .before .before .before .before .before .before .before .before .before .before .entry-end in
     omega (arith, entry-end .ensures .inside, good .0 .0)
 
 loop-less : tie.Need-loop-less Inv-loop μ-loop
-loop-less c = let u = c .before .before .before .before .before .before .before .before .before .before .before .before .entry-end .ensures in omega (arith, u .from, u .inside, c .if4 .left)
+loop-less c = let u = c .before .before .before .before .before .before .before .before .before .before .before .before .before .entry-end .ensures in omega (arith, u .from, u .inside, c .if4 .left)
 
 loop-again : tie.Need-loop-again Inv-loop μ-loop
 loop-again c =
-    let args = c .before .before .before .before .before .before .before .before .before .before .before .before .before .before .before .before .args in
-    let loop = c .before .before .before .before .before .before .before .before .before .before .before .before .before .loop in
-    let entry-end = c .before .before .before .before .before .before .before .before .before .before .before .before .entry-end in
-    let entry-at = c .before .before .before .before .before .before .before .before .before .before .before .entry-at in
-    let found′ = c .before .before .before .before .before .before .before .before .before .found in
-    let if2 = c .before .before .before .before .before .before .before .if2 in
-    let mark-of = c .before .before .before .before .before .before .mark-of in
-    let is-repeated = c .before .before .is-repeated in
+    let args = c .before .before .before .before .before .before .before .before .before .before .before .before .before .before .before .before .before .args in
+    let loop = c .before .before .before .before .before .before .before .before .before .before .before .before .before .before .loop in
+    let entry-end = c .before .before .before .before .before .before .before .before .before .before .before .before .before .entry-end in
+    let entry-at = c .before .before .before .before .before .before .before .before .before .before .before .before .entry-at in
+    let found′ = c .before .before .before .before .before .before .before .before .before .before .found in
+    let if2 = c .before .before .before .before .before .before .before .before .if2 in
+    let mark-of = c .before .before .before .before .before .before .before .mark-of in
+    let comes-again = c .before .before .comes-again in
     let if3 = c .before .if3 in
     let the-found =
     found (args .line .now) (loop .at) (entry-end .result) (found′ .given .0 .0) (found′ .given .0 .1 .0) (entry-at .result) (entry-end .ensures)
     (entry-at .ensures) (found′ .given .1) in (
       listing-more (args .line .now) (loop .starts) (loop .lengths) (loop .kinds) (loop .count) (loop .at) (entry-end .result) (loop .inv .0)
-          (entry-end .ensures) (found′ .given .0 .0) (found′ .given .0 .1 .0) the-found (is-repeated .result) (is-repeated .ensures) (if3 .left) (if2 .left)
+          (entry-end .ensures) (found′ .given .0 .0) (found′ .given .0 .1 .0) the-found (comes-again .result) (comes-again .ensures) (if3 .left) (if2 .left)
           (c .if4 .left),
       length-set (loop .marks) (loop .count) (mark-of .result) ∙ loop .inv .1,
       marked-more (args .line .now) (loop .starts) (loop .lengths) (loop .kinds) (loop .count) (loop .at) (entry-end .result) (loop .inv .0)
-          (entry-end .ensures) (found′ .given .0 .0) (found′ .given .0 .1 .0) the-found (is-repeated .result) (is-repeated .ensures) (if3 .left) (if2 .left)
+          (entry-end .ensures) (found′ .given .0 .0) (found′ .given .0 .1 .0) the-found (comes-again .result) (comes-again .ensures) (if3 .left) (if2 .left)
           (loop .marks) (mark-of .result) (loop .inv .1) (loop .inv .2) (mark-of .ensures),
+      length-set (loop .taken) (mark-of .result % 1024) 1 ∙ loop .inv .3,
+      placed-more (loop .marks) (loop .taken) (loop .count) (mark-of .result) (omega (arith, loop .inv .0 .few, loop .inv .1, if2 .left)) (loop .inv .3) (loop .inv .4),
     )
 
 pub read-names-spec : {M : Type 1} → statement M
@@ -207,7 +213,7 @@ read-names-spec =
     no-names-requires-2
     returns-3
     mark-of-requires
-    is-repeated-requires
+    comes-again-requires
     no-names-requires-3
     returns-4
     mul-starts
@@ -216,6 +222,7 @@ read-names-spec =
     array-write-lengths
     mul-marks
     array-write-marks
+    array-write-taken
     array-write-kinds
     add-count
     returns-5
