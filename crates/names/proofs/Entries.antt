@@ -1,20 +1,19 @@
 -- A name with its kind.
-use mathlib.Core.Path.{_≡_, refl, sym, ap, _∙_}
+use mathlib.Core.Path.{_≡_, refl, sym, ap, _∙_, subst}
 use mathlib.Core.Bool.{Bool, true, false, cond, not, _&&_, _||_}
 use mathlib.Core.List.{List, [], _∷_, _++_}
 use mathlib.Core.Option.{Option, none, some}
-use Prim.Native.Nat.{ℕ, suc, _+_, _-_, _≤_, _<_}
+use Prim.Native.Nat.{ℕ, zero, suc, _+_, _-_, _≤_, _<_}
 use native.Mathlib.Omega.{arith}
 use lib.ListN.{length, getD, take, drop, length-append, length-drop, take-append-drop, drop-of-length-le}
 use lib.Seq.{drop-cons, take-take, take-at, getD-take, getD-drop, getD-append-add, getD-at, length-take-le}
-use lib.Dec.{eqb}
-use borrow.Author.Tests.{eqb-true, ne-eqb}
+use lib.Dec.{eqb, leb, ltb}
+use borrow.Author.Tests.{eqb-true, eqb-false, ne-eqb, leb-true, le-leb, ltb-true, ltb-false}
 use Rattle.formula.specs.Text.{parted, split, all}
 use Rattle.formula.specs.Names.{SymbolKind, Symbol, is-letter, is-digit, is-name, kind-of, named, symbol-of}
-use Rattle.names.specs.Lines.{entry, first-piece, free, kind-number, kind-place, part}
-use Rattle.names.specs.declared.Entry.the-variants.{Named, NoEntry}
+use Rattle.names.specs.Lines.{Ends, Letters, Tells, first-piece, free, kind-number, kind-place, part, symbol-place}
 use Rattle.names.proofs.Splits.{no-true, and-first, and-second, and-both, split-end, split-next, later-pieces, pieces}
-use Rattle.names.proofs.Letters.{letter-or-digit}
+use Rattle.names.proofs.Letters.{letter-or-digit, end-of}
 
 -- ---- pieces joined again
 
@@ -88,13 +87,48 @@ formed p s e =
     let ps = split 58 p in
     formed-by (eqb (length ps) 2 && is-name (getD ps 0 []) && eqb (length (getD ps 1 [])) 1) p ps s (rejoin 58 p) refl e
 
-unless : (o : Option Symbol) → ((s : Symbol) → o ≡ some s → ⊥) → NoEntry ≡ entry o
+unless : (o : Option Symbol) → ((s : Symbol) → o ≡ some s → ⊥) → 4 ≡ symbol-place o
 unless none h = refl
 unless (some s) h = absurd (h s refl)
 
 name-long : (xs : List ℕ) → is-name xs ≡ true → 1 ≤ length xs
 name-long [] e = absurd (no-true e)
 name-long (x ∷ xs) e = omega arith
+
+-- ---- the bytes of a name
+
+or-first : (a b : Bool) → a ≡ true → (a || b) ≡ true
+or-first a b e = ap (λ (x : Bool). x || b) e
+
+all-at : (xs : List ℕ) → all letter-or-digit xs ≡ true → (i : ℕ) → i < length xs → letter-or-digit (getD xs i 0) ≡ true
+all-at [] e i l = absurd (omega arith)
+all-at (x ∷ xs) e zero l = and-first (letter-or-digit x) (all letter-or-digit xs) e
+all-at (x ∷ xs) e (suc i) l = all-at xs (and-second (letter-or-digit x) (all letter-or-digit xs) e) i (omega arith)
+
+all-from : (xs : List ℕ) → ((i : ℕ) → i < length xs → letter-or-digit (getD xs i 0) ≡ true) → all letter-or-digit xs ≡ true
+all-from [] h = refl
+all-from (x ∷ xs) h = and-both (letter-or-digit x) (all letter-or-digit xs) (h 0 (omega arith)) (all-from xs (λ i l. h (suc i) (omega arith)))
+
+name-first : (xs : List ℕ) → is-name xs ≡ true → is-letter (getD xs 0 0) ≡ true
+name-first [] e = absurd (no-true e)
+name-first (x ∷ xs) e = and-first (is-letter x) (all letter-or-digit xs) (and-first (is-letter x && all letter-or-digit xs) (leb (length xs) 63) e)
+
+name-each : (xs : List ℕ) → is-name xs ≡ true → (i : ℕ) → i < length xs → letter-or-digit (getD xs i 0) ≡ true
+name-each [] e i l = absurd (no-true e)
+name-each (x ∷ xs) e zero l = or-first (is-letter x) (is-digit x) (name-first (x ∷ xs) e)
+name-each (x ∷ xs) e (suc i) l =
+    all-at xs (and-second (is-letter x) (all letter-or-digit xs) (and-first (is-letter x && all letter-or-digit xs) (leb (length xs) 63) e)) i (omega arith)
+
+name-short : (xs : List ℕ) → is-name xs ≡ true → length xs ≤ 64
+name-short [] e = omega arith
+name-short (x ∷ xs) e = let q = leb-true (length xs) 63 (and-second (is-letter x && all letter-or-digit xs) (leb (length xs) 63) e) in omega arith
+
+name-from : (xs : List ℕ) → 1 ≤ length xs → length xs ≤ 64 → is-letter (getD xs 0 0) ≡ true
+    → ((i : ℕ) → i < length xs → letter-or-digit (getD xs i 0) ≡ true) → is-name xs ≡ true
+name-from [] l m e h = absurd (omega arith)
+name-from (x ∷ xs) l m e h =
+    let a = all letter-or-digit xs in
+    and-both (is-letter x && a) (leb (length xs) 63) (and-both (is-letter x) a e (all-from xs (λ i k. h (suc i) (omega arith)))) (le-leb (length xs) 63 (omega arith))
 
 -- ---- a name has no `:`
 
@@ -106,9 +140,6 @@ all-free [] e = refl
 all-free (x ∷ xs) e =
     and-both (not (eqb x 58)) (free 58 xs) (no-colon x (and-first (letter-or-digit x) (all letter-or-digit xs) e))
     (all-free xs (and-second (letter-or-digit x) (all letter-or-digit xs) e))
-
-or-first : (a b : Bool) → a ≡ true → (a || b) ≡ true
-or-first a b e = ap (λ (x : Bool). x || b) e
 
 name-free : (xs : List ℕ) → is-name xs ≡ true → free 58 xs ≡ true
 name-free [] e = absurd (no-true e)
@@ -135,12 +166,10 @@ module _ (line : List ℕ) (at end : ℕ) (from : at ≤ end) (inside : end ≤ 
   unfolding part
   part-front n h = take-take n (end - at) (drop at line) h
 
-  pub too-short : end - at < 3 → NoEntry ≡ entry (symbol-of (split 58 (part line at end)))
-  too-short h =
-      unless (symbol-of (split 58 (part line at end)))
-      (λ s e.
+  long-enough : (s : Symbol) → symbol-of (split 58 (part line at end)) ≡ some s → 3 ≤ end - at
+  long-enough s e =
       let f = formed (part line at end) s e in
-      omega (arith, part-length, ap length (f .is), length-append (s .name) (58 ∷ f .byte ∷ []), name-long (s .name) (f .name)))
+      omega (arith, part-length, ap length (f .is), length-append (s .name) (58 ∷ f .byte ∷ []), name-long (s .name) (f .name))
 
   module _ (n : ℕ) (long : 3 ≤ end - at) (en : n ≡ end - at - 2) where
     record Taken (s : Symbol) : Type 0 where
@@ -168,27 +197,6 @@ module _ (line : List ℕ) (at end : ℕ) (from : at ≤ end) (inside : end ≤ 
               ap is-name (sym (part-front n (omega arith)) ∙ ap (take n) (f .is) ∙ take-at (s .name) (58 ∷ f .byte ∷ []) n l) ∙ f .name;
         }
 
-    pub no-colon-there : (getD line (at + n) 0 ≡ 58 → ⊥) → NoEntry ≡ entry (symbol-of (split 58 (part line at end)))
-    no-colon-there h = unless (symbol-of (split 58 (part line at end))) (λ s e. h (taken s e .colon))
-
-    place-four : (o : Option SymbolKind) (k : SymbolKind) → o ≡ some k → kind-place o ≡ 4 → ⊥
-    place-four none k e q = let z : _≡_ {A = ℕ} 0 1 = cc in omega arith
-    place-four (some j) k e q = kind-four j q
-      where
-        kind-four : (j : SymbolKind) → kind-number j ≡ 4 → ⊥
-        kind-four SymbolKind.Parameter q = omega arith
-        kind-four SymbolKind.State q = omega arith
-        kind-four SymbolKind.Time q = omega arith
-        kind-four SymbolKind.Input q = omega arith
-
-    pub no-kind-there : (r : ℕ) → r ≡ kind-place (kind-of (getD line (at + n + 1) 0)) → r ≡ 4 → NoEntry ≡ entry (symbol-of (split 58 (part line at end)))
-    no-kind-there r p q =
-        unless (symbol-of (split 58 (part line at end)))
-        (λ s e. place-four (kind-of (getD line (at + n + 1) 0)) (s .kind) (taken s e .byte) (sym p ∙ q))
-
-    pub no-name-there : is-name (take n (drop at line)) ≡ false → NoEntry ≡ entry (symbol-of (split 58 (part line at end)))
-    no-name-there h = unless (symbol-of (split 58 (part line at end))) (λ s e. no-true (sym h ∙ taken s e .name))
-
     whole-part : getD line (at + n) 0 ≡ 58 → part line at end ≡ take n (drop at line) ++ (58 ∷ getD line (at + n + 1) 0 ∷ [])
     whole-part c =
         let p = part line at end in
@@ -206,7 +214,7 @@ module _ (line : List ℕ) (at end : ℕ) (from : at ≤ end) (inside : end ≤ 
         ∙ ap (λ (ys : List ℕ). ys ++ (58 ∷ k ∷ [])) (part-front n (omega arith))
 
     some-place : (b : ℕ) (o : Option SymbolKind) (r : ℕ) → kind-of b ≡ o → r ≡ kind-place o → (r ≡ 4 → ⊥) → (name : List ℕ) → is-name name ≡ true
-        → Named (length name) r ≡ entry (symbol-of (split 58 (name ++ (58 ∷ b ∷ []))))
+        → r ≡ symbol-place (symbol-of (split 58 (name ++ (58 ∷ b ∷ []))))
     some-place b none r q p h name w = absurd (h p)
     some-place b (some k) r q p h name w =
         let nb : b ≡ 58 → ⊥ = λ z. let e = sym q ∙ ap kind-of z in let c : _≡_ {A = ℕ} 0 1 = cc in omega arith in
@@ -214,13 +222,161 @@ module _ (line : List ℕ) (at end : ℕ) (from : at ≤ end) (inside : end ≤ 
         let s2 : split 58 (name ++ (58 ∷ b ∷ [])) ≡ name ∷ (b ∷ []) ∷ [] = split-next 58 name (b ∷ []) (name-free name w) ∙ ap (λ (ps : List (List ℕ)). name ∷ ps) s1 in
         let t : symbol-of (name ∷ (b ∷ []) ∷ []) ≡ some (record { name = name; kind = k }) =
         ap (λ (x : Bool). cond (x && true) (named name (kind-of b)) none) w ∙ ap (named name) q in
-        ap (λ (x : ℕ). Named (length name) x) p ∙ sym (ap (λ (ps : List (List ℕ)). entry (symbol-of ps)) s2 ∙ ap entry t)
+        p ∙ sym (ap (λ (ps : List (List ℕ)). symbol-place (symbol-of ps)) s2 ∙ ap symbol-place t)
 
-    pub entry-there : (r : ℕ) → getD line (at + n) 0 ≡ 58 → r ≡ kind-place (kind-of (getD line (at + n + 1) 0)) → (r ≡ 4 → ⊥)
-        → is-name (take n (drop at line)) ≡ true → Named n r ≡ entry (symbol-of (split 58 (part line at end)))
+    entry-there : (r : ℕ) → getD line (at + n) 0 ≡ 58 → r ≡ kind-place (kind-of (getD line (at + n + 1) 0)) → (r ≡ 4 → ⊥)
+        → is-name (take n (drop at line)) ≡ true → r ≡ symbol-place (symbol-of (split 58 (part line at end)))
     entry-there r c p h w =
-        let name = take n (drop at line) in
-        let l : n ≡ length name = sym (length-take-le n (drop at line) (omega (arith, length-drop at line))) in
-        ap (λ (x : ℕ). Named x r) l
-        ∙ some-place (getD line (at + n + 1) 0) (kind-of (getD line (at + n + 1) 0)) r refl p h name w
-        ∙ sym (ap (λ (ys : List ℕ). entry (symbol-of (split 58 ys))) (whole-part c))
+        some-place (getD line (at + n + 1) 0) (kind-of (getD line (at + n + 1) 0)) r refl p h (take n (drop at line)) w
+        ∙ sym (ap (λ (ys : List ℕ). symbol-place (symbol-of (split 58 ys))) (whole-part c))
+
+-- ---- an entry by the end of its letters and digits
+
+word-byte : (line : List ℕ) (at n i : ℕ) → i < n → getD (take n (drop at line)) i 0 ≡ getD line (at + i) 0
+word-byte line at n i l = getD-take n (drop at line) i 0 l ∙ getD-drop at line i 0
+
+-- a symbol's name ends there
+record Shaped (line : List ℕ) (at stop end : ℕ) (s : Symbol) : Type 0 where
+  after : stop ≡ end + 2
+  colon : getD line end 0 ≡ 58
+  byte : kind-of (getD line (end + 1) 0) ≡ some (s .kind)
+  name : is-name (take (end - at) (drop at line)) ≡ true
+
+kind-four : (j : SymbolKind) → kind-number j ≡ 4 → ⊥
+kind-four SymbolKind.Parameter q = omega arith
+kind-four SymbolKind.State q = omega arith
+kind-four SymbolKind.Time q = omega arith
+kind-four SymbolKind.Input q = omega arith
+
+place-four : (o : Option SymbolKind) (k : SymbolKind) → o ≡ some k → kind-place o ≡ 4 → ⊥
+place-four none k e q = let z : _≡_ {A = ℕ} 0 1 = cc in omega arith
+place-four (some j) k e q = kind-four j q
+
+pub place-none : (o : Option Symbol) (r : ℕ) → r ≡ symbol-place o → r ≡ 4 → o ≡ none
+place-none none r e q = refl
+place-none (some s) r e q = absurd (kind-four (s .kind) (sym e ∙ q))
+
+module _ (line : List ℕ) (at end : ℕ) (w : Letters line at end) where
+  module _ (stop : ℕ) (u : Ends line at stop) (n : ℕ) (long : 3 ≤ stop - at) (en : n ≡ stop - at - 2) (colon : getD line (at + n) 0 ≡ 58)
+      (name : is-name (take n (drop at line)) ≡ true) where
+    not-before : end < at + n → ⊥
+    not-before l =
+        let i = end - at in
+        let z : at + i ≡ end = omega (arith, w .from) in
+        let m : i < n = omega (arith, w .from) in
+        no-true (sym (w .last (omega (arith, u .inside)))
+        ∙ ap (λ (j : ℕ). letter-or-digit (getD line j 0)) (sym z)
+        ∙ ap letter-or-digit (sym (word-byte line at n i m))
+        ∙ name-each (take n (drop at line)) name i (omega (arith, length-take-le n (drop at line) (omega (arith, length-drop at line, u .inside)))))
+
+    not-after : at + n < end → ⊥
+    not-after l = no-true (sym (ap letter-or-digit colon) ∙ w .each (at + n) (omega arith) l)
+
+    word-end : at + n ≡ end
+    word-end = word-end-by (ltb end (at + n)) (ltb (at + n) end) refl refl
+      where
+        word-end-by : (b c : Bool) → ltb end (at + n) ≡ b → ltb (at + n) end ≡ c → at + n ≡ end
+        word-end-by true c p q = absurd (not-before (ltb-true end (at + n) p))
+        word-end-by false true p q = absurd (not-after (ltb-true (at + n) end q))
+        word-end-by false false p q = omega (arith, ltb-false end (at + n) p, ltb-false (at + n) end q)
+
+  shaped : (stop : ℕ) → Ends line at stop → (s : Symbol) → symbol-of (split 58 (part line at stop)) ≡ some s → Shaped line at stop end s
+  shaped stop u s e =
+      let n = stop - at - 2 in
+      let long = long-enough line at stop (u .from) (u .inside) s e in
+      let t = taken line at stop (u .from) (u .inside) n long refl s e in
+      let z = word-end stop u n long refl (t .colon) (t .name) in
+      let y : n ≡ end - at = omega arith in
+      record {
+        after = omega arith;
+        colon = ap (λ (j : ℕ). getD line j 0) (sym z) ∙ t .colon;
+        byte = ap (λ (j : ℕ). kind-of (getD line (j + 1) 0)) (sym z) ∙ t .byte;
+        name = ap (λ (j : ℕ). is-name (take j (drop at line))) (sym y) ∙ t .name;
+      }
+
+  tells-none : ((stop : ℕ) → Ends line at stop → (s : Symbol) → Shaped line at stop end s → ⊥) → Tells line at end 4
+  tells-none h =
+      let o = end-of line at (omega (arith, w .from, w .inside)) in
+      record {
+        stop = o .0;
+        ends = o .1;
+        is = unless (symbol-of (split 58 (part line at (o .0)))) (λ s e. h (o .0) (o .1) s (shaped (o .0) (o .1) s e));
+        after = λ n. absurd (n refl);
+      }
+
+  word-length : length (take (end - at) (drop at line)) ≡ end - at
+  word-length = length-take-le (end - at) (drop at line) (omega (arith, length-drop at line, w .inside))
+
+  pub no-room-there : length line - end < 2 → Tells line at end 4
+  no-room-there h = tells-none (λ stop u s g. omega (arith, g .after, u .inside))
+
+  pub too-long-there : 64 < end - at → Tells line at end 4
+  too-long-there h = tells-none (λ stop u s g. omega (arith, name-short (take (end - at) (drop at line)) (g .name), word-length))
+
+  pub no-colon-there : (getD line end 0 ≡ 58 → ⊥) → Tells line at end 4
+  no-colon-there h = tells-none (λ stop u s g. h (g .colon))
+
+  pub no-letter-there : is-letter (getD line at 0) ≡ false → Tells line at end 4
+  no-letter-there h =
+      tells-none
+      (λ stop u s g.
+      let xs = take (end - at) (drop at line) in
+      let z : at + 0 ≡ at = omega arith in
+      no-true (sym h
+      ∙ ap (λ (j : ℕ). is-letter (getD line j 0)) (sym z)
+      ∙ ap is-letter (sym (word-byte line at (end - at) 0 (omega (arith, word-length, name-long xs (g .name)))))
+      ∙ name-first xs (g .name)))
+
+  pub no-comma-there : (end + 2 ≡ length line → ⊥) → (getD line (end + 2) 0 ≡ 44 → ⊥) → Tells line at end 4
+  no-comma-there n h =
+      tells-none
+      (λ stop u s g.
+      h (ap (λ (j : ℕ). getD line j 0) (sym (g .after)) ∙ u .comma (omega (arith, g .after, u .inside))))
+
+  module _ (r : ℕ) (room : end + 2 ≤ length line) (few : end - at ≤ 64) (colon : getD line end 0 ≡ 58) (first : is-letter (getD line at 0) ≡ true)
+      (kind : r ≡ kind-place (kind-of (getD line (end + 1) 0))) (comma : end + 2 < length line → getD line (end + 2) 0 ≡ 44) where
+    some-bytes : 1 ≤ end - at
+    some-bytes = some-bytes-by (eqb at end) refl
+      where
+        some-bytes-by : (b : Bool) → eqb at end ≡ b → 1 ≤ end - at
+        some-bytes-by true q = absurd (no-true (sym (ap is-letter (ap (λ (j : ℕ). getD line j 0) (eqb-true at end q) ∙ colon)) ∙ first))
+        some-bytes-by false q = let z = eqb-false at end q in omega (arith, w .from)
+
+    is-named : is-name (take (end - at) (drop at line)) ≡ true
+    is-named =
+        let xs = take (end - at) (drop at line) in
+        let z : at + 0 ≡ at = omega arith in
+        name-from xs (omega (arith, word-length, some-bytes)) (omega (arith, word-length))
+        (ap is-letter (word-byte line at (end - at) 0 (omega (arith, some-bytes)) ∙ ap (λ (j : ℕ). getD line j 0) z) ∙ first)
+        (λ i l.
+        ap letter-or-digit (word-byte line at (end - at) i (omega (arith, word-length)))
+        ∙ w .each (at + i) (omega arith) (omega (arith, word-length, w .from)))
+
+    before-stop : (r ≡ 4 → ⊥) → (i : ℕ) → at ≤ i → i < end + 2 → getD line i 0 ≡ 44 → ⊥
+    before-stop h i a l e = before-by (ltb i end) (eqb i end) refl refl
+      where
+        before-by : (b c : Bool) → ltb i end ≡ b → eqb i end ≡ c → ⊥
+        before-by true c p q = no-true (sym (ap letter-or-digit e) ∙ w .each i a (ltb-true i end p))
+        before-by false true p q = let z = ap (λ (j : ℕ). getD line j 0) (eqb-true i end q) in omega (arith, colon, e)
+        before-by false false p q =
+            let z : end + 1 ≡ i = omega (arith, ltb-false i end p, eqb-false i end q) in
+            h (kind ∙ ap (λ (x : ℕ). kind-place (kind-of x)) (ap (λ (j : ℕ). getD line j 0) z ∙ e))
+
+    tells-by : (b : Bool) → eqb r 4 ≡ b → Tells line at end r
+    tells-by true q =
+        subst (Tells line at end) (sym (eqb-true r 4 q))
+        (tells-none (λ stop u s g. place-four (kind-of (getD line (end + 1) 0)) (s .kind) (g .byte) (sym kind ∙ eqb-true r 4 q)))
+    tells-by false q =
+        let z : at + (end - at) ≡ end = omega (arith, w .from) in
+        let y : end - at ≡ end + 2 - at - 2 = omega (arith, w .from) in
+        record {
+          stop = end + 2;
+          ends = record { from = omega (arith, w .from); inside = room; before = before-stop (eqb-false r 4 q); comma = comma };
+          is =
+              entry-there line at (end + 2) (omega (arith, w .from)) room (end - at) (omega (arith, some-bytes)) y r
+              (ap (λ (j : ℕ). getD line j 0) z ∙ colon) (kind ∙ ap (λ (j : ℕ). kind-place (kind-of (getD line (j + 1) 0))) (sym z)) (eqb-false r 4 q) is-named;
+          after = λ n. refl;
+        }
+
+    pub tells-kind : Tells line at end r
+    tells-kind = tells-by (eqb r 4) refl

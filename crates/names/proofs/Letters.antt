@@ -2,15 +2,16 @@
 use mathlib.Core.Path.{_≡_, refl, sym, ap, _∙_}
 use mathlib.Core.Bool.{Bool, true, false, _&&_, _||_, or-false, and-false, and-true}
 use mathlib.Core.List.{List, [], _∷_}
-use Prim.Native.Nat.{ℕ, zero, suc, _+_, _-_, _≤_, _<_}
+use Prim.Native.Nat.{ℕ, zero, suc, _+_, _-_, _*_, _%_, _≤_, _<_}
 use native.Mathlib.Omega.{arith}
 use lib.ListN.{length, getD, take, drop, length-drop}
 use lib.Seq.{drop-cons, length-take-le}
-use lib.Dec.{eqb, leb}
-use borrow.Author.Tests.{eqb-true, eqb-false, ne-eqb, eq-eqb, le-leb, lt-leb}
+use lib.Dec.{eqb, leb, ltb}
+use borrow.Author.Tests.{eqb-true, eqb-false, ne-eqb, eq-eqb, le-leb, lt-leb, ltb-true, ltb-false}
 use Rattle.formula.specs.Text.{same-bytes, all}
 use Rattle.formula.specs.Names.{is-letter, is-digit, is-name, kind-of}
-use Rattle.names.specs.Lines.{Ends, kind-place}
+use Rattle.names.specs.Lines.{Ends, Letters, kind-place, mark}
+use Rattle.names.proofs.Marks.{mark-next}
 
 pub letter-low : (b : ℕ) → b < 97 → eqb b 95 ≡ is-letter b
 letter-low b h = sym (ap (λ (t : Bool). t && leb b 122 || eqb b 95) (lt-leb 97 b h))
@@ -40,72 +41,41 @@ part-length line a k h = length-take-le k (drop a line) (omega (arith, length-dr
 abbrev pub letter-or-digit : ℕ → Bool
 letter-or-digit c = is-letter c || is-digit c
 
-module _ (line : List ℕ) (at n : ℕ) (h : at + n ≤ length line) where
-  pub no-bytes : n ≡ 0 → false ≡ is-name (take n (drop at line))
-  no-bytes e = sym (ap (λ (k : ℕ). is-name (take k (drop at line))) e)
+-- those of a word before a byte, with their mark
+pub record Spelling (line : List ℕ) (at end h : ℕ) : Type 0 where
+  pub from : at ≤ end
+  pub inside : end ≤ length line
+  pub low : h < 4294967296
+  pub each : (i : ℕ) → at ≤ i → i < end → letter-or-digit (getD line i 0) ≡ true
+  pub marked : h ≡ mark (take (end - at) (drop at line))
 
-  -- the first byte, and the others
-  name-parts : 0 < n → is-name (take n (drop at line))
-      ≡ (is-letter (getD line at 0) && all letter-or-digit (take (n - 1) (drop (at + 1) line)) && leb (n - 1) 63)
-  name-parts l =
-      ap is-name (part-cons line at n (omega arith) l)
-      ∙ ap (λ (k : ℕ). is-letter (getD line at 0) && all letter-or-digit (take (n - 1) (drop (at + 1) line)) && leb k 63) (part-length line (at + 1) (n - 1) (omega arith))
+pub spelling-start : (line : List ℕ) (at : ℕ) → at ≤ length line → Spelling line at at 0
+spelling-start line at l =
+    let z : at - at ≡ 0 = omega arith in
+    record { from = omega arith; inside = l; low = omega arith; each = λ i a b. absurd (omega arith); marked = sym (ap (λ (k : ℕ). mark (take k (drop at line))) z) }
 
-  pub too-many-bytes : 64 < n → false ≡ is-name (take n (drop at line))
-  too-many-bytes l =
-      sym (name-parts (omega arith)
-      ∙ ap (λ (t : Bool). is-letter (getD line at 0) && all letter-or-digit (take (n - 1) (drop (at + 1) line)) && t) (lt-leb (n - 1) 63 (omega arith))
-      ∙ and-false (is-letter (getD line at 0) && all letter-or-digit (take (n - 1) (drop (at + 1) line))))
+each-by : (t : Bool) (line : List ℕ) (at end i : ℕ) → eqb i end ≡ t → ((j : ℕ) → at ≤ j → j < end → letter-or-digit (getD line j 0) ≡ true)
+    → letter-or-digit (getD line end 0) ≡ true → at ≤ i → i < end + 1 → letter-or-digit (getD line i 0) ≡ true
+each-by true line at end i q h e a l = ap (λ (j : ℕ). letter-or-digit (getD line j 0)) (eqb-true i end q) ∙ e
+each-by false line at end i q h e a l = let z = eqb-false i end q in h i a (omega arith)
 
-  pub no-letter : (n ≡ 0 → ⊥) → is-letter (getD line at 0) ≡ false → false ≡ is-name (take n (drop at line))
-  no-letter z e =
-      sym (name-parts (omega arith)
-      ∙ ap (λ (t : Bool). t && all letter-or-digit (take (n - 1) (drop (at + 1) line)) && leb (n - 1) 63) e)
+pub spelling-more : (line : List ℕ) (at end h : ℕ) → Spelling line at end h → end < length line → letter-or-digit (getD line end 0) ≡ true
+    → Spelling line at (end + 1) ((h * 16777619 + getD line end 0) % 4294967296)
+spelling-more line at end h g l e =
+    let b = getD line end 0 in
+    record {
+      from = omega (arith, g .from);
+      inside = omega arith;
+      low = omega arith;
+      each = λ i. each-by (eqb i end) line at end i refl (g .each) e;
+      marked = ap (λ (k : ℕ). (k * 16777619 + b) % 4294967296) (g .marked) ∙ sym (mark-next line at end (g .from) l);
+    }
 
-  -- the bytes before i are right
-  pub record Naming (i : ℕ) : Type 0 where
-    pub low : 1 ≤ i
-    pub high : i ≤ n
-    pub same : is-name (take n (drop at line)) ≡ all letter-or-digit (take (n - i) (drop (at + i) line))
+pub spelling-stop : (line : List ℕ) (at end h : ℕ) → Spelling line at end h → letter-or-digit (getD line end 0) ≡ false → Letters line at end
+spelling-stop line at end h g e = record { from = g .from; inside = g .inside; each = g .each; last = λ l. e }
 
-  pub naming-start : (n ≡ 0 → ⊥) → n ≤ 64 → is-letter (getD line at 0) ≡ true → Naming 1
-  naming-start z l e =
-      record {
-        low = omega arith;
-        high = omega arith;
-        same =
-            name-parts (omega arith)
-            ∙ ap (λ (t : Bool). t && all letter-or-digit (take (n - 1) (drop (at + 1) line)) && leb (n - 1) 63) e
-            ∙ ap (λ (t : Bool). all letter-or-digit (take (n - 1) (drop (at + 1) line)) && t) (le-leb (n - 1) 63 (omega arith))
-            ∙ and-true (all letter-or-digit (take (n - 1) (drop (at + 1) line)));
-      }
-
-  module _ (i : ℕ) (g : Naming i) where
-    naming-part : i < n → is-name (take n (drop at line))
-        ≡ (letter-or-digit (getD line (at + i) 0) && all letter-or-digit (take (n - (i + 1)) (drop (at + (i + 1)) line)))
-    naming-part l =
-        let y : n - i - 1 ≡ n - (i + 1) = omega arith in
-        let z : at + i + 1 ≡ at + (i + 1) = omega arith in
-        g .same
-        ∙ ap (all letter-or-digit) (part-cons line (at + i) (n - i) (omega arith) (omega arith))
-        ∙ ap (λ (k : ℕ). letter-or-digit (getD line (at + i) 0) && all letter-or-digit (take k (drop (at + i + 1) line))) y
-        ∙ ap (λ (k : ℕ). letter-or-digit (getD line (at + i) 0) && all letter-or-digit (take (n - (i + 1)) (drop k line))) z
-
-    pub naming-more : i < n → letter-or-digit (getD line (at + i) 0) ≡ true → Naming (i + 1)
-    naming-more l e =
-        record {
-          low = omega arith;
-          high = omega arith;
-          same = naming-part l ∙ ap (λ (t : Bool). t && all letter-or-digit (take (n - (i + 1)) (drop (at + (i + 1)) line))) e;
-        }
-
-    pub naming-stop : i < n → letter-or-digit (getD line (at + i) 0) ≡ false → false ≡ is-name (take n (drop at line))
-    naming-stop l e = sym (naming-part l ∙ ap (λ (t : Bool). t && all letter-or-digit (take (n - (i + 1)) (drop (at + (i + 1)) line))) e)
-
-    pub naming-end : n ≤ i → true ≡ is-name (take n (drop at line))
-    naming-end l =
-        let z : n - i ≡ 0 = omega arith in
-        sym (g .same ∙ ap (λ (k : ℕ). all letter-or-digit (take k (drop (at + i) line))) z)
+pub spelling-end : (line : List ℕ) (at end h : ℕ) → Spelling line at end h → length line ≤ end → Letters line at end
+spelling-end line at end h g m = record { from = g .from; inside = g .inside; each = g .each; last = λ l. absurd (omega arith) }
 
 -- ---- kinds
 
@@ -127,12 +97,12 @@ module _ (b : ℕ) where
 
 -- ---- where an entry ends
 
-pub record Looking (line : List ℕ) (at end : ℕ) : Type 0 where
-  pub from : at ≤ end
-  pub inside : end ≤ length line
-  pub before : (i : ℕ) → at ≤ i → i < end → getD line i 0 ≡ 44 → ⊥
+record Looking (line : List ℕ) (at end : ℕ) : Type 0 where
+  from : at ≤ end
+  inside : end ≤ length line
+  before : (i : ℕ) → at ≤ i → i < end → getD line i 0 ≡ 44 → ⊥
 
-pub looking-start : (line : List ℕ) (at : ℕ) → at ≤ length line → Looking line at at
+looking-start : (line : List ℕ) (at : ℕ) → at ≤ length line → Looking line at at
 looking-start line at h = record { from = omega arith; inside = h; before = λ i l m e. omega arith }
 
 before-by : (t : Bool) (line : List ℕ) (at end i : ℕ) → eqb i end ≡ t → Looking line at end → (getD line end 0 ≡ 44 → ⊥)
@@ -140,15 +110,31 @@ before-by : (t : Bool) (line : List ℕ) (at end i : ℕ) → eqb i end ≡ t �
 before-by true line at end i q g n l m e = n (ap (λ (j : ℕ). getD line j 0) (sym (eqb-true i end q)) ∙ e)
 before-by false line at end i q g n l m e = let z = eqb-false i end q in g .before i l (omega arith) e
 
-pub looking-more : (line : List ℕ) (at end : ℕ) → Looking line at end → end < length line → (getD line end 0 ≡ 44 → ⊥) → Looking line at (end + 1)
+looking-more : (line : List ℕ) (at end : ℕ) → Looking line at end → end < length line → (getD line end 0 ≡ 44 → ⊥) → Looking line at (end + 1)
 looking-more line at end g l n =
     record { from = omega (arith, g .from); inside = omega arith; before = λ i. before-by (eqb i end) line at end i refl g n }
 
-pub looking-comma : (line : List ℕ) (at end : ℕ) → Looking line at end → getD line end 0 ≡ 44 → Ends line at end
+looking-comma : (line : List ℕ) (at end : ℕ) → Looking line at end → getD line end 0 ≡ 44 → Ends line at end
 looking-comma line at end g e = record { from = g .from; inside = g .inside; before = g .before; comma = λ l. e }
 
-pub looking-end : (line : List ℕ) (at end : ℕ) → Looking line at end → length line ≤ end → Ends line at end
+looking-end : (line : List ℕ) (at end : ℕ) → Looking line at end → length line ≤ end → Ends line at end
 looking-end line at end g h = record { from = g .from; inside = g .inside; before = g .before; comma = λ l. absurd (omega arith) }
+
+end-by : (b c : Bool) (f : ℕ) (line : List ℕ) (at i : ℕ) → ltb i (length line) ≡ b → eqb (getD line i 0) 44 ≡ c → length line - i ≤ suc f → Looking line at i
+    → (Looking line at (i + 1) → length line - (i + 1) ≤ f → (e : ℕ) × Ends line at e) → (e : ℕ) × Ends line at e
+end-by false c f line at i p q l g k = (i, looking-end line at i g (ltb-false i (length line) p))
+end-by true true f line at i p q l g k = (i, looking-comma line at i g (eqb-true (getD line i 0) 44 q))
+end-by true false f line at i p q l g k =
+    k (looking-more line at i g (ltb-true i (length line) p) (eqb-false (getD line i 0) 44 q)) (omega (arith, ltb-true i (length line) p))
+
+end-from : (f : ℕ) (line : List ℕ) (at i : ℕ) → length line - i ≤ f → Looking line at i → (e : ℕ) × Ends line at e
+end-from zero line at i l g = (i, looking-end line at i g (omega arith))
+end-from (suc f) line at i l g =
+    end-by (ltb i (length line)) (eqb (getD line i 0) 44) f line at i refl refl l g (λ h m. end-from f line at (i + 1) m h)
+
+-- there is a first comma or the line's end
+pub end-of : (line : List ℕ) (at : ℕ) → at ≤ length line → (e : ℕ) × Ends line at e
+end-of line at l = end-from (length line - at) line at at (omega arith) (looking-start line at l)
 
 -- ---- two names
 

@@ -3,7 +3,7 @@ use mathlib.Core.Path.{_≡_, refl, sym, ap, _∙_, subst}
 use mathlib.Core.Bool.{Bool, true, false, cond, not, _&&_, _||_, and-false}
 use mathlib.Core.List.{List, [], _∷_, _++_, map, append-assoc}
 use mathlib.Core.Option.{Option, none, some}
-use Prim.Native.Nat.{ℕ, zero, suc, _+_, _-_, _≤_, _<_}
+use Prim.Native.Nat.{ℕ, zero, suc, _+_, _-_, _%_, _≤_, _<_}
 use native.Mathlib.Omega.{arith}
 use lib.ListN.{length, getD, take, drop, set, length-append, length-drop, length-set, take-append-drop, List·getD-append}
 use lib.Seq.{drop-cons, drop-drop, take-all, take-at, take-suc, take-length, getD-take, getD-drop, getD-at, getD-set-same, getD-set-other, length-take-le, set-at}
@@ -11,12 +11,11 @@ use lib.Dec.{eqb, leb}
 use borrow.Author.Tests.{eqb-true, eqb-false, ne-eqb, eq-eqb, le-leb, lt-leb}
 use Rattle.formula.specs.Text.{same-bytes, all, split, joined, all-some, zeros}
 use Rattle.formula.specs.Names.{Symbol, symbol-of, unlike, none-twice, table, symbols-of, kinds}
-use Rattle.names.specs.Lines.{Ends, entry, free, kind-number, Listed, mark, Marked, names-of, part, prefixed, repeats}
-use Rattle.names.specs.declared.Entry.{Entry}
-use Rattle.names.specs.declared.Entry.the-variants.{Named, NoEntry}
+use Rattle.names.specs.Lines.{Ends, Tells, symbol-place, free, kind-number, Listed, mark, Marked, Placed, names-of, part, prefixed, repeats}
 use Rattle.names.specs.declared.Names.{Names}
 use Rattle.names.proofs.Splits.{no-true, and-both, and-first, and-second, free-from, split-end, split-next, prefixed-start, prefixed-more, prefixed-none, prefixed-some}
-use Rattle.names.proofs.Entries.{formed, part-front}
+use Rattle.names.proofs.Entries.{formed, part-front, place-none}
+use Rattle.names.proofs.Marks.{placed-stays}
 use Rattle.formula.proofs.Tests.{or-none}
 
 abbrev pub part-symbol : List ℕ → Option Symbol
@@ -90,30 +89,30 @@ pub record Found (line : List ℕ) (at end n k : ℕ) : Type 0 where
   pub kind : k ≡ kind-number (symbol .kind)
   pub inside : at + n ≤ length line
 
-found-by : (o : Option Symbol) (line : List ℕ) (at end n k : ℕ) → at ≤ end → end ≤ length line → part-symbol (part line at end) ≡ o
-    → Named n k ≡ entry o → Found line at end n k
+found-by : (o : Option Symbol) (line : List ℕ) (at stop end k : ℕ) → at ≤ stop → stop ≤ length line → part-symbol (part line at stop) ≡ o
+    → k ≡ symbol-place o → (k ≡ 4 → ⊥) → stop ≡ end + 2 → Found line at stop (end - at) k
 unfolding part
-found-by none line at end n k from inside q e = let z : _≡_ {A = ℕ} 0 1 = cc in absurd (omega arith)
-found-by (some s) line at end n k from inside q e =
-    let f = formed (part line at end) s q in
-    let en : n ≡ length (s .name) = cc in
-    let ek : k ≡ kind-number (s .kind) = cc in
-    let lp : length (part line at end) ≡ end - at = length-take-le (end - at) (drop at line) (omega (arith, length-drop at line)) in
-    let l : n ≤ end - at = omega (arith, lp, ap length (f .is), length-append (s .name) (58 ∷ f .byte ∷ [])) in
+found-by none line at stop end k from inside q e h a = absurd (h e)
+found-by (some s) line at stop end k from inside q e h a =
+    let n = end - at in
+    let f = formed (part line at stop) s q in
+    let lp : length (part line at stop) ≡ stop - at = length-take-le (stop - at) (drop at line) (omega (arith, length-drop at line)) in
+    let ln = length-append (s .name) (58 ∷ f .byte ∷ []) in
+    let en : n ≡ length (s .name) = omega (arith, lp, ap length (f .is), ln) in
+    let l : n ≤ stop - at = omega (arith, lp, ap length (f .is), ln) in
     record {
       symbol = s;
       is = q;
-      name = sym (sym (part-front line at end from inside n l) ∙ ap (take n) (f .is) ∙ take-at (s .name) (58 ∷ f .byte ∷ []) n (sym en));
-      kind = ek;
-      inside = omega arith;
+      name = sym (sym (part-front line at stop from inside n l) ∙ ap (take n) (f .is) ∙ take-at (s .name) (58 ∷ f .byte ∷ []) n (sym en));
+      kind = e;
+      inside = omega (arith, lp, ap length (f .is), ln);
     }
 
-pub found : (line : List ℕ) (at end n k : ℕ) (r : Entry) → Ends line at end → r ≡ entry (part-symbol (part line at end)) → r ≡ Named n k → Found line at end n k
-found line at end n k r g e q = found-by (part-symbol (part line at end)) line at end n k (g .from) (g .inside) refl (sym q ∙ e)
-
-not-found : (o : Option Symbol) (r : Entry) → r ≡ entry o → r ≡ NoEntry → o ≡ none
-not-found none r e q = refl
-not-found (some s) r e q = let z : _≡_ {A = ℕ} 0 1 = cc in absurd (omega arith)
+-- an entry ends two bytes after its name
+pub told : (line : List ℕ) (at end k : ℕ) → Tells line at end k → (k ≡ 4 → ⊥) → Ends line at (end + 2) × Found line at (end + 2) (end - at) k
+told line at end k t h =
+    subst (λ (j : ℕ). Ends line at j × Found line at j (end - at) k) (t .after h)
+    (t .ends, found-by (part-symbol (part line at (t .stop))) line at (t .stop) end k (t .ends .from) (t .ends .inside) refl (t .is) h (t .after h))
 
 -- ---- none twice
 
@@ -267,10 +266,8 @@ module _ (line starts lengths ks : List ℕ) (count at end : ℕ) (g : Listing l
   refused : symbols-of line ≡ none → _≡_ {A = Names} (record { ok = false; count = 0; kinds = zeros 256 }) (names-of (symbols-of line))
   refused e = sym (ap names-of e)
 
-  pub no-entry : (r : Entry) → r ≡ entry (part-symbol (part line at end)) → r ≡ NoEntry
-      → _≡_ {A = Names} (record { ok = false; count = 0; kinds = zeros 256 }) (names-of (symbols-of line))
-  no-entry r e q =
-      let o = not-found (part-symbol (part line at end)) r e q in
+  missing : part-symbol (part line at end) ≡ none → _≡_ {A = Names} (record { ok = false; count = 0; kinds = zeros 256 }) (names-of (symbols-of line))
+  missing o =
       refused (g .all
       ∙ ap (λ x. table (prefixed (g .symbols) x)) (symbols-step line at end u ∙ ap (λ (x : Option Symbol). joined x (symbols-after line end)) o)
       ∙ table-none (g .symbols))
@@ -403,6 +400,22 @@ module _ (line starts lengths ks : List ℕ) (count at end : ℕ) (g : Listing l
           ∙ h i b
           ∙ ap (λ (x : ℕ). mark (take x (drop (getD starts i 0) line))) (sym (length-other i b))
           ∙ ap (λ (x : ℕ). mark (take (getD (set lengths count n) i 0) (drop x line))) (sym (start-other i b)))
+
+pub no-entry : (line starts lengths ks : List ℕ) (count at end k : ℕ) → Listing line starts lengths ks count at → Tells line at end k → k ≡ 4
+    → _≡_ {A = Names} (record { ok = false; count = 0; kinds = zeros 256 }) (names-of (symbols-of line))
+no-entry line starts lengths ks count at end k g t e =
+    missing line starts lengths ks count at (t .stop) g (t .ends) (place-none (part-symbol (part line at (t .stop))) k (t .is) e)
+
+pub placed-more : (marks taken : List ℕ) (count m : ℕ) → count < length marks → length taken ≡ 1024 → Placed marks taken count
+    → Placed (set marks count m) (set taken (m % 1024) 1) (count + 1)
+placed-more marks taken count m l lt h j =
+    let i = m % 1024 in
+    let s = set taken i 1 in
+    stored-by (eqb j count) (λ (k : ℕ). getD s (getD (set marks count m) k 0 % 1024) 0 ≡ 1) j count refl
+    (ap (λ (y : ℕ). getD s (y % 1024) 0) (getD-set-same marks count m 0 l) ∙ getD-set-same taken i 1 0 (omega arith))
+    (λ k b.
+    ap (λ (y : ℕ). getD s (y % 1024) 0) (getD-set-other marks count k m 0 (λ z. omega arith))
+    ∙ placed-stays taken i (getD marks k 0 % 1024) (omega arith) (h k b))
 
 -- ---- the names before, from the last one down
 

@@ -12,9 +12,13 @@ use Rattle.formula.specs.Text.{glue, parted, split, joined}
 use Rattle.names.specs.Lines.{first-of, first-piece, free, prefixed}
 pub use Rattle.formula.proofs.Tests.{no-true, and-first, and-second, and-both}
 
-not-true : (a : Bool) → not a ≡ true → a ≡ false
+pub not-true : (a : Bool) → not a ≡ true → a ≡ false
 not-true true e = sym e
 not-true false e = refl
+
+pub not-false : (a : Bool) → not a ≡ false → a ≡ true
+not-false true e = refl
+not-false false e = sym e
 
 pub split-end : (c : ℕ) (xs : List ℕ) → free c xs ≡ true → split c xs ≡ xs ∷ []
 split-end c [] h = refl

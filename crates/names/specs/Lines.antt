@@ -6,11 +6,9 @@ use mathlib.Core.Option.{Option, none, some}
 use Prim.Native.Nat.{ℕ, zero, suc, _+_, _-_, _*_, _%_, _≤_, _<_}
 use lib.ListN.{length, getD, take, drop}
 use lib.Dec.{eqb}
-use Rattle.formula.specs.Text.{all, same-bytes, joined, zeros}
-use Rattle.formula.specs.Names.{SymbolKind, Parameter, State, Time, Input, Symbol, kinds}
+use Rattle.formula.specs.Text.{all, same-bytes, split, joined, zeros}
+use Rattle.formula.specs.Names.{SymbolKind, Parameter, State, Time, Input, Symbol, is-letter, is-digit, symbol-of, kinds}
 use Rattle.names.specs.declared.Names.{Names}
-use Rattle.names.specs.declared.Entry.{Entry}
-use Rattle.names.specs.declared.Entry.the-variants.{Named, NoEntry}
 
 -- ---- digits
 
@@ -68,10 +66,24 @@ pub record Ends (line : List ℕ) (at end : ℕ) : Type 0 where
   pub before : (i : ℕ) → at ≤ i → i < end → getD line i 0 ≡ 44 → ⊥
   pub comma : end < length line → getD line end 0 ≡ 44
 
--- a name with its kind: how long the name is, and the kind's number
-abbrev pub entry : Option Symbol → Entry
-entry none = NoEntry
-entry (some s) = Named (length (s .name)) (kind-number (s .kind))
+-- the letters and digits from one byte to another, where no more of them follow
+pub record Letters (line : List ℕ) (at end : ℕ) : Type 0 where
+  pub from : at ≤ end
+  pub inside : end ≤ length line
+  pub each : (i : ℕ) → at ≤ i → i < end → (is-letter (getD line i 0) || is-digit (getD line i 0)) ≡ true
+  pub last : end < length line → (is-letter (getD line end 0) || is-digit (getD line end 0)) ≡ false
+
+-- the kind's number of a name with its kind; 4 is none
+abbrev pub symbol-place : Option Symbol → ℕ
+symbol-place none = 4
+symbol-place (some s) = kind-number (s .kind)
+
+-- what stands from a byte to the first comma or the line's end: the kind's number, and the kind is the second byte after the name's end
+pub record Tells (line : List ℕ) (at end r : ℕ) : Type 0 where
+  pub stop : ℕ
+  pub ends : Ends line at stop
+  pub is : r ≡ symbol-place (symbol-of (split 58 (part line at stop)))
+  pub after : (r ≡ 4 → ⊥) → stop ≡ end + 2
 
 -- whether one of the first k names is this one; where each starts and how long it is stand in two lists
 abbrev pub repeats : List ℕ → List ℕ → List ℕ → List ℕ → ℕ → Bool
@@ -94,6 +106,10 @@ mark xs = mark-from 0 xs
 -- the marks of the first k names stand in a list
 abbrev pub Marked : List ℕ → List ℕ → List ℕ → List ℕ → ℕ → Type 0
 Marked line starts lengths marks count = (k : ℕ) → k < count → getD marks k 0 ≡ mark (take (getD lengths k 0) (drop (getD starts k 0) line))
+
+-- the first k marks have taken their places in a table of 1024
+abbrev pub Placed : List ℕ → List ℕ → ℕ → Type 0
+Placed marks taken count = (k : ℕ) → k < count → getD taken (getD marks k 0 % 1024) 0 ≡ 1
 
 -- the table of a name line, or of none: refusal 3
 abbrev pub names-of : Option (List Symbol) → Names

@@ -1,11 +1,11 @@
 ghost use mathlib.Core.Path.{_≡_};
 ghost use mathlib.Core.Bool.{false, _||_};
-ghost use Prim.Native.Nat.{_+_, _≤_};
+ghost use Prim.Native.Nat.{_+_, _-_, _≤_};
 ghost use lib.ListN.{length, take, drop};
-ghost use Rattle.formula.specs.Text.{same-bytes, split, zeros};
-ghost use Rattle.formula.specs.Names.{is-letter, is-digit, is-name, kind-of, symbol-of, symbols-of};
+ghost use Rattle.formula.specs.Text.{same-bytes, zeros};
+ghost use Rattle.formula.specs.Names.{is-letter, is-digit, kind-of, symbols-of};
 ghost use Rattle.formula.specs.Values.{digit-of, hex as hex-text};
-ghost use Rattle.names.specs.Lines.{place, kind-place, part, Ends, entry, repeats, Listed, Marked, mark, names-of};
+ghost use Rattle.names.specs.Lines.{place, kind-place, Letters, Tells, repeats, Listed, Marked, Placed, mark, names-of};
 
 // ---- Digits of values: "each value is 16 lower-case hexadecimal digits, the bits of an f64, joined by commas."
 
@@ -65,31 +65,30 @@ fn is_letter_or_digit(b: u8) -> bool
     is_letter(b) || is_digit(b)
 }
 
-// Whether n bytes are a name: "1 to 64 bytes".
-fn is_name(line: &[u8], at: usize, n: usize) -> bool
-    requires { ⌜ at + n ≤ length (now line) ⌝ }
-    ensures { λ r. ⌜ r ≡ is-name (take n (drop at (now (line .entry)))) ⌝ }
+// The letters and digits from a byte on: where they end, and their mark.
+struct Word {
+    end: usize,
+    mark: usize,
+}
+
+// Marks are numbers that equal names share, and others seldom: so most names are told apart by their marks.
+fn word_at(line: &[u8], at: usize) -> Word
+    requires { ⌜ at ≤ length (now line) ⌝ }
+    ensures { λ r. ⌜ Letters (now (line .entry)) at (r .end) × (r .mark ≡ mark (take (r .end - at) (drop at (now (line .entry))))) ⌝ }
 {
-    if n == 0 {
-        return false;
-    }
-    if n > 64 {
-        return false;
-    }
-    let first = is_letter(line[at]);
-    if first {
-        let mut i = 1;
-        while i < n {
-            let ok = is_letter_or_digit(line[at + i]);
-            if ok {
-                i += 1;
-            } else {
-                return false;
-            }
+    let mut end = at;
+    let mut h = 0;
+    while end < line.len() {
+        let b = line[end];
+        let more = is_letter_or_digit(b);
+        if more {
+            h = (h * 16777619 + b as usize) % 4294967296;
+            end += 1;
+        } else {
+            return Word { end: end, mark: h };
         }
-        return true;
     }
-    false
+    Word { end: end, mark: h }
 }
 
 // "`p` parameter, `s` state, `t` time, `i` input": 0 to 3; 4 is no kind.
@@ -111,47 +110,33 @@ fn kind_place(b: u8) -> u8
     4
 }
 
-// Where the first comma from a byte on is, or the line's end.
-fn entry_end(line: &[u8], at: usize) -> usize
-    requires { ⌜ at ≤ length (now line) ⌝ }
-    ensures { λ r. ⌜ Ends (now (line .entry)) at r ⌝ }
+// The kind of the entry whose letters and digits end at a byte, or 4: a name of "1 to 64 bytes", a letter first, `:`, the kind, and a comma or
+// the line's end.
+fn kind_after(line: &[u8], at: usize, end: usize) -> u8
+    requires { ⌜ Letters (now line) at end ⌝ }
+    ensures { λ r. ⌜ Tells (now (line .entry)) at end r ⌝ }
 {
-    let mut end = at;
-    while end < line.len() {
-        if line[end] == b',' {
-            return end;
-        }
-        end += 1;
+    if line.len() - end < 2 {
+        return 4;
     }
-    end
-}
-
-// A name with its kind: how long the name is, and the kind's number.
-enum Entry {
-    Named(usize, u8),
-    NoEntry,
-}
-
-// A name of one byte or more, a `:` and a byte for the kind.
-fn entry_at(line: &[u8], at: usize, end: usize) -> Entry
-    requires { ⌜ (at ≤ end) × (end ≤ length (now line)) ⌝ }
-    ensures { λ r. ⌜ r ≡ entry (symbol-of (split 58 (part (now (line .entry)) at end))) ⌝ }
-{
-    if end - at < 3 {
-        return Entry::NoEntry;
+    if end - at > 64 {
+        return 4;
     }
-    let n = end - at - 2;
-    if line[at + n] == b':' {
-        let kind = kind_place(line[at + n + 1]);
-        if kind == 4 {
-            return Entry::NoEntry;
-        }
-        let ok = is_name(line, at, n);
-        if ok {
-            return Entry::Named(n, kind);
-        }
+    if line[end] != b':' {
+        return 4;
     }
-    Entry::NoEntry
+    let first = is_letter(line[at]);
+    if !first {
+        return 4;
+    }
+    let kind = kind_place(line[end + 1]);
+    if end + 2 == line.len() {
+        return kind;
+    }
+    if line[end + 2] == b',' {
+        return kind;
+    }
+    4
 }
 
 // Whether two names are the same: their lengths first, then byte by byte to the first that differs.
@@ -171,20 +156,6 @@ fn same_name(line: &[u8], a: usize, m: usize, b: usize, n: usize) -> bool
         return true;
     }
     false
-}
-
-// A number that equal names share, and others seldom: so most names are told apart by their numbers.
-fn mark_of(line: &[u8], at: usize, n: usize) -> usize
-    requires { ⌜ at + n ≤ length (now line) ⌝ }
-    ensures { λ r. ⌜ r ≡ mark (take n (drop at (now (line .entry)))) ⌝ }
-{
-    let mut h = 0;
-    let mut i = 0;
-    while i < n {
-        h = (h * 16777619 + line[at + i] as usize) % 4294967296;
-        i += 1;
-    }
-    h
 }
 
 // Whether two names with these marks are the same.
@@ -223,6 +194,27 @@ fn is_repeated(
     false
 }
 
+// The same, with a table of the places that the marks before have taken: where the place of x is free, no name before has its mark.
+fn comes_again(
+    line: &[u8],
+    starts: &[usize; 256],
+    lengths: &[usize; 256],
+    marks: &[usize; 256],
+    taken: &[u8; 1024],
+    count: usize,
+    at: usize,
+    n: usize,
+    x: usize,
+) -> bool
+    requires { ⌜ (count ≤ 256) × (at + n ≤ length (now line)) × Listed (now line) (now starts) (now lengths) count × Marked (now line) (now starts) (now lengths) (now marks) count × (x ≡ mark (take n (drop at (now line)))) × Placed (now marks) (now taken) count ⌝ }
+    ensures { λ r. ⌜ r ≡ repeats (now (line .entry)) (now (starts .entry)) (now (lengths .entry)) (take n (drop at (now (line .entry)))) count ⌝ }
+{
+    if taken[x % 1024] == 0 {
+        return false;
+    }
+    is_repeated(line, starts, lengths, marks, count, at, n, x)
+}
+
 // The names of a line: how many there are, and the kind of each, 0 parameter, 1 state, 2 time, 3 input; zeros after them.
 pub struct Names {
     pub ok: bool,
@@ -248,6 +240,7 @@ pub fn read_names(line: &[u8]) -> Names
     let mut starts = [0usize; 256];
     let mut lengths = [0usize; 256];
     let mut marks = [0usize; 256];
+    let mut taken = [0u8; 1024];
     let mut kinds = [0u8; 256];
     if line.len() == 0 {
         return Names {
@@ -259,24 +252,27 @@ pub fn read_names(line: &[u8]) -> Names
     let mut count = 0;
     let mut at = 0;
     loop {
-        let end = entry_end(line, at);
-        let found = entry_at(line, at, end);
-        let Entry::Named(n, kind) = found else {
+        let word = word_at(line, at);
+        let kind = kind_after(line, at, word.end);
+        if kind == 4 {
             return no_names();
-        };
+        }
         if count == 256 {
             return no_names();
         }
-        let x = mark_of(line, at, n);
-        let again = is_repeated(line, &starts, &lengths, &marks, count, at, n, x);
+        let n = word.end - at;
+        let x = word.mark;
+        let again = comes_again(line, &starts, &lengths, &marks, &taken, count, at, n, x);
         if again {
             return no_names();
         }
         starts[count] = at;
         lengths[count] = n;
         marks[count] = x;
+        taken[x % 1024] = 1;
         kinds[count] = kind;
         count += 1;
+        let end = word.end + 2;
         if end == line.len() {
             return Names {
                 ok: true,
