@@ -185,7 +185,8 @@ fn call(program: &[u8], inputs: &[f64], registers: &mut [f64], path: &mut [u8]) 
     let mut before = [0u8; 2048];
     let mut after = [0u8; 2048];
     let read = read_call(&mut b, &mut text, &mut before, &mut after, registers.len());
-    let room = cut(size(&b, 1), path.len());
+    let length = size(&b, 1);
+    let room = cut(length, path.len());
     let same = replayed(
         &b,
         &text,
@@ -196,7 +197,7 @@ fn call(program: &[u8], inputs: &[f64], registers: &mut [f64], path: &mut [u8]) 
         registers,
         &mut path[0..room],
     );
-    all(read, same)
+    all(room == length, all(read, same))
 }
 
 // Whether so many calls, each with its record, are as recorded.
@@ -265,7 +266,8 @@ fn ran(h: Head, program: &[u8], path: &mut [u8]) -> bool {
     let mut b = [0u8; 2048];
     let mut inputs = [0.0; 256];
     let mut registers = [0.0; 256];
-    ran_in(h, &mut b, &mut inputs, &mut registers, program, path)
+    let same = ran_in(h, &mut b, &mut inputs, &mut registers, program, path);
+    all(all(h.inputs <= 256, h.registers <= 256), same)
 }
 
 // A case whose formula, names, tree and program slices are just as long as it says.
@@ -281,7 +283,7 @@ fn both(
     let n = cut(h.path, path.len());
     let first = compared(h, formula, names, &mut path[0..n], tree, program, text);
     let second = ran(h, program, path);
-    all(first, second)
+    all(n == h.path, all(first, second))
 }
 
 fn case_in(
@@ -311,6 +313,14 @@ fn case_in(
     all(first, all(second, third))
 }
 
+// Whether the slices that a case asks for are there.
+fn fits(h: Head) -> bool {
+    all(
+        all(h.formula <= 8192, h.names <= 8192),
+        all(h.tree <= 8192, h.program <= 65536),
+    )
+}
+
 fn one_case(h: Head) -> bool {
     let mut formula = [0u8; 8192];
     let mut names = [0u8; 8192];
@@ -318,7 +328,7 @@ fn one_case(h: Head) -> bool {
     let mut tree = [0u8; 8192];
     let mut program = [0u8; 65536];
     let mut text = [0u8; 16384];
-    case_in(
+    let same = case_in(
         h,
         &mut formula,
         &mut names,
@@ -326,7 +336,8 @@ fn one_case(h: Head) -> bool {
         &mut tree,
         &mut program,
         &mut text,
-    )
+    );
+    all(fits(h), same)
 }
 
 // What comes after a case that is not as recorded can't be told from it.
