@@ -119,7 +119,7 @@ name-each (x ∷ xs) e zero l = or-first (is-letter x) (is-digit x) (name-first 
 name-each (x ∷ xs) e (suc i) l =
     all-at xs (and-second (is-letter x) (all letter-or-digit xs) (and-first (is-letter x && all letter-or-digit xs) (leb (length xs) 63) e)) i (omega arith)
 
-name-short : (xs : List ℕ) → is-name xs ≡ true → length xs ≤ 64
+pub name-short : (xs : List ℕ) → is-name xs ≡ true → length xs ≤ 64
 name-short [] e = omega arith
 name-short (x ∷ xs) e = let q = leb-true (length xs) 63 (and-second (is-letter x && all letter-or-digit xs) (leb (length xs) 63) e) in omega arith
 

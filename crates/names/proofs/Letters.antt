@@ -1,6 +1,6 @@
 -- The bytes of a name.
 use mathlib.Core.Path.{_≡_, refl, sym, ap, _∙_}
-use mathlib.Core.Bool.{Bool, true, false, _&&_, _||_, or-false, and-false, and-true}
+use mathlib.Core.Bool.{Bool, true, false, _&&_, _||_, or-false, and-false}
 use mathlib.Core.List.{List, [], _∷_}
 use Prim.Native.Nat.{ℕ, zero, suc, _+_, _-_, _*_, _%_, _≤_, _<_}
 use native.Mathlib.Omega.{arith}
@@ -8,8 +8,8 @@ use lib.ListN.{length, getD, take, drop, length-drop}
 use lib.Seq.{drop-cons, length-take-le}
 use lib.Dec.{eqb, leb, ltb}
 use borrow.Author.Tests.{eqb-true, eqb-false, ne-eqb, eq-eqb, le-leb, lt-leb, ltb-true, ltb-false}
-use Rattle.formula.specs.Text.{same-bytes, all}
-use Rattle.formula.specs.Names.{is-letter, is-digit, is-name, kind-of}
+use Rattle.formula.specs.Text.{same-bytes}
+use Rattle.formula.specs.Names.{is-letter, is-digit, kind-of}
 use Rattle.names.specs.Lines.{Ends, Letters, kind-place, mark}
 use Rattle.names.proofs.Marks.{mark-next}
 

@@ -14,7 +14,7 @@ use Rattle.formula.specs.Names.{Symbol, symbol-of, unlike, none-twice, table, s
 use Rattle.names.specs.Lines.{Ends, Tells, symbol-place, free, kind-number, Listed, mark, Marked, Placed, names-of, part, prefixed, repeats}
 use Rattle.names.specs.declared.Names.{Names}
 use Rattle.names.proofs.Splits.{no-true, and-both, and-first, and-second, free-from, split-end, split-next, prefixed-start, prefixed-more, prefixed-none, prefixed-some}
-use Rattle.names.proofs.Entries.{formed, part-front, place-none}
+use Rattle.names.proofs.Entries.{formed, part-front, name-short, place-none}
 use Rattle.names.proofs.Marks.{placed-stays}
 use Rattle.formula.proofs.Tests.{or-none}
 
@@ -88,6 +88,7 @@ pub record Found (line : List ℕ) (at end n k : ℕ) : Type 0 where
   pub name : symbol .name ≡ take n (drop at line)
   pub kind : k ≡ kind-number (symbol .kind)
   pub inside : at + n ≤ length line
+  pub short : n ≤ 64
 
 found-by : (o : Option Symbol) (line : List ℕ) (at stop end k : ℕ) → at ≤ stop → stop ≤ length line → part-symbol (part line at stop) ≡ o
     → k ≡ symbol-place o → (k ≡ 4 → ⊥) → stop ≡ end + 2 → Found line at stop (end - at) k
@@ -106,6 +107,7 @@ found-by (some s) line at stop end k from inside q e h a =
       name = sym (sym (part-front line at stop from inside n l) ∙ ap (take n) (f .is) ∙ take-at (s .name) (58 ∷ f .byte ∷ []) n (sym en));
       kind = e;
       inside = omega (arith, lp, ap length (f .is), ln);
+      short = omega (arith, en, name-short (s .name) (f .name));
     }
 
 -- an entry ends two bytes after its name

@@ -29,6 +29,13 @@ mark-next line at end l m =
     ∙ mark-snoc (take n xs) (getD xs n 0) 0
     ∙ ap (λ (y : ℕ). (mark (take n xs) * 16777619 + y) % 4294967296) (getD-drop at line n 0 ∙ ap (λ (j : ℕ). getD line j 0) z)
 
+below-from : (xs : List ℕ) (h : ℕ) → h < 4294967296 → mark-from h xs < 4294967296
+below-from [] h l = l
+below-from (x ∷ xs) h l = below-from xs ((h * 16777619 + x) % 4294967296) (omega arith)
+
+pub mark-below : (xs : List ℕ) → mark xs < 4294967296
+mark-below xs = below-from xs 0 (omega arith)
+
 -- names that are the same have one mark
 same-list : (xs ys : List ℕ) → same-bytes xs ys ≡ true → xs ≡ ys
 same-list [] [] e = refl

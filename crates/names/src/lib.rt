@@ -172,9 +172,9 @@ fn same_marked(line: &[u8], a: usize, m: usize, x: usize, b: usize, n: usize, y:
 // Whether one of the names before is the n bytes at a byte, whose mark is x.
 fn is_repeated(
     line: &[u8],
-    starts: &[usize; 256],
-    lengths: &[usize; 256],
-    marks: &[usize; 256],
+    starts: &[u16; 256],
+    lengths: &[u8; 256],
+    marks: &[u32; 256],
     count: usize,
     at: usize,
     n: usize,
@@ -186,7 +186,15 @@ fn is_repeated(
     let mut k = count;
     while k > 0 {
         k -= 1;
-        let same = same_marked(line, starts[k], lengths[k], marks[k], at, n, x);
+        let same = same_marked(
+            line,
+            starts[k] as usize,
+            lengths[k] as usize,
+            marks[k] as usize,
+            at,
+            n,
+            x,
+        );
         if same {
             return true;
         }
@@ -197,9 +205,9 @@ fn is_repeated(
 // The same, with a table of the places that the marks before have taken: where the place of x is free, no name before has its mark.
 fn comes_again(
     line: &[u8],
-    starts: &[usize; 256],
-    lengths: &[usize; 256],
-    marks: &[usize; 256],
+    starts: &[u16; 256],
+    lengths: &[u8; 256],
+    marks: &[u32; 256],
     taken: &[u8; 1024],
     count: usize,
     at: usize,
@@ -237,9 +245,10 @@ fn no_names() -> Names
 pub fn read_names(line: &[u8]) -> Names
     ensures { λ r. ⌜ r ≡ names-of (symbols-of (now (line .entry))) ⌝ }
 {
-    let mut starts = [0usize; 256];
-    let mut lengths = [0usize; 256];
-    let mut marks = [0usize; 256];
+    // An entry and its comma have at most 67 bytes, so that 256 of them start below 65,536.
+    let mut starts = [0u16; 256];
+    let mut lengths = [0u8; 256];
+    let mut marks = [0u32; 256];
     let mut taken = [0u8; 1024];
     let mut kinds = [0u8; 256];
     if line.len() == 0 {
@@ -266,9 +275,9 @@ pub fn read_names(line: &[u8]) -> Names
         if again {
             return no_names();
         }
-        starts[count] = at;
-        lengths[count] = n;
-        marks[count] = x;
+        starts[count] = at as u16;
+        lengths[count] = n as u8;
+        marks[count] = x as u32;
         taken[x % 1024] = 1;
         kinds[count] = kind;
         count += 1;

@@ -3,8 +3,9 @@ use Rattle.names.proofs.is_repeated.Tie as tie
 use mathlib.Core.Path.{_≡_, refl, sym, _∙_}
 use Prim.Native.Nat.{_-_, _≤_}
 use native.Mathlib.Omega.{arith}
-use lib.ListN.{take, drop}
+use lib.ListN.{getD, take, drop}
 use Rattle.names.specs.Lines.{repeats}
+use Rattle.names.proofs.Marks.{mark-below}
 use Rattle.names.proofs.Listing.{repeats-hit, repeats-miss, repeats-none}
 
 abbrev Inv-loop : tie.InvT-loop
@@ -25,17 +26,39 @@ mul-same-marked c = omega (arith, c .before .before .before .pre .0)
 element-copy-out-same-marked : tie.Need-element-copy-out-same-marked Inv-loop μ-loop
 element-copy-out-same-marked c = omega (arith, c .before .before .before .pre .0)
 
-mul-same-marked-2 : tie.Need-mul-same-marked-2 Inv-loop μ-loop
-mul-same-marked-2 c = omega (arith, c .before .before .before .before .pre .0)
+cast-same-marked : tie.Need-cast-same-marked Inv-loop μ-loop
+cast-same-marked c =
+    let good = c .before .before .before .before .good in
+    let pre = c .before .before .before .before .pre in
+    let loop = c .before .before .loop in
+    omega (arith, pre .2 (loop .k - 1) (omega (arith, loop .inv .0, c .before .loop-test .taken)), good .0 .0)
 
 element-copy-out-same-marked-2 : tie.Need-element-copy-out-same-marked-2 Inv-loop μ-loop
 element-copy-out-same-marked-2 c = omega (arith, c .before .before .before .before .pre .0)
 
-mul-same-marked-3 : tie.Need-mul-same-marked-3 Inv-loop μ-loop
-mul-same-marked-3 c = omega (arith, c .before .before .before .before .before .pre .0)
+cast-same-marked-2 : tie.Need-cast-same-marked-2 Inv-loop μ-loop
+cast-same-marked-2 c =
+    let good = c .before .before .before .before .before .good in
+    let pre = c .before .before .before .before .before .pre in
+    let loop = c .before .before .before .loop in
+    let loop-test = c .before .before .loop-test in
+    omega (arith, pre .2 (loop .k - 1) (omega (arith, loop .inv .0, loop-test .taken)), good .0 .0)
+
+mul-same-marked-2 : tie.Need-mul-same-marked-2 Inv-loop μ-loop
+mul-same-marked-2 c = omega (arith, c .before .before .before .before .before .pre .0)
 
 element-copy-out-same-marked-3 : tie.Need-element-copy-out-same-marked-3 Inv-loop μ-loop
 element-copy-out-same-marked-3 c = omega (arith, c .before .before .before .before .before .pre .0)
+
+cast-same-marked-3 : tie.Need-cast-same-marked-3 Inv-loop μ-loop
+cast-same-marked-3 c =
+    let args = c .before .before .before .before .before .before .args in
+    let pre = c .before .before .before .before .before .before .pre in
+    let loop = c .before .before .before .before .loop in
+    let loop-test = c .before .before .before .loop-test in
+    let k = loop .k - 1 in
+    let name = take (getD (args .lengths .now) k 0) (drop (getD (args .starts .now) k 0) (args .line .now)) in
+    omega (arith, pre .3 k (omega (arith, loop .inv .0, loop-test .taken)), mark-below name)
 
 same-marked-requires : tie.Need-same-marked-requires Inv-loop μ-loop
 same-marked-requires c κs =
@@ -83,10 +106,12 @@ is-repeated-spec =
     sub-k
     mul-same-marked
     element-copy-out-same-marked
-    mul-same-marked-2
+    cast-same-marked
     element-copy-out-same-marked-2
-    mul-same-marked-3
+    cast-same-marked-2
+    mul-same-marked-2
     element-copy-out-same-marked-3
+    cast-same-marked-3
     same-marked-requires
     returns
     loop-less

@@ -1,10 +1,10 @@
 use borrow.Author.Needs.{needs}
 use Rattle.names.proofs.kind_after.Statement.{statement}
 use Rattle.names.proofs.kind_after.Tie as tie
-use mathlib.Core.Path.{sym, ap, _∙_}
-use Prim.Native.Nat.{_+_, _-_, _<_, _≤_}
+use mathlib.Core.Path.{sym, _∙_}
+use Prim.Native.Nat.{_+_, _≤_}
 use native.Mathlib.Omega.{arith}
-use lib.ListN.{length, getD}
+use lib.ListN.{length}
 use Rattle.names.proofs.Splits.{not-true, not-false}
 use Rattle.names.proofs.Entries.{no-room-there, too-long-there, no-colon-there, no-letter-there, no-comma-there, tells-kind}
 use Rattle.names.proofs.kind_after.Reads as reads

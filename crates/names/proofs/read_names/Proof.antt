@@ -1,15 +1,16 @@
 use Rattle.names.proofs.read_names.Statement.{statement}
 use Rattle.names.proofs.read_names.Tie as tie
 use mathlib.Core.Path.{_≡_, refl, _∙_}
-use Prim.Native.Nat.{_+_, _-_, _%_}
+use Prim.Native.Nat.{_+_, _-_, _*_, _%_, _≤_}
 use Rattle.names.specs.Lines.{Marked, Placed}
 use native.Mathlib.Omega.{arith}
-use lib.ListN.{length, length-set}
+use lib.ListN.{length, take, drop, length-set}
+use Rattle.names.proofs.Marks.{mark-below}
 use Rattle.names.proofs.Listing.{Listing, told, listing-start, listing-empty, no-entry, too-many, repeated, listing-done, listing-more, marked-more, placed-more}
 
 abbrev Inv-loop : tie.InvT-loop
 Inv-loop line starts₀ lengths₀ marks₀ taken₀ kinds₀ count₀ at₀ starts lengths marks taken kinds count at =
-    Listing line starts lengths kinds count at × (length marks ≡ 256) × Marked line starts lengths marks count × (length taken ≡ 1024) × Placed marks taken count
+    Listing line starts lengths kinds count at × (length marks ≡ 256) × Marked line starts lengths marks count × (length taken ≡ 1024) × Placed marks taken count × (at ≤ 67 * count)
 
 abbrev μ-loop : tie.MeasureT-loop
 μ-loop line starts₀ lengths₀ marks₀ taken₀ kinds₀ count₀ at₀ starts lengths marks taken kinds count at = length line - at
@@ -18,7 +19,7 @@ returns : tie.Need-returns Inv-loop μ-loop
 returns c = listing-empty (c .before .before .args .line .now) _ (c .if1 .taken) refl
 
 loop-holds : tie.Need-loop-holds Inv-loop μ-loop
-loop-holds c = (listing-start (c .before .before .args .line .now) _ _ _ (c .if1 .left) refl refl refl, refl, λ k l. absurd (omega arith), refl, λ k l. absurd (omega arith))
+loop-holds c = (listing-start (c .before .before .args .line .now) _ _ _ (c .if1 .left) refl refl refl, refl, λ k l. absurd (omega arith), refl, λ k l. absurd (omega arith), omega arith)
 
 word-at-requires : tie.Need-word-at-requires Inv-loop μ-loop
 word-at-requires c κs = c .loop .inv .0 .inside
@@ -88,6 +89,11 @@ returns-4 c =
     ∙ repeated (args .line .now) (loop .starts) (loop .lengths) (loop .kinds) (loop .count) (loop .at) (end + 2) (loop .inv .0) (t .0) (end - loop .at) kind
     (t .1) (again .result) (again .ensures) (c .before .if4 .taken)
 
+cast-starts : tie.Need-cast-starts Inv-loop μ-loop
+cast-starts c =
+    let loop = c .before .before .before .before .before .before .before .before .before .before .before .loop in
+    omega (arith, loop .inv .5, loop .inv .0 .few)
+
 mul-starts : tie.Need-mul-starts Inv-loop μ-loop
 mul-starts c = omega (arith, c .before .before .before .before .before .before .before .before .before .before .before .loop .inv .0 .few)
 
@@ -97,14 +103,29 @@ array-write-starts c =
     let if3 = c .before .before .before .before .before .before .before .if3 in
     omega (arith, loop .inv .0 .few, if3 .left)
 
-mul-lengths : tie.Need-mul-lengths Inv-loop μ-loop
-mul-lengths c = omega (arith, c .before .before .before .before .before .before .before .before .before .before .before .loop .inv .0 .few)
+cast-lengths : tie.Need-cast-lengths Inv-loop μ-loop
+cast-lengths c =
+    let args = c .before .before .before .before .before .before .before .before .before .before .before .before .before .before .args in
+    let loop = c .before .before .before .before .before .before .before .before .before .before .before .loop in
+    let word-at = c .before .before .before .before .before .before .before .before .before .before .word-at in
+    let kind-after = c .before .before .before .before .before .before .before .before .before .kind-after in
+    let end = word-at .result .end in
+    let t = told (args .line .now) (loop .at) end (kind-after .result) (kind-after .ensures) (c .before .before .before .before .before .before .before .before .if2 .left) in
+    omega (arith, t .1 .short)
 
 array-write-lengths : tie.Need-array-write-lengths Inv-loop μ-loop
 array-write-lengths c =
     let loop = c .before .before .before .before .before .before .before .before .before .before .before .loop in
     let if3 = c .before .before .before .before .before .before .before .if3 in
     omega (arith, loop .inv .0 .few, if3 .left)
+
+cast-marks : tie.Need-cast-marks Inv-loop μ-loop
+cast-marks c =
+    let args = c .before .before .before .before .before .before .before .before .before .before .before .before .before .before .args in
+    let loop = c .before .before .before .before .before .before .before .before .before .before .before .loop in
+    let word-at = c .before .before .before .before .before .before .before .before .before .before .word-at in
+    let at = loop .at in
+    omega (arith, word-at .ensures .1, mark-below (take (word-at .result .end - at) (drop at (args .line .now))))
 
 mul-marks : tie.Need-mul-marks Inv-loop μ-loop
 mul-marks c = omega (arith, c .before .before .before .before .before .before .before .before .before .before .before .loop .inv .0 .few)
@@ -203,6 +224,7 @@ loop-again c =
           kind (t .1) (again .result) (again .ensures) (if4 .left) few (loop .marks) x (loop .inv .1) (loop .inv .2) (word-at .ensures .1),
       length-set (loop .taken) (x % 1024) 1 ∙ loop .inv .3,
       placed-more (loop .marks) (loop .taken) (loop .count) x (omega (arith, loop .inv .0 .few, loop .inv .1, few)) (loop .inv .3) (loop .inv .4),
+      omega (arith, loop .inv .5, t .1 .short, word-at .ensures .0 .from),
     )
 
 pub read-names-spec : {M : Type 1} → statement M
@@ -223,10 +245,12 @@ read-names-spec =
     comes-again-requires
     no-names-requires-3
     returns-4
+    cast-starts
     mul-starts
     array-write-starts
-    mul-lengths
+    cast-lengths
     array-write-lengths
+    cast-marks
     mul-marks
     array-write-marks
     array-write-taken

@@ -1,9 +1,8 @@
 use Rattle.names.proofs.word_at.Statement.{statement}
 use Rattle.names.proofs.word_at.Tie as tie
 use mathlib.Core.Path.{sym, _∙_}
-use Prim.Native.Nat.{_+_, _-_}
+use Prim.Native.Nat.{_-_}
 use native.Mathlib.Omega.{arith}
-use borrow.Author.Needs.{needs}
 use lib.ListN.{length}
 use Rattle.names.proofs.Letters.{Spelling, spelling-start, spelling-more, spelling-stop, spelling-end}
 use Rattle.names.proofs.word_at.Reads as reads
