@@ -28,7 +28,7 @@ pub fn size(b: &[u8], i: usize) -> usize {
     cell(b, i) as usize
 }
 
-// A length, cut to what there is: a record that asks for more does not come out as recorded.
+// A length, cut to what there is. Whether a record asked for more is for the caller to say.
 pub fn cut(n: usize, most: usize) -> usize
     ensures { λ r. ⌜ r ≤ most ⌝ }
 {
