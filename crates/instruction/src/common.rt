@@ -12,19 +12,11 @@ use crate::store;
 use crate::value_at;
 use layout::HEADER_SIZE;
 use layout::SLOT_SIZE;
-use reader::wide;
+use reader::known_word;
 use work::truth_value;
 
 // No position of an instruction.
 pub const NOT_DONE: usize = 0xffff_ffff_ffff_ffff;
-
-// The number of 4 bytes that are there.
-pub fn word(p: &[u8], at: usize) -> usize
-    requires { ⌜ at + 4 ≤ length (now p) ⌝ }
-    ensures { λ r. ⌜ (r ≡ word-at (now (p .entry)) at) × (r < 4294967296) ⌝ }
-{
-    wide(p[at]) + 256 * wide(p[at + 1]) + 65536 * wide(p[at + 2]) + 16777216 * wide(p[at + 3])
-}
 
 // "Division by a zero of either sign .. [is] Domain": a NaN.
 fn quotient(x: f64, y: f64) -> f64
@@ -67,20 +59,20 @@ pub fn step(p: &[u8], n: usize, inputs: &[f64], regs: &mut [f64]) -> usize
 {
     let at = HEADER_SIZE + SLOT_SIZE * n;
     let op = p[at];
-    let a = word(p, at + 8);
-    let b = word(p, at + 12);
+    let a = known_word(p, at + 8);
+    let b = known_word(p, at + 12);
     if op == 3 {
         if value_at(regs, a) == 0.0 {
-            return word(p, at + 16);
+            return known_word(p, at + 16);
         }
         return n + 1;
     }
     if op == 4 {
-        return word(p, at + 16);
+        return known_word(p, at + 16);
     }
     let v = value(op, a, b, inputs, regs);
     if floats::value::is_finite(v) {
-        store(regs, word(p, at + 4), v);
+        store(regs, known_word(p, at + 4), v);
         return n + 1;
     }
     NOT_DONE

@@ -71,7 +71,7 @@ fn entry(p: &[u8], at: usize, there: bool) -> usize
     ensures { λ r. ⌜ r ≡ word-at (now (p .entry)) at ⌝ }
 {
     if there {
-        return common::word(p, at);
+        return reader::known_word(p, at);
     }
     word(p, at)
 }

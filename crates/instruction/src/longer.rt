@@ -10,13 +10,13 @@ ghost use Rattle.arithmetic.specs.Modulo.{modulo};
 ghost use Rattle.layout.specs.Decode.{slot-at, slot-size};
 ghost use Rattle.instruction.specs.Common.{Went, Works};
 use crate::common::NOT_DONE;
-use crate::common::word;
 use crate::extremum;
 use crate::store;
 use crate::value_at;
 use layout::HEADER_SIZE;
 use layout::SLOT_SIZE;
 use reader::half;
+use reader::known_word;
 
 // "Modulo with b <= 0 [is] Domain": a NaN.
 fn remainder(a: f64, b: f64) -> f64
@@ -34,9 +34,9 @@ fn value(op: u8, p: &[u8], at: usize, regs: &[f64]) -> f64
     requires { ⌜ (at < 1099511627776) × (at + slot-size ≤ length (now p)) ⌝ }
     ensures { λ r. ⌜ Works (now (p .entry)) at op (now (regs .entry)) r ⌝ }
 {
-    let a = word(p, at + 8);
+    let a = known_word(p, at + 8);
     match op {
-        13 => remainder(value_at(regs, a), value_at(regs, word(p, at + 12))),
+        13 => remainder(value_at(regs, a), value_at(regs, known_word(p, at + 12))),
         23 => floats::root::sqrt(value_at(regs, a)),
         28 => floats::value::abs(value_at(regs, a)),
         29 => floats::whole::floor(value_at(regs, a)),
@@ -56,7 +56,7 @@ pub fn step(p: &[u8], n: usize, regs: &mut [f64]) -> usize
     let op = p[at];
     let v = value(op, p, at, regs);
     if floats::value::is_finite(v) {
-        store(regs, word(p, at + 4), v);
+        store(regs, known_word(p, at + 4), v);
         return n + 1;
     }
     NOT_DONE

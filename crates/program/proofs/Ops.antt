@@ -12,7 +12,7 @@ use Rattle.machine.specs.Program.{Op, all-below, jump, op-allowed}
 use Rattle.machine.proofs.Laws.{and-l, and-r}
 use Rattle.layout.specs.Decode.{code-count, entries-from, entry-at, entry-total, input-count, list-ok, op-at, ops, path-number, path-total, raw-program, register-total, slot-at, slot-ok, uses-a, uses-b, uses-c, uses-list, zero-unless}
 use Rattle.program.specs.declared.Header.{Header}
-use Rattle.program.specs.Check.{Numbers, Row, fields-below, operands-ok}
+use Rattle.program.specs.Check.{Numbers, Slot, fields-below, operands-ok}
 use Rattle.program.proofs.Tests.{and-assoc, and-one, below-next, below-one, one-of, passed, refused, swapped, turned, under}
 use Rattle.program.proofs.Body.{code-length}
 
@@ -38,19 +38,19 @@ nest true true true o = refl
 arranged : (a z l x y w p o : Bool) → a ≡ true → z ≡ true → l ≡ true → p ≡ true → ((a && z && l && x && y && w && p) && o) ≡ (x && (y && (w && o)))
 arranged a z l x y w p o ea ez el ep = rw (ea, ez, el, ep) (nest x y w o)
 
-module _ (b : List ℕ) (h : Header) (n row head next : ℕ) (r : Row b h n row head next) where
+module _ (b : List ℕ) (h : Header) (n slot head next : ℕ) (r : Slot b h n slot head next) where
   -- the opcode, the zero after it and the count, as the first four bytes have them
   parts : (head ≡ half-at b (slot-at n) + 65536 * half-at b (slot-at n + 2)) × (half-at b (slot-at n) ≡ byte-at b (slot-at n) + 256 * byte-at b (slot-at n + 1)) × (half-at b (slot-at n) < 65536)
   unfolding word-at half-at
   parts = (r .read .is ∙ ap (word-at b) (r .place), refl, rw (r .place) at (r .read .low))
 
   -- unused fields, in their order, then the rest
-  slot-row : byte-at b (slot-at n) < 35 → byte-at b (slot-at n + 1) ≡ 0 → zero-unless (uses-list (byte-at b (slot-at n))) (half-at b (slot-at n + 2)) ≡ true → (x : Bool)
+  slot-slot : byte-at b (slot-at n) < 35 → byte-at b (slot-at n + 1) ≡ 0 → zero-unless (uses-list (byte-at b (slot-at n))) (half-at b (slot-at n + 2)) ≡ true → (x : Bool)
       → (slot-ok b n && x)
       ≡ (zero-unless (uses-a (byte-at b (slot-at n))) (word-at b (slot-at n + 8))
       && (zero-unless (uses-b (byte-at b (slot-at n))) (word-at b (slot-at n + 12)) && (zero-unless (uses-c (byte-at b (slot-at n))) (word-at b (slot-at n + 16)) && x)))
   unfolding slot-ok
-  slot-row l z u x =
+  slot-slot l z u x =
       let o = byte-at b (slot-at n) in
       arranged (ltb o 35) (eqb (byte-at b (slot-at n + 1)) 0) (zero-unless (uses-list o) (half-at b (slot-at n + 2))) (zero-unless (uses-a o) (word-at b (slot-at n + 8)))
       (zero-unless (uses-b o) (word-at b (slot-at n + 12))) (zero-unless (uses-c o) (word-at b (slot-at n + 16))) (ltb (path-number b n) (path-total b)) x
@@ -58,9 +58,9 @@ module _ (b : List ℕ) (h : Header) (n row head next : ℕ) (r : Row b h n row 
 
   -- ---- opcodes without a list
 
-  plain-row : head < 35 → (head ≡ 31 → ⊥) → (head ≡ 32 → ⊥) → plain b n head ≡ operands-ok b n next
+  plain-slot : head < 35 → (head ≡ 31 → ⊥) → (head ≡ 32 → ⊥) → plain b n head ≡ operands-ok b n next
   unfolding operands-ok list-ok plain op-of op-at
-  plain-row l f g =
+  plain-slot l f g =
       let e = parts in
       let o : byte-at b (slot-at n) ≡ head = omega arith in
       let c : half-at b (slot-at n + 2) ≡ 0 = omega arith in
@@ -71,14 +71,14 @@ module _ (b : List ℕ) (h : Header) (n row head next : ℕ) (r : Row b h n row 
       let s : zero-unless (uses-list (byte-at b (slot-at n))) (half-at b (slot-at n + 2)) ≡ true = rw (u, eq-eqb (half-at b (slot-at n + 2)) 0 c) in
       let k : leb (next + half-at b (slot-at n + 2)) (entry-total b) ≡ true = le-leb (next + half-at b (slot-at n + 2)) (entry-total b) (omega (arith, r .whole .numbers .entries, r .fits)) in
       ap (plain b n) (sym o)
-      ∙ sym (slot-row i z s (list-ok b n next && (leb (next + half-at b (slot-at n + 2)) (entry-total b) && op-allowed (raw-program b) n (op-at b n)))
+      ∙ sym (slot-slot i z s (list-ok b n next && (leb (next + half-at b (slot-at n + 2)) (entry-total b) && op-allowed (raw-program b) n (op-at b n)))
       ∙ rw (u, k))
 
-  pub constant-row : head ≡ 0 → eqb (word-at b (row + 16)) 0 ≡ operands-ok b n next
+  pub constant-slot : head ≡ 0 → eqb (word-at b (slot + 16)) 0 ≡ operands-ok b n next
   unfolding plain op-of raw-program
-  constant-row e =
+  constant-slot e =
       rw (r .place)
-      (sym (and-one (eqb (word-at b (slot-at n + 16)) 0)) ∙ ap (plain b n) (sym e) ∙ plain-row (omega arith) (λ q. omega arith) (λ q. omega arith))
+      (sym (and-one (eqb (word-at b (slot-at n + 16)) 0)) ∙ ap (plain b n) (sym e) ∙ plain-slot (omega arith) (λ q. omega arith) (λ q. omega arith))
 
   -- ---- by the limits of a, b and c
 
@@ -87,33 +87,33 @@ module _ (b : List ℕ) (h : Header) (n row head next : ℕ) (r : Row b h n row 
       rw (below-one (word-at b (slot-at n + 12)), below-one (word-at b (slot-at n + 16)))
       (turned (ltb (word-at b (slot-at n + 8)) x) (eqb (word-at b (slot-at n + 12)) 0) (eqb (word-at b (slot-at n + 16)) 0))
 
-  pub load-row : head ≡ 1 → fields-below b row (h .inputs) 1 1 ≡ operands-ok b n next
+  pub load-slot : head ≡ 1 → fields-below b slot (h .inputs) 1 1 ≡ operands-ok b n next
   unfolding plain op-of raw-program
-  load-row e =
+  load-slot e =
       rw (r .place, r .whole .numbers .inputs)
-      (one-field (input-count b) ∙ ap (plain b n) (sym e) ∙ plain-row (omega arith) (λ q. omega arith) (λ q. omega arith))
+      (one-field (input-count b) ∙ ap (plain b n) (sym e) ∙ plain-slot (omega arith) (λ q. omega arith) (λ q. omega arith))
 
-  pub jump-if-row : head ≡ 3 → (ltb n (word-at b (row + 16)) && fields-below b row (h .registers) 1 (h .code + 1)) ≡ operands-ok b n next
+  pub jump-if-slot : head ≡ 3 → (ltb n (word-at b (slot + 16)) && fields-below b slot (h .registers) 1 (h .code + 1)) ≡ operands-ok b n next
   unfolding plain op-of raw-program
-  jump-if-row e =
+  jump-if-slot e =
       let x = ltb (word-at b (slot-at n + 8)) (register-total b) in
       let y = eqb (word-at b (slot-at n + 12)) 0 in
       let f = ltb n (word-at b (slot-at n + 16)) in
       rw (r .place, r .whole .numbers .registers, r .whole .numbers .code, below-one (word-at b (slot-at n + 12)), below-next (word-at b (slot-at n + 16)) (code-count b))
       (passed f x y (leb (word-at b (slot-at n + 16)) (code-count b)) ∙ swapped x y (f && leb (word-at b (slot-at n + 16)) (code-count b))
       ∙ ap (λ (k : ℕ). y && (x && (f && leb (word-at b (slot-at n + 16)) k))) (sym (code-length b))
-      ∙ ap (plain b n) (sym e) ∙ plain-row (omega arith) (λ q. omega arith) (λ q. omega arith))
+      ∙ ap (plain b n) (sym e) ∙ plain-slot (omega arith) (λ q. omega arith) (λ q. omega arith))
 
-  pub jump-row : head ≡ 4 → (ltb n (word-at b (row + 16)) && fields-below b row 1 1 (h .code + 1)) ≡ operands-ok b n next
+  pub jump-slot : head ≡ 4 → (ltb n (word-at b (slot + 16)) && fields-below b slot 1 1 (h .code + 1)) ≡ operands-ok b n next
   unfolding plain op-of raw-program
-  jump-row e =
+  jump-slot e =
       let x = eqb (word-at b (slot-at n + 8)) 0 in
       let y = eqb (word-at b (slot-at n + 12)) 0 in
       let f = ltb n (word-at b (slot-at n + 16)) in
       rw (r .place, r .whole .numbers .code, below-one (word-at b (slot-at n + 8)), below-one (word-at b (slot-at n + 12)), below-next (word-at b (slot-at n + 16)) (code-count b))
       (passed f x y (leb (word-at b (slot-at n + 16)) (code-count b))
       ∙ ap (λ (k : ℕ). x && (y && (f && leb (word-at b (slot-at n + 16)) k))) (sym (code-length b))
-      ∙ ap (plain b n) (sym e) ∙ plain-row (omega arith) (λ q. omega arith) (λ q. omega arith))
+      ∙ ap (plain b n) (sym e) ∙ plain-slot (omega arith) (λ q. omega arith) (λ q. omega arith))
 
   one-last : fields-below b (slot-at n) (register-total b) 1 1 ≡ (eqb (word-at b (slot-at n + 12)) 0 && (eqb (word-at b (slot-at n + 16)) 0 && (ltb (word-at b (slot-at n + 8)) (register-total b) && true)))
   one-last =
@@ -121,9 +121,9 @@ module _ (b : List ℕ) (h : Header) (n row head next : ℕ) (r : Row b h n row 
       ∙ ap (λ x. eqb (word-at b (slot-at n + 12)) 0 && (eqb (word-at b (slot-at n + 16)) 0 && x)) (sym (and-one (ltb (word-at b (slot-at n + 8)) (register-total b))))
 
   -- copy, Positive, Negative, Not
-  pub low-single-row : head < 8 → (head ≡ 0 → ⊥) → (head ≡ 1 → ⊥) → (head ≡ 3 → ⊥) → (head ≡ 4 → ⊥) → fields-below b row (h .registers) 1 1 ≡ operands-ok b n next
+  pub low-single-slot : head < 8 → (head ≡ 0 → ⊥) → (head ≡ 1 → ⊥) → (head ≡ 3 → ⊥) → (head ≡ 4 → ⊥) → fields-below b slot (h .registers) 1 1 ≡ operands-ok b n next
   unfolding plain op-of raw-program
-  low-single-row l f0 f1 f3 f4 =
+  low-single-slot l f0 f1 f3 f4 =
       let p = one-last in
       rw (r .place, r .whole .numbers .registers)
       (one-of (λ (m : ℕ). (m ≡ 0 → ⊥) → (m ≡ 1 → ⊥) → (m ≡ 3 → ⊥) → (m ≡ 4 → ⊥) → fields-below b (slot-at n) (register-total b) 1 1 ≡ plain b n m) 8 0 head (omega arith) l (
@@ -142,43 +142,43 @@ module _ (b : List ℕ) (h : Header) (n row head next : ℕ) (r : Row b h n row 
           ),
         ),
       ) f0 f1 f3 f4
-      ∙ plain-row (omega arith) (λ q. omega arith) (λ q. omega arith))
+      ∙ plain-slot (omega arith) (λ q. omega arith) (λ q. omega arith))
 
-  pub single-row : 20 ≤ head → head < 31 → fields-below b row (h .registers) 1 1 ≡ operands-ok b n next
+  pub single-slot : 20 ≤ head → head < 31 → fields-below b slot (h .registers) 1 1 ≡ operands-ok b n next
   unfolding plain op-of raw-program
-  single-row k l =
+  single-slot k l =
       let p = one-last in
       rw (r .place, r .whole .numbers .registers)
       (one-of (λ (m : ℕ). fields-below b (slot-at n) (register-total b) 1 1 ≡ plain b n m) 11 20 head k l (p, (p, (p, (p, (p, (p, (p, (p, (p, (p, (p, tt)))))))))))
-      ∙ plain-row (omega arith) (λ q. omega arith) (λ q. omega arith))
+      ∙ plain-slot (omega arith) (λ q. omega arith) (λ q. omega arith))
 
-  pub pair-row : 8 ≤ head → head < 20 → fields-below b row (h .registers) (h .registers) 1 ≡ operands-ok b n next
+  pub pair-slot : 8 ≤ head → head < 20 → fields-below b slot (h .registers) (h .registers) 1 ≡ operands-ok b n next
   unfolding plain op-of raw-program
-  pair-row k l =
+  pair-slot k l =
       let x = ltb (word-at b (slot-at n + 8)) (register-total b) in
       let y = ltb (word-at b (slot-at n + 12)) (register-total b) in
       let z = eqb (word-at b (slot-at n + 16)) 0 in
       let p = sym (turned z x y) ∙ ap (λ w. z && (x && w)) (sym (and-one y)) in
       rw (r .place, r .whole .numbers .registers, below-one (word-at b (slot-at n + 16)))
       (one-of (λ (m : ℕ). (x && (y && z)) ≡ plain b n m) 12 8 head k l (p, (p, (p, (p, (p, (p, (p, (p, (p, (p, (p, (p, tt))))))))))))
-      ∙ plain-row (omega arith) (λ q. omega arith) (λ q. omega arith))
+      ∙ plain-slot (omega arith) (λ q. omega arith) (λ q. omega arith))
 
-  pub triple-row : 33 ≤ head → head < 35 → fields-below b row (h .registers) (h .registers) (h .registers) ≡ operands-ok b n next
+  pub triple-slot : 33 ≤ head → head < 35 → fields-below b slot (h .registers) (h .registers) (h .registers) ≡ operands-ok b n next
   unfolding plain op-of raw-program
-  triple-row k l =
+  triple-slot k l =
       let x = ltb (word-at b (slot-at n + 8)) (register-total b) in
       let y = ltb (word-at b (slot-at n + 12)) (register-total b) in
       let z = ltb (word-at b (slot-at n + 16)) (register-total b) in
       let p = ap (λ w. x && (y && w)) (sym (and-one z)) in
       rw (r .place, r .whole .numbers .registers)
-      (one-of (λ (m : ℕ). (x && (y && z)) ≡ plain b n m) 2 33 head k l (p, (p, tt)) ∙ plain-row (omega arith) (λ q. omega arith) (λ q. omega arith))
+      (one-of (λ (m : ℕ). (x && (y && z)) ≡ plain b n m) 2 33 head k l (p, (p, tt)) ∙ plain-slot (omega arith) (λ q. omega arith) (λ q. omega arith))
 
   -- ---- Min and Max
 
   -- no other opcode has a count
-  pub unlisted-row : 31 ≤ head → (33 ≤ head → 35 ≤ head) → (head % 65536 ≡ 31 → ⊥) → (head % 65536 ≡ 32 → ⊥) → false ≡ operands-ok b n next
+  pub unlisted-slot : 31 ≤ head → (33 ≤ head → 35 ≤ head) → (head % 65536 ≡ 31 → ⊥) → (head % 65536 ≡ 32 → ⊥) → false ≡ operands-ok b n next
   unfolding operands-ok slot-ok
-  unlisted-row k g f1 f2 =
+  unlisted-slot k g f1 f2 =
       refused (operands-ok b n next)
       (λ e.
       let q = parts in
@@ -196,11 +196,11 @@ module _ (b : List ℕ) (h : Header) (n row head next : ℕ) (r : Row b h n row 
       let w = g t in
       omega arith)
 
-  pub list-row : 31 ≤ head % 65536 → head % 65536 < 33
-      → (eqb (word-at b (row + 12)) 0 && (eqb (word-at b (row + 16)) 0 && (eqb (word-at b (row + 8)) next
+  pub list-slot : 31 ≤ head % 65536 → head % 65536 < 33
+      → (eqb (word-at b (slot + 12)) 0 && (eqb (word-at b (slot + 16)) 0 && (eqb (word-at b (slot + 8)) next
       && (leb 2 (head / 65536) && (leb (next + head / 65536) (h .entries) && all-below (h .registers) (entries-from b (head / 65536) next)))))) ≡ operands-ok b n next
   unfolding operands-ok list-ok op-of op-at raw-program
-  list-row k l =
+  list-slot k l =
       let q = parts in
       let o = byte-at b (slot-at n) in
       let m : ℕ = half-at b (slot-at n + 2) in
@@ -216,7 +216,7 @@ module _ (b : List ℕ) (h : Header) (n row head next : ℕ) (r : Row b h n row 
       (ap (λ x. eqb (word-at b (slot-at n + 12)) 0 && (eqb (word-at b (slot-at n + 16)) 0 && x))
       (under (eqb a next) (λ e. ap (λ (x : ℕ). leb 2 m && (leb (next + m) (entry-total b) && all-below (register-total b) (entries-from b m x))) (sym (eqb→eq a next (rw e tt))))
       ∙ sym (and-assoc (eqb a next) (leb 2 m) (leb (next + m) (entry-total b) && all-below (register-total b) (entries-from b m a))))
-      ∙ sym (slot-row i z s (list-ok b n next && (leb (next + m) (entry-total b) && op-allowed (raw-program b) n (op-at b n))) ∙ rw (us .0, us .1, us .2, us .3, al)))
+      ∙ sym (slot-slot i z s (list-ok b n next && (leb (next + m) (entry-total b) && op-allowed (raw-program b) n (op-at b n))) ∙ rw (us .0, us .1, us .2, us .3, al)))
 
 -- ---- the entries of a list
 

@@ -35,15 +35,15 @@ slot-path b n e =
     && zero-unless (uses-b o) (word-at b (slot-at n + 12)) && zero-unless (uses-c o) (word-at b (slot-at n + 16))) _ e)
 
 -- the list's length, as the first four bytes have it
-pub count-is : (b : List ℕ) (n row head : ℕ) → row ≡ slot-at n → Read b row head → head / 65536 ≡ half-at b (slot-at n + 2)
+pub count-is : (b : List ℕ) (n slot head : ℕ) → slot ≡ slot-at n → Read b slot head → head / 65536 ≡ half-at b (slot-at n + 2)
 unfolding word-at
-count-is b n row head e r =
+count-is b n slot head e r =
     let w : head ≡ half-at b (slot-at n) + 65536 * half-at b (slot-at n + 2) = r .is ∙ ap (word-at b) e in
     let l : half-at b (slot-at n) < 65536 = rw e at (r .low) in
     omega arith
 
 -- destination and path, as they are read
-module _ (b : List ℕ) (h : Header) (n row : ℕ) (w : Whole b h) (e : row ≡ slot-at n) {d : ℕ} (rd : Read b (row + 4) d) where
+module _ (b : List ℕ) (h : Header) (n slot : ℕ) (w : Whole b h) (e : slot ≡ slot-at n) {d : ℕ} (rd : Read b (slot + 4) d) where
   destination-is : d ≡ destination-at b n
   unfolding destination-at
   destination-is = rd .is ∙ ap (λ (x : ℕ). word-at b (x + 4)) e
@@ -52,7 +52,7 @@ module _ (b : List ℕ) (h : Header) (n row : ℕ) (w : Whole b h) (e : row ≡ 
   unfolding placed-ok
   no-destination k = rw (le-ltb (destination-at b n) (register-total b) (omega (arith, destination-is, w .numbers .registers)))
 
-  module _ {k : ℕ} (rk : Read b (row + 20) k) (l : d < h .registers) where
+  module _ {k : ℕ} (rk : Read b (slot + 20) k) (l : d < h .registers) where
     path-is : k ≡ path-number b n
     unfolding path-number
     path-is = rk .is ∙ ap (λ (x : ℕ). word-at b (x + 20)) e

@@ -31,7 +31,7 @@ operands-ok b n next =
 
 -- a, b and c of the instruction at a byte are below these
 abbrev pub fields-below : List ℕ → ℕ → ℕ → ℕ → ℕ → Bool
-fields-below b row x y z = ltb (word-at b (row + 8)) x && (ltb (word-at b (row + 12)) y && ltb (word-at b (row + 16)) z)
+fields-below b slot x y z = ltb (word-at b (slot + 8)) x && (ltb (word-at b (slot + 12)) y && ltb (word-at b (slot + 16)) z)
 
 unfoldable pub instruction-ok : List ℕ → ℕ → ℕ → Bool
 instruction-ok b n next = placed-ok b n && operands-ok b n next
@@ -67,10 +67,10 @@ pub record Whole (b : List ℕ) (h : Header) : Type 0 where
   pub room : 32 + 24 * h .code + 12 * h .paths + 4 * h .entries ≤ length b
 
 -- instruction n, where it begins, its first four bytes, and how many entries the lists before it have; its path is there
-pub record Row (b : List ℕ) (h : Header) (n row head next : ℕ) : Type 0 where
+pub record Slot (b : List ℕ) (h : Header) (n slot head next : ℕ) : Type 0 where
   pub whole : Whole b h
   pub inside : n < h .code
-  pub place : row ≡ slot-at n
-  pub read : Read b row head
+  pub place : slot ≡ slot-at n
+  pub read : Read b slot head
   pub path : path-number b n < path-total b
   pub fits : next ≤ h .entries

@@ -13,7 +13,7 @@ ghost use Rattle.formula.specs.Path.{placed, step-text};
 ghost use Rattle.machine.specs.Program.{all-below, valid};
 ghost use Rattle.layout.specs.Opcode.{step-of};
 ghost use Rattle.layout.specs.Decode.{code-count, entries-from, length-at, path-of, path-total, program-at, record-ok, records-ok};
-ghost use Rattle.program.specs.Check.{Fits-header, Numbers, Read, Row, Whole, fields-below, header-ok, instruction-ok, instructions-ok, operands-ok, placed-ok};
+ghost use Rattle.program.specs.Check.{Fits-header, Numbers, Read, Slot, Whole, fields-below, header-ok, instruction-ok, instructions-ok, operands-ok, placed-ok};
 use layout::CODE_AT;
 use layout::ENTRIES_AT;
 use layout::ENTRY_SIZE;
@@ -25,21 +25,14 @@ use layout::RECORD_SIZE;
 use layout::REGISTERS_AT;
 use layout::RESULT_AT;
 use layout::SLOT_SIZE;
-use reader::wide;
-
-// A number of 4 bytes, as `reader` gives it.
-pub fn word(p: &[u8], at: usize) -> usize
-    ensures { λ r. ⌜ (r ≡ word-at (now (p .entry)) at) × (r < 4294967296) ⌝ }
-{
-    reader::word(p, at)
-}
+use reader::known_half;
 
 // A number of 4 bytes that are there: one load, without a test.
 fn field(p: &[u8], at: usize) -> usize
     requires { ⌜ at + 4 ≤ length (now p) ⌝ }
     ensures { λ r. ⌜ Read (now (p .entry)) at r ⌝ }
 {
-    wide(p[at]) + 256 * wide(p[at + 1]) + 65536 * wide(p[at + 2]) + 16777216 * wide(p[at + 3])
+    known_half(p, at) + 65536 * known_half(p, at + 2)
 }
 
 // ---- header
@@ -152,15 +145,15 @@ fn all_records_ok(p: &[u8], h: Header) -> bool
 
 // ---- instructions
 
-// The destination and the path of instruction n, which begins at the byte `row`, are there.
-fn placed_ok(p: &[u8], h: Header, n: usize, row: usize) -> bool
-    requires { ⌜ Whole (now p) h × (n < h .code) × (row ≡ 32 + 24 * n) ⌝ }
+// The destination and the path of instruction n, which begins at the byte `slot`, are there.
+fn placed_ok(p: &[u8], h: Header, n: usize, slot: usize) -> bool
+    requires { ⌜ Whole (now p) h × (n < h .code) × (slot ≡ 32 + 24 * n) ⌝ }
     ensures { λ r. ⌜ r ≡ placed-ok (now (p .entry)) n ⌝ }
 {
-    if h.registers <= field(p, row + 4) {
+    if h.registers <= field(p, slot + 4) {
         return false;
     }
-    let path = field(p, row + 20);
+    let path = field(p, slot + 20);
     if h.paths <= path {
         return false;
     }
@@ -168,39 +161,39 @@ fn placed_ok(p: &[u8], h: Header, n: usize, row: usize) -> bool
 }
 
 // The fields a, b and c are below these limits; one that is unused is zero, so below 1.
-fn below(p: &[u8], row: usize, a: usize, b: usize, c: usize) -> bool
-    requires { ⌜ row + 24 ≤ length (now p) ⌝ }
-    ensures { λ r. ⌜ r ≡ fields-below (now (p .entry)) row a b c ⌝ }
+fn below(p: &[u8], slot: usize, a: usize, b: usize, c: usize) -> bool
+    requires { ⌜ slot + 24 ≤ length (now p) ⌝ }
+    ensures { λ r. ⌜ r ≡ fields-below (now (p .entry)) slot a b c ⌝ }
 {
-    field(p, row + 8) < a && (field(p, row + 12) < b && field(p, row + 16) < c)
+    field(p, slot + 8) < a && (field(p, slot + 12) < b && field(p, slot + 16) < c)
 }
 
 // A jump of instruction n goes forward, to the code's end at most.
-fn jump_ok(p: &[u8], h: Header, n: usize, row: usize, a: usize) -> bool
-    requires { ⌜ Whole (now p) h × (row + 24 ≤ length (now p)) ⌝ }
-    ensures { λ r. ⌜ r ≡ (ltb n (word-at (now (p .entry)) (row + 16)) && fields-below (now (p .entry)) row a 1 (h .code + 1)) ⌝ }
+fn jump_ok(p: &[u8], h: Header, n: usize, slot: usize, a: usize) -> bool
+    requires { ⌜ Whole (now p) h × (slot + 24 ≤ length (now p)) ⌝ }
+    ensures { λ r. ⌜ r ≡ (ltb n (word-at (now (p .entry)) (slot + 16)) && fields-below (now (p .entry)) slot a 1 (h .code + 1)) ⌝ }
 {
-    n < field(p, row + 16) && below(p, row, a, 1, h.code + 1)
+    n < field(p, slot + 16) && below(p, slot, a, 1, h.code + 1)
 }
 
 // Opcodes below 8: constant, load, copy, the jumps, and the operations of one register.
-fn first_ok(p: &[u8], h: Header, n: usize, row: usize, head: usize, next: usize) -> bool
-    requires { ⌜ Row (now p) h n row head next × (head < 8) ⌝ }
+fn first_ok(p: &[u8], h: Header, n: usize, slot: usize, head: usize, next: usize) -> bool
+    requires { ⌜ Slot (now p) h n slot head next × (head < 8) ⌝ }
     ensures { λ r. ⌜ r ≡ operands-ok (now (p .entry)) n next ⌝ }
 {
     if head == 1 {
-        return below(p, row, h.inputs, 1, 1);
+        return below(p, slot, h.inputs, 1, 1);
     }
     if head == 0 {
-        return field(p, row + 16) == 0;
+        return field(p, slot + 16) == 0;
     }
     if head == 3 {
-        return jump_ok(p, h, n, row, h.registers);
+        return jump_ok(p, h, n, slot, h.registers);
     }
     if head == 4 {
-        return jump_ok(p, h, n, row, 1);
+        return jump_ok(p, h, n, slot, 1);
     }
-    below(p, row, h.registers, 1, 1)
+    below(p, slot, h.registers, 1, 1)
 }
 
 // All registers of the list from entry `next` on are there.
@@ -222,8 +215,8 @@ fn list_below(p: &[u8], h: Header, next: usize, count: usize) -> bool
 }
 
 // Min and Max: the list begins where the last one ended, and has two entries at least. No other opcode has a count.
-fn list_ok(p: &[u8], h: Header, n: usize, row: usize, head: usize, next: usize) -> bool
-    requires { ⌜ Row (now p) h n row head next × (31 ≤ head) × (33 ≤ head → 35 ≤ head) ⌝ }
+fn list_ok(p: &[u8], h: Header, n: usize, slot: usize, head: usize, next: usize) -> bool
+    requires { ⌜ Slot (now p) h n slot head next × (31 ≤ head) × (33 ≤ head → 35 ≤ head) ⌝ }
     ensures { λ r. ⌜ r ≡ operands-ok (now (p .entry)) n next ⌝ }
 {
     let op = head % 65536;
@@ -234,48 +227,48 @@ fn list_ok(p: &[u8], h: Header, n: usize, row: usize, head: usize, next: usize) 
         return false;
     }
     let count = head / 65536;
-    field(p, row + 12) == 0
-        && (field(p, row + 16) == 0
-            && (field(p, row + 8) == next
+    field(p, slot + 12) == 0
+        && (field(p, slot + 16) == 0
+            && (field(p, slot + 8) == next
                 && (2 <= count && (next + count <= h.entries && list_below(p, h, next, count)))))
 }
 
 // Opcodes from 20 on: the calls of one register, of a list, of three registers.
-fn last_ok(p: &[u8], h: Header, n: usize, row: usize, head: usize, next: usize) -> bool
-    requires { ⌜ Row (now p) h n row head next × (20 ≤ head) ⌝ }
+fn last_ok(p: &[u8], h: Header, n: usize, slot: usize, head: usize, next: usize) -> bool
+    requires { ⌜ Slot (now p) h n slot head next × (20 ≤ head) ⌝ }
     ensures { λ r. ⌜ r ≡ operands-ok (now (p .entry)) n next ⌝ }
 {
     if head < 31 {
-        return below(p, row, h.registers, 1, 1);
+        return below(p, slot, h.registers, 1, 1);
     }
     if 33 <= head {
         if head < 35 {
-            return below(p, row, h.registers, h.registers, h.registers);
+            return below(p, slot, h.registers, h.registers, h.registers);
         }
     }
-    list_ok(p, h, n, row, head, next)
+    list_ok(p, h, n, slot, head, next)
 }
 
 // What the operation reads is there, and a jump goes forward. The first four bytes tell the opcode: a zero and the count
 // of a list come after it.
-fn operands_ok(p: &[u8], h: Header, n: usize, row: usize, head: usize, next: usize) -> bool
-    requires { ⌜ Row (now p) h n row head next ⌝ }
+fn operands_ok(p: &[u8], h: Header, n: usize, slot: usize, head: usize, next: usize) -> bool
+    requires { ⌜ Slot (now p) h n slot head next ⌝ }
     ensures { λ r. ⌜ r ≡ operands-ok (now (p .entry)) n next ⌝ }
 {
     if head < 8 {
-        return first_ok(p, h, n, row, head, next);
+        return first_ok(p, h, n, slot, head, next);
     }
     if head < 20 {
-        return below(p, row, h.registers, h.registers, 1);
+        return below(p, slot, h.registers, h.registers, 1);
     }
-    last_ok(p, h, n, row, head, next)
+    last_ok(p, h, n, slot, head, next)
 }
 
-fn instruction_ok(p: &[u8], h: Header, n: usize, row: usize, head: usize, next: usize) -> bool
-    requires { ⌜ Whole (now p) h × (n < h .code) × (row ≡ 32 + 24 * n) × Read (now p) row head × (next ≤ h .entries) ⌝ }
+fn instruction_ok(p: &[u8], h: Header, n: usize, slot: usize, head: usize, next: usize) -> bool
+    requires { ⌜ Whole (now p) h × (n < h .code) × (slot ≡ 32 + 24 * n) × Read (now p) slot head × (next ≤ h .entries) ⌝ }
     ensures { λ r. ⌜ r ≡ instruction-ok (now (p .entry)) n next ⌝ }
 {
-    placed_ok(p, h, n, row) && operands_ok(p, h, n, row, head, next)
+    placed_ok(p, h, n, slot) && operands_ok(p, h, n, slot, head, next)
 }
 
 fn all_instructions_ok(p: &[u8], h: Header) -> bool
@@ -284,15 +277,15 @@ fn all_instructions_ok(p: &[u8], h: Header) -> bool
 {
     let code = h.code;
     let mut n = 0;
-    let mut row = HEADER_SIZE;
+    let mut slot = HEADER_SIZE;
     let mut next = 0;
     while n < code {
-        let head = field(p, row);
-        let ok = instruction_ok(p, h, n, row, head, next);
+        let head = field(p, slot);
+        let ok = instruction_ok(p, h, n, slot, head, next);
         if ok {
             next += head / 65536;
             n += 1;
-            row += SLOT_SIZE;
+            slot += SLOT_SIZE;
         } else {
             return false;
         }

@@ -19,14 +19,14 @@ pub fn wide(x: u8) -> usize
 }
 
 // The little-endian number of 2, 4 or 8 bytes that are all there.
-fn known_half(b: &[u8], at: usize) -> usize
+pub fn known_half(b: &[u8], at: usize) -> usize
     requires { ⌜ at + 2 ≤ length (now b) ⌝ }
     ensures { λ r. ⌜ (r ≡ half-at (now (b .entry)) at) × (r < 65536) ⌝ }
 {
     wide(b[at]) + 256 * wide(b[at + 1])
 }
 
-fn known_word(b: &[u8], at: usize) -> usize
+pub fn known_word(b: &[u8], at: usize) -> usize
     requires { ⌜ at + 4 ≤ length (now b) ⌝ }
     ensures { λ r. ⌜ (r ≡ word-at (now (b .entry)) at) × (r < 2 ^ 32) ⌝ }
 {

@@ -30,7 +30,7 @@ use layout::INPUTS_AT;
 use layout::REGISTERS_AT;
 use layout::RESULT_AT;
 use layout::SLOT_SIZE;
-use program::word;
+use reader::word;
 use refusals::INVALID_INPUT;
 use refusals::NO_PROGRAM;
 use refusals::SLICE_TOO_SHORT;

@@ -2,17 +2,17 @@ use borrow.Author.Needs.{needs}
 use Rattle.instruction.proofs.entry.Statement.{statement}
 use Rattle.instruction.proofs.entry.Tie as tie
 
-word-requires : tie.Need-word-requires
-word-requires c κs = c .before .before .pre (c .if1 .taken)
+known-word-requires : tie.Need-known-word-requires
+known-word-requires c κs = c .before .before .pre (c .if1 .taken)
 
 returns : tie.Need-returns
 returns c = search needs
 
-word-requires-2 : tie.Need-word-requires-2
-word-requires-2 c κs = search needs
+word-requires : tie.Need-word-requires
+word-requires c κs = search needs
 
 returns-2 : tie.Need-returns-2
 returns-2 c = search needs
 
 pub entry-spec : {M : Type 1} → statement M
-entry-spec = tie.close (tie.spec word-requires returns word-requires-2 returns-2)
+entry-spec = tie.close (tie.spec known-word-requires returns word-requires returns-2)

@@ -9,10 +9,10 @@ use Rattle.program.proofs.all_instructions_ok.Statement.{statement}
 use Rattle.program.proofs.all_instructions_ok.Tie as tie
 
 abbrev Inv-loop : tie.InvT-loop
-Inv-loop p h code n₀ row₀ next₀ n row next = (n ≤ code) × (row ≡ 32 + 24 * n) × (next ≤ h .entries) × (instructions-ok p (code-count p) 0 0 ≡ code-left p n next)
+Inv-loop p h code n₀ slot₀ next₀ n slot next = (n ≤ code) × (slot ≡ 32 + 24 * n) × (next ≤ h .entries) × (instructions-ok p (code-count p) 0 0 ≡ code-left p n next)
 
 abbrev μ-loop : tie.MeasureT-loop
-μ-loop p h code n₀ row₀ next₀ n row next = code - n
+μ-loop p h code n₀ slot₀ next₀ n slot next = code - n
 
 loop-holds : tie.Need-loop-holds Inv-loop μ-loop
 loop-holds c = (omega arith, omega arith, omega arith, sym (code-start (c .before .args .p .now)))
@@ -29,8 +29,8 @@ add-next c = omega (arith, c .before .before .field .ensures .small)
 add-n : tie.Need-add-n Inv-loop μ-loop
 add-n c = omega arith
 
-add-row : tie.Need-add-row Inv-loop μ-loop
-add-row c = omega arith
+add-slot : tie.Need-add-slot Inv-loop μ-loop
+add-slot c = omega arith
 
 loop-less : tie.Need-loop-less Inv-loop μ-loop
 loop-less c = omega arith
@@ -43,7 +43,7 @@ loop-again c =
     let loop-test = c .before .before .before .loop-test in
     let field = c .before .before .field in
     let b = args .p .now in
-    let k = count-is b (loop .n) (loop .row) (field .result) (loop .inv .1) (field .ensures) in
+    let k = count-is b (loop .n) (loop .slot) (field .result) (loop .inv .1) (field .ensures) in
     let ok = sym (c .before .instruction-ok .ensures) ∙ c .if1 .taken in (
       omega arith,
       omega arith,
@@ -59,7 +59,7 @@ returns c =
     let loop-test = c .before .before .before .loop-test in
     let field = c .before .before .field in
     let b = args .p .now in
-    let k = count-is b (loop .n) (loop .row) (field .result) (loop .inv .1) (field .ensures) in
+    let k = count-is b (loop .n) (loop .slot) (field .result) (loop .inv .1) (field .ensures) in
     sym (loop .inv .3
     ∙ code-step b (loop .n) (loop .next) (field .result / 65536) (omega (arith, loop-test .taken, pre .numbers .code)) k
     ∙ rw (sym (c .before .instruction-ok .ensures) ∙ c .if1 .left))
@@ -85,7 +85,7 @@ all-instructions-ok-spec =
     instruction-ok-requires
     add-next
     add-n
-    add-row
+    add-slot
     loop-less
     loop-again
     returns

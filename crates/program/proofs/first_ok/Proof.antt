@@ -1,7 +1,7 @@
 use mathlib.Core.Path.{ap, _∙_}
 use Prim.Native.Nat.{ℕ}
 use lib.Dec.{eqb}
-use Rattle.program.proofs.Ops.{constant-row, jump-if-row, jump-row, load-row, low-single-row}
+use Rattle.program.proofs.Ops.{constant-slot, jump-if-slot, jump-slot, load-slot, low-single-slot}
 use borrow.Author.Needs.{needs}
 use Rattle.program.proofs.first_ok.Statement.{statement}
 use Rattle.program.proofs.first_ok.Tie as tie
@@ -13,7 +13,7 @@ returns : tie.Need-returns
 returns c =
     let args = c .before .before .before .args in
     let pre = c .before .before .before .pre in
-    c .below .ensures ∙ load-row (args .p .now) (args .h) (args .n) (args .row) (args .head) (args .next) (pre .0) (c .before .if1 .taken)
+    c .below .ensures ∙ load-slot (args .p .now) (args .h) (args .n) (args .slot) (args .head) (args .next) (pre .0) (c .before .if1 .taken)
 
 add-field : tie.Need-add-field
 add-field c = search needs
@@ -26,7 +26,7 @@ returns-2 c =
     let args = c .before .before .before .before .args in
     let pre = c .before .before .before .before .pre in
     ap (λ (x : ℕ). eqb x 0) (c .field .ensures .is)
-    ∙ constant-row (args .p .now) (args .h) (args .n) (args .row) (args .head) (args .next) (pre .0) (c .before .if2 .taken)
+    ∙ constant-slot (args .p .now) (args .h) (args .n) (args .slot) (args .head) (args .next) (pre .0) (c .before .if2 .taken)
 
 jump-ok-requires : tie.Need-jump-ok-requires
 jump-ok-requires c κs = search needs
@@ -35,7 +35,7 @@ returns-3 : tie.Need-returns-3
 returns-3 c =
     let args = c .before .before .before .before .before .args in
     let pre = c .before .before .before .before .before .pre in
-    c .jump-ok .ensures ∙ jump-if-row (args .p .now) (args .h) (args .n) (args .row) (args .head) (args .next) (pre .0) (c .before .if3 .taken)
+    c .jump-ok .ensures ∙ jump-if-slot (args .p .now) (args .h) (args .n) (args .slot) (args .head) (args .next) (pre .0) (c .before .if3 .taken)
 
 jump-ok-requires-2 : tie.Need-jump-ok-requires-2
 jump-ok-requires-2 c κs = search needs
@@ -44,7 +44,7 @@ returns-4 : tie.Need-returns-4
 returns-4 c =
     let args = c .before .before .before .before .before .before .args in
     let pre = c .before .before .before .before .before .before .pre in
-    c .jump-ok2 .ensures ∙ jump-row (args .p .now) (args .h) (args .n) (args .row) (args .head) (args .next) (pre .0) (c .before .if4 .taken)
+    c .jump-ok2 .ensures ∙ jump-slot (args .p .now) (args .h) (args .n) (args .slot) (args .head) (args .next) (pre .0) (c .before .if4 .taken)
 
 below-requires-2 : tie.Need-below-requires-2
 below-requires-2 c κs = search needs
@@ -57,7 +57,7 @@ returns-5 c =
     let if2 = c .before .before .before .if2 in
     let if3 = c .before .before .if3 in
     c .below2 .ensures
-    ∙ low-single-row (args .p .now) (args .h) (args .n) (args .row) (args .head) (args .next) (pre .0) (pre .1) (if2 .left) (if1 .left) (if3 .left)
+    ∙ low-single-slot (args .p .now) (args .h) (args .n) (args .slot) (args .head) (args .next) (pre .0) (pre .1) (if2 .left) (if1 .left) (if3 .left)
     (c .before .if4 .left)
 
 pub first-ok-spec : {M : Type 1} → statement M

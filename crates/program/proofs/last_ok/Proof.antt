@@ -1,7 +1,7 @@
 use mathlib.Core.Path.{_∙_}
 use mathlib.Core.Logic.{⊎-elim}
 use native.Mathlib.Omega.{arith}
-use Rattle.program.proofs.Ops.{single-row, triple-row}
+use Rattle.program.proofs.Ops.{single-slot, triple-slot}
 use borrow.Author.Needs.{needs}
 use Rattle.program.proofs.last_ok.Statement.{statement}
 use Rattle.program.proofs.last_ok.Tie as tie
@@ -13,7 +13,7 @@ returns : tie.Need-returns
 returns c =
     let args = c .before .before .before .args in
     let pre = c .before .before .before .pre in
-    c .below .ensures ∙ single-row (args .p .now) (args .h) (args .n) (args .row) (args .head) (args .next) (pre .0) (pre .1) (c .before .if1 .taken)
+    c .below .ensures ∙ single-slot (args .p .now) (args .h) (args .n) (args .slot) (args .head) (args .next) (pre .0) (pre .1) (c .before .if1 .taken)
 
 below-requires-2 : tie.Need-below-requires-2
 below-requires-2 c κs = search needs
@@ -23,7 +23,7 @@ returns-2 c =
     let args = c .before .before .before .before .before .args in
     let pre = c .before .before .before .before .before .pre in
     let if2 = c .before .before .if2 in
-    c .below2 .ensures ∙ triple-row (args .p .now) (args .h) (args .n) (args .row) (args .head) (args .next) (pre .0) (if2 .taken) (c .before .if3 .taken)
+    c .below2 .ensures ∙ triple-slot (args .p .now) (args .h) (args .n) (args .slot) (args .head) (args .next) (pre .0) (if2 .taken) (c .before .if3 .taken)
 
 list-ok-requires : tie.Need-list-ok-requires
 list-ok-requires c κs = (c .before .before .before .pre .0, c .before .if1 .left, λ k. ⊎-elim (λ w. omega arith) (λ w. omega arith) (c .if2 .came))

@@ -2,7 +2,7 @@ use mathlib.Core.Path.{_∙_}
 use Prim.Native.Nat.{_+_, _/_}
 use native.Mathlib.Omega.{arith}
 use Rattle.program.proofs.Tests.{most-no, most-yes, same-no, same-yes}
-use Rattle.program.proofs.Ops.{list-row, unlisted-row}
+use Rattle.program.proofs.Ops.{list-slot, unlisted-slot}
 use borrow.Author.Needs.{needs}
 use Rattle.program.proofs.list_ok.Statement.{statement}
 use Rattle.program.proofs.list_ok.Tie as tie
@@ -11,13 +11,13 @@ returns : tie.Need-returns
 returns c =
     let args = c .before .before .args in
     let pre = c .before .before .pre in
-    unlisted-row (args .p .now) (args .h) (args .n) (args .row) (args .head) (args .next) (pre .0) (pre .1) (pre .2) (λ z. omega arith) (λ z. omega arith)
+    unlisted-slot (args .p .now) (args .h) (args .n) (args .slot) (args .head) (args .next) (pre .0) (pre .1) (pre .2) (λ z. omega arith) (λ z. omega arith)
 
 returns-2 : tie.Need-returns-2
 returns-2 c =
     let args = c .before .before .before .args in
     let pre = c .before .before .before .pre in
-    unlisted-row (args .p .now) (args .h) (args .n) (args .row) (args .head) (args .next) (pre .0) (pre .1) (pre .2) (λ z. omega arith) (λ z. omega arith)
+    unlisted-slot (args .p .now) (args .h) (args .n) (args .slot) (args .head) (args .next) (pre .0) (pre .1) (pre .2) (λ z. omega arith) (λ z. omega arith)
 
 add-field : tie.Need-add-field
 add-field c = search needs
@@ -61,7 +61,7 @@ returns-3 c =
     (same-yes (args .next) (field3 .ensures .is) (if5 .taken)
     (most-yes 2 (args .head / 65536) (if6 .taken)
     (most-yes (args .next + args .head / 65536) (args .h .entries) (c .before .if7 .taken) (c .list-below .ensures)))))
-    ∙ list-row (args .p .now) (args .h) (args .n) (args .row) (args .head) (args .next) (pre .0) (if1 .left) (omega (arith, if2 .left))
+    ∙ list-slot (args .p .now) (args .h) (args .n) (args .slot) (args .head) (args .next) (pre .0) (if1 .left) (omega (arith, if2 .left))
 
 returns-4 : tie.Need-returns-4
 returns-4 c =
@@ -80,7 +80,7 @@ returns-4 c =
     (same-yes 0 (field2 .ensures .is) (if4 .taken)
     (same-yes (args .next) (field3 .ensures .is) (if5 .taken)
     (most-yes 2 (args .head / 65536) (if6 .taken) (most-no (args .next + args .head / 65536) (args .h .entries) _ (c .if7 .left)))))
-    ∙ list-row (args .p .now) (args .h) (args .n) (args .row) (args .head) (args .next) (pre .0) (if1 .left) (omega (arith, if2 .left))
+    ∙ list-slot (args .p .now) (args .h) (args .n) (args .slot) (args .head) (args .next) (pre .0) (if1 .left) (omega (arith, if2 .left))
 
 returns-5 : tie.Need-returns-5
 returns-5 c =
@@ -96,7 +96,7 @@ returns-5 c =
     same-yes 0 (field .ensures .is) (if3 .taken)
     (same-yes 0 (field2 .ensures .is) (if4 .taken)
     (same-yes (args .next) (field3 .ensures .is) (c .before .if5 .taken) (most-no 2 (args .head / 65536) _ (c .if6 .left))))
-    ∙ list-row (args .p .now) (args .h) (args .n) (args .row) (args .head) (args .next) (pre .0) (if1 .left) (omega (arith, if2 .left))
+    ∙ list-slot (args .p .now) (args .h) (args .n) (args .slot) (args .head) (args .next) (pre .0) (if1 .left) (omega (arith, if2 .left))
 
 returns-6 : tie.Need-returns-6
 returns-6 c =
@@ -110,7 +110,7 @@ returns-6 c =
     let if4 = c .before .before .if4 in
     same-yes 0 (field .ensures .is) (if3 .taken)
     (same-yes 0 (field2 .ensures .is) (if4 .taken) (same-no (args .next) _ (c .before .field3 .ensures .is) (c .if5 .left)))
-    ∙ list-row (args .p .now) (args .h) (args .n) (args .row) (args .head) (args .next) (pre .0) (if1 .left) (omega (arith, if2 .left))
+    ∙ list-slot (args .p .now) (args .h) (args .n) (args .slot) (args .head) (args .next) (pre .0) (if1 .left) (omega (arith, if2 .left))
 
 returns-7 : tie.Need-returns-7
 returns-7 c =
@@ -121,7 +121,7 @@ returns-7 c =
     let field = c .before .before .before .field in
     let if3 = c .before .before .if3 in
     same-yes 0 (field .ensures .is) (if3 .taken) (same-no 0 _ (c .before .field2 .ensures .is) (c .if4 .left))
-    ∙ list-row (args .p .now) (args .h) (args .n) (args .row) (args .head) (args .next) (pre .0) (if1 .left) (omega (arith, if2 .left))
+    ∙ list-slot (args .p .now) (args .h) (args .n) (args .slot) (args .head) (args .next) (pre .0) (if1 .left) (omega (arith, if2 .left))
 
 returns-8 : tie.Need-returns-8
 returns-8 c =
@@ -130,7 +130,7 @@ returns-8 c =
     let if1 = c .before .before .before .if1 in
     let if2 = c .before .before .if2 in
     same-no 0 _ (c .before .field .ensures .is) (c .if3 .left)
-    ∙ list-row (args .p .now) (args .h) (args .n) (args .row) (args .head) (args .next) (pre .0) (if1 .left) (omega (arith, if2 .left))
+    ∙ list-slot (args .p .now) (args .h) (args .n) (args .slot) (args .head) (args .next) (pre .0) (if1 .left) (omega (arith, if2 .left))
 
 pub list-ok-spec : {M : Type 1} → statement M
 list-ok-spec =

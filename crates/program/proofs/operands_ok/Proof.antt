@@ -1,5 +1,5 @@
 use mathlib.Core.Path.{_∙_}
-use Rattle.program.proofs.Ops.{pair-row}
+use Rattle.program.proofs.Ops.{pair-slot}
 use borrow.Author.Needs.{needs}
 use Rattle.program.proofs.operands_ok.Statement.{statement}
 use Rattle.program.proofs.operands_ok.Tie as tie
@@ -18,7 +18,7 @@ returns-2 c =
     let args = c .before .before .before .before .args in
     let pre = c .before .before .before .before .pre in
     let if1 = c .before .before .if1 in
-    c .below .ensures ∙ pair-row (args .p .now) (args .h) (args .n) (args .row) (args .head) (args .next) pre (if1 .left) (c .before .if2 .taken)
+    c .below .ensures ∙ pair-slot (args .p .now) (args .h) (args .n) (args .slot) (args .head) (args .next) pre (if1 .left) (c .before .if2 .taken)
 
 last-ok-requires : tie.Need-last-ok-requires
 last-ok-requires c κs = search needs

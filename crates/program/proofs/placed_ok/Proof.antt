@@ -14,7 +14,7 @@ returns c =
     let args = c .before .before .before .before .args in
     let pre = c .before .before .before .before .pre in
     let field = c .before .before .field in
-    no-destination (args .p .now) (args .h) (args .n) (args .row) (pre .0) (pre .2) (field .ensures) (c .if1 .taken)
+    no-destination (args .p .now) (args .h) (args .n) (args .slot) (pre .0) (pre .2) (field .ensures) (c .if1 .taken)
 
 add-field-2 : tie.Need-add-field-2
 add-field-2 c = search needs
@@ -29,7 +29,7 @@ returns-2 c =
     let field = c .before .before .before .before .before .field in
     let if1 = c .before .before .before .if1 in
     let field2 = c .before .before .field2 in
-    no-path (args .p .now) (args .h) (args .n) (args .row) (pre .0) (pre .2) (field .ensures) (field2 .ensures) (if1 .left) (c .if2 .taken)
+    no-path (args .p .now) (args .h) (args .n) (args .slot) (pre .0) (pre .2) (field .ensures) (field2 .ensures) (if1 .left) (c .if2 .taken)
 
 mul-field : tie.Need-mul-field
 mul-field c = search needs
@@ -57,7 +57,7 @@ returns-3 c =
     let if1 = c .before .before .before .before .before .if1 in
     let field2 = c .before .before .before .before .field2 in
     let if2 = c .before .before .if2 in
-    placed-is (args .p .now) (args .h) (args .n) (args .row) (pre .0) (pre .2) (field .ensures) (field2 .ensures) (if1 .left) (if2 .left)
+    placed-is (args .p .now) (args .h) (args .n) (args .slot) (pre .0) (pre .2) (field .ensures) (field2 .ensures) (if1 .left) (if2 .left)
     (c .field3 .ensures)
 
 pub placed-ok-spec : {M : Type 1} → statement M

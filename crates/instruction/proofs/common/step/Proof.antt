@@ -14,26 +14,26 @@ add-at c = search needs
 shared-slice-read-op : tie.Need-shared-slice-read-op
 shared-slice-read-op c = search needs
 
-add-word : tie.Need-add-word
-add-word c = search needs
+add-known-word : tie.Need-add-known-word
+add-known-word c = search needs
 
-word-requires : tie.Need-word-requires
-word-requires c κs = search needs
+known-word-requires : tie.Need-known-word-requires
+known-word-requires c κs = search needs
 
-add-word-2 : tie.Need-add-word-2
-add-word-2 c = search needs
+add-known-word-2 : tie.Need-add-known-word-2
+add-known-word-2 c = search needs
 
-word-requires-2 : tie.Need-word-requires-2
-word-requires-2 c κs = search needs
+known-word-requires-2 : tie.Need-known-word-requires-2
+known-word-requires-2 c κs = search needs
 
 value-at-requires : tie.Need-value-at-requires
 value-at-requires c κs = search needs
 
-add-word-3 : tie.Need-add-word-3
-add-word-3 c = search needs
+add-known-word-3 : tie.Need-add-known-word-3
+add-known-word-3 c = search needs
 
-word-requires-3 : tie.Need-word-requires-3
-word-requires-3 c κs = search needs
+known-word-requires-3 : tie.Need-known-word-requires-3
+known-word-requires-3 c κs = search needs
 
 same-length : tie.Need-same-length
 same-length c = search needs
@@ -42,11 +42,11 @@ returns : tie.Need-returns
 unfolding ofBits
 returns c =
     let args = c .before .before .before .before .before .before .before .before .before .before .before .args in
-    let word = c .before .before .before .before .before .before .word in
+    let known-word = c .before .before .before .before .before .before .known-word in
     let if1 = c .before .before .before .before .if1 in
     let value-at = c .before .before .value-at in
-    went-taken (args .inputs .now) (args .p .now) (args .n) (args .regs .now) _ (word .result) (c .word3 .result) (value-at .result)
-    (c .word3 .ensures .1) refl (if1 .taken) (word .ensures .0) (value-at .ensures) (c .before .if2 .taken) (c .word3 .ensures .0)
+    went-taken (args .inputs .now) (args .p .now) (args .n) (args .regs .now) _ (known-word .result) (c .known-word3 .result) (value-at .result)
+    (c .known-word3 .ensures .1) refl (if1 .taken) (known-word .ensures .0) (value-at .ensures) (c .before .if2 .taken) (c .known-word3 .ensures .0)
 
 add-result : tie.Need-add-result
 add-result c = search needs
@@ -59,23 +59,23 @@ unfolding ofBits
 returns-2 c =
     let args = c .before .before .before .before .before .before .before .before .before .before .args in
     let pre = c .before .before .before .before .before .before .before .before .before .before .pre in
-    let word = c .before .before .before .before .before .word in
+    let known-word = c .before .before .before .before .before .known-word in
     let if1 = c .before .before .before .if1 in
     let value-at = c .before .value-at in
-    went-on (args .inputs .now) (args .p .now) (args .n) (args .regs .now) _ (word .result) (value-at .result) (pre .0) refl (if1 .taken)
-    (word .ensures .0) (value-at .ensures) (c .if2 .left)
+    went-on (args .inputs .now) (args .p .now) (args .n) (args .regs .now) _ (known-word .result) (value-at .result) (pre .0) refl (if1 .taken)
+    (known-word .ensures .0) (value-at .ensures) (c .if2 .left)
 
-add-word-4 : tie.Need-add-word-4
-add-word-4 c = search needs
+add-known-word-4 : tie.Need-add-known-word-4
+add-known-word-4 c = search needs
 
-word-requires-4 : tie.Need-word-requires-4
-word-requires-4 c κs = search needs
+known-word-requires-4 : tie.Need-known-word-requires-4
+known-word-requires-4 c κs = search needs
 
 returns-3 : tie.Need-returns-3
 returns-3 c =
     let args = c .before .before .before .before .before .before .before .before .before .args in
-    went-jump (args .inputs .now) (args .p .now) (args .n) (args .regs .now) _ (c .word4 .result) (c .word4 .ensures .1) refl (c .before .if3 .taken)
-    (c .word4 .ensures .0)
+    went-jump (args .inputs .now) (args .p .now) (args .n) (args .regs .now) _ (c .known-word4 .result) (c .known-word4 .ensures .1) refl (c .before .if3 .taken)
+    (c .known-word4 .ensures .0)
 
 value-requires : tie.Need-value-requires
 value-requires c κs = search needs
@@ -83,11 +83,11 @@ value-requires c κs = search needs
 is-finite-requires : tie.Need-is-finite-requires
 is-finite-requires c κs = search needs
 
-add-word-5 : tie.Need-add-word-5
-add-word-5 c = search needs
+add-known-word-5 : tie.Need-add-known-word-5
+add-known-word-5 c = search needs
 
-word-requires-5 : tie.Need-word-requires-5
-word-requires-5 c κs = search needs
+known-word-requires-5 : tie.Need-known-word-requires-5
+known-word-requires-5 c κs = search needs
 
 store-requires : tie.Need-store-requires
 store-requires c κs = search needs
@@ -102,15 +102,15 @@ returns-4 : tie.Need-returns-4
 returns-4 c =
     let args = c .before .before .before .before .before .before .before .before .before .before .before .before .before .before .before .before .before .args in
     let pre = c .before .before .before .before .before .before .before .before .before .before .before .before .before .before .before .before .before .pre in
-    let word = c .before .before .before .before .before .before .before .before .before .before .before .before .word in
-    let word2 = c .before .before .before .before .before .before .before .before .before .before .before .word2 in
+    let known-word = c .before .before .before .before .before .before .before .before .before .before .before .before .known-word in
+    let word2 = c .before .before .before .before .before .before .before .before .before .before .before .known-word2 in
     let value = c .before .before .before .before .before .before .before .value in
     let is-finite = c .before .before .before .before .before .before .is-finite in
     let if4 = c .before .before .before .before .before .if4 in
-    let word5 = c .before .before .before .word5 in
+    let word5 = c .before .before .before .known-word5 in
     let store = c .before .before .store in
-    went-value (args .inputs .now) (args .p .now) (args .n) (args .regs .now) _ (word .result) (word2 .result) (word5 .result) (value .result) (pre .0)
-    refl (word .ensures .0) (word2 .ensures .0) (value .ensures) (sym (is-finite .ensures) ∙ if4 .taken) (word5 .ensures .0) (store .ensures)
+    went-value (args .inputs .now) (args .p .now) (args .n) (args .regs .now) _ (known-word .result) (word2 .result) (word5 .result) (value .result) (pre .0)
+    refl (known-word .ensures .0) (word2 .ensures .0) (value .ensures) (sym (is-finite .ensures) ∙ if4 .taken) (word5 .ensures .0) (store .ensures)
 
 same-length-4 : tie.Need-same-length-4
 same-length-4 c = search needs
@@ -127,25 +127,25 @@ step-spec =
     mul-at
     add-at
     shared-slice-read-op
-    add-word
-    word-requires
-    add-word-2
-    word-requires-2
+    add-known-word
+    known-word-requires
+    add-known-word-2
+    known-word-requires-2
     value-at-requires
-    add-word-3
-    word-requires-3
+    add-known-word-3
+    known-word-requires-3
     same-length
     returns
     add-result
     same-length-2
     returns-2
-    add-word-4
-    word-requires-4
+    add-known-word-4
+    known-word-requires-4
     returns-3
     value-requires
     is-finite-requires
-    add-word-5
-    word-requires-5
+    add-known-word-5
+    known-word-requires-5
     store-requires
     add-result-2
     same-length-3

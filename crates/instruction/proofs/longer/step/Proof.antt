@@ -19,11 +19,11 @@ value-requires c κs = search needs
 is-finite-requires : tie.Need-is-finite-requires
 is-finite-requires c κs = search needs
 
-add-word : tie.Need-add-word
-add-word c = search needs
+add-known-word : tie.Need-add-known-word
+add-known-word c = search needs
 
-word-requires : tie.Need-word-requires
-word-requires c κs = search needs
+known-word-requires : tie.Need-known-word-requires
+known-word-requires c κs = search needs
 
 store-requires : tie.Need-store-requires
 store-requires c κs = search needs
@@ -41,11 +41,11 @@ returns c =
     let value = c .before .before .before .before .before .before .before .value in
     let is-finite = c .before .before .before .before .before .before .is-finite in
     let if1 = c .before .before .before .before .before .if1 in
-    let word = c .before .before .before .word in
+    let known-word = c .before .before .before .known-word in
     let store = c .before .before .store in
     λ inputs.
-    went-worked inputs (args .p .now) (args .n) (args .regs .now) _ (word .result) (value .result) (pre .0) refl (value .ensures)
-    (sym (is-finite .ensures) ∙ if1 .taken) (word .ensures .0) (store .ensures)
+    went-worked inputs (args .p .now) (args .n) (args .regs .now) _ (known-word .result) (value .result) (pre .0) refl (value .ensures)
+    (sym (is-finite .ensures) ∙ if1 .taken) (known-word .ensures .0) (store .ensures)
 
 same-length-2 : tie.Need-same-length-2
 same-length-2 c = search needs
@@ -64,8 +64,8 @@ step-spec =
     shared-slice-read-op
     value-requires
     is-finite-requires
-    add-word
-    word-requires
+    add-known-word
+    known-word-requires
     store-requires
     add-result
     same-length

@@ -8,20 +8,20 @@ use borrow.Author.Needs.{needs}
 use Rattle.instruction.proofs.longer.value.Statement.{statement}
 use Rattle.instruction.proofs.longer.value.Tie as tie
 
-add-word : tie.Need-add-word
-add-word c = search needs
+add-known-word : tie.Need-add-known-word
+add-known-word c = search needs
 
-word-requires : tie.Need-word-requires
-word-requires c κs = search needs
+known-word-requires : tie.Need-known-word-requires
+known-word-requires c κs = search needs
 
 value-at-requires : tie.Need-value-at-requires
 value-at-requires c κs = search needs
 
-add-word-2 : tie.Need-add-word-2
-add-word-2 c = search needs
+add-known-word-2 : tie.Need-add-known-word-2
+add-known-word-2 c = search needs
 
-word-requires-2 : tie.Need-word-requires-2
-word-requires-2 c κs = search needs
+known-word-requires-2 : tie.Need-known-word-requires-2
+known-word-requires-2 c κs = search needs
 
 value-at-requires-2 : tie.Need-value-at-requires-2
 value-at-requires-2 c κs = search needs
@@ -74,67 +74,67 @@ extremum-requires-2 c κs = search needs
 returns : tie.Need-returns
 returns c =
     let args = c .before .before .before .before .before .before .before .before .args in
-    let word = c .before .before .before .before .before .word in
+    let known-word = c .before .before .before .before .before .known-word in
     let match = c .before .before .before .before .match in
     let value-at = c .before .before .before .value-at in
-    let word2 = c .before .before .word2 in
+    let word2 = c .before .before .known-word2 in
     let value-at2 = c .before .value-at2 in
-    modulo-works (args .p .now) (args .at) (args .op) (args .regs .now) (word .result) (word2 .result) (value-at .result) (value-at2 .result)
-    (c .remainder .result) (match .keys1) (word .ensures .0) (value-at .ensures) (word2 .ensures .0) (value-at2 .ensures) (c .remainder .ensures)
+    modulo-works (args .p .now) (args .at) (args .op) (args .regs .now) (known-word .result) (word2 .result) (value-at .result) (value-at2 .result)
+    (c .remainder .result) (match .keys1) (known-word .ensures .0) (value-at .ensures) (word2 .ensures .0) (value-at2 .ensures) (c .remainder .ensures)
 
 returns-2 : tie.Need-returns-2
 returns-2 c =
     let args = c .before .before .before .before .before .before .args in
-    let word = c .before .before .before .word in
+    let known-word = c .before .before .before .known-word in
     let match = c .before .before .match in
     let value-at3 = c .before .value-at3 in
-    single-works (args .p .now) (args .at) (args .op) (args .regs .now) 23 (word .result) (value-at3 .result) (c .sqrt .result) (match .keys2)
-    (omega arith) (omega arith) (word .ensures .0) (value-at3 .ensures) (λ kept. ap Value (c .sqrt .ensures) ∙ given _ kept)
+    single-works (args .p .now) (args .at) (args .op) (args .regs .now) 23 (known-word .result) (value-at3 .result) (c .sqrt .result) (match .keys2)
+    (omega arith) (omega arith) (known-word .ensures .0) (value-at3 .ensures) (λ kept. ap Value (c .sqrt .ensures) ∙ given _ kept)
 
 returns-3 : tie.Need-returns-3
 returns-3 c =
     let args = c .before .before .before .before .before .before .args in
-    let word = c .before .before .before .word in
+    let known-word = c .before .before .before .known-word in
     let match = c .before .before .match in
     let value-at4 = c .before .value-at4 in
-    single-works (args .p .now) (args .at) (args .op) (args .regs .now) 28 (word .result) (value-at4 .result) (c .abs .result) (match .keys3)
-    (omega arith) (omega arith) (word .ensures .0) (value-at4 .ensures) (λ kept. ap Value (c .abs .ensures) ∙ given _ kept)
+    single-works (args .p .now) (args .at) (args .op) (args .regs .now) 28 (known-word .result) (value-at4 .result) (c .abs .result) (match .keys3)
+    (omega arith) (omega arith) (known-word .ensures .0) (value-at4 .ensures) (λ kept. ap Value (c .abs .ensures) ∙ given _ kept)
 
 returns-4 : tie.Need-returns-4
 returns-4 c =
     let args = c .before .before .before .before .before .before .args in
-    let word = c .before .before .before .word in
+    let known-word = c .before .before .before .known-word in
     let match = c .before .before .match in
     let value-at5 = c .before .value-at5 in
-    single-works (args .p .now) (args .at) (args .op) (args .regs .now) 29 (word .result) (value-at5 .result) (c .floor .result) (match .keys4)
-    (omega arith) (omega arith) (word .ensures .0) (value-at5 .ensures) (λ kept. ap Value (c .floor .ensures) ∙ given _ kept)
+    single-works (args .p .now) (args .at) (args .op) (args .regs .now) 29 (known-word .result) (value-at5 .result) (c .floor .result) (match .keys4)
+    (omega arith) (omega arith) (known-word .ensures .0) (value-at5 .ensures) (λ kept. ap Value (c .floor .ensures) ∙ given _ kept)
 
 returns-5 : tie.Need-returns-5
 returns-5 c =
     let args = c .before .before .before .before .before .before .args in
-    let word = c .before .before .before .word in
+    let known-word = c .before .before .before .known-word in
     let match = c .before .before .match in
     let value-at6 = c .before .value-at6 in
-    single-works (args .p .now) (args .at) (args .op) (args .regs .now) 30 (word .result) (value-at6 .result) (c .ceil .result) (match .keys5)
-    (omega arith) (omega arith) (word .ensures .0) (value-at6 .ensures) (λ kept. ap Value (c .ceil .ensures) ∙ given _ kept)
+    single-works (args .p .now) (args .at) (args .op) (args .regs .now) 30 (known-word .result) (value-at6 .result) (c .ceil .result) (match .keys5)
+    (omega arith) (omega arith) (known-word .ensures .0) (value-at6 .ensures) (λ kept. ap Value (c .ceil .ensures) ∙ given _ kept)
 
 returns-6 : tie.Need-returns-6
 returns-6 c =
     let args = c .before .before .before .before .before .before .args in
-    let word = c .before .before .before .word in
+    let known-word = c .before .before .before .known-word in
     let match = c .before .before .match in
     let half = c .before .half in
-    least-works (args .p .now) (args .at) (args .op) (args .regs .now) (half .result) (word .result) (c .extremum .result) (match .keys6)
-    (half .ensures .0) (word .ensures .0) (c .extremum .ensures)
+    least-works (args .p .now) (args .at) (args .op) (args .regs .now) (half .result) (known-word .result) (c .extremum .result) (match .keys6)
+    (half .ensures .0) (known-word .ensures .0) (c .extremum .ensures)
 
 returns-7 : tie.Need-returns-7
 returns-7 c =
     let args = c .before .before .before .before .before .before .args in
-    let word = c .before .before .before .word in
+    let known-word = c .before .before .before .known-word in
     let match = c .before .before .match in
     let half2 = c .before .half2 in
-    most-works (args .p .now) (args .at) (args .op) (args .regs .now) (half2 .result) (word .result) (c .extremum2 .result) (match .keys7)
-    (half2 .ensures .0) (word .ensures .0) (c .extremum2 .ensures)
+    most-works (args .p .now) (args .at) (args .op) (args .regs .now) (half2 .result) (known-word .result) (c .extremum2 .result) (match .keys7)
+    (half2 .ensures .0) (known-word .ensures .0) (c .extremum2 .ensures)
 
 returns-8 : tie.Need-returns-8
 unfolding div ofBits
@@ -146,11 +146,11 @@ pub value-spec : {M : Type 1} → statement M
 value-spec =
     tie.close
     (tie.spec
-    add-word
-    word-requires
+    add-known-word
+    known-word-requires
     value-at-requires
-    add-word-2
-    word-requires-2
+    add-known-word-2
+    known-word-requires-2
     value-at-requires-2
     remainder-requires
     value-at-requires-3
