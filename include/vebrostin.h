@@ -133,9 +133,10 @@ size_t vebrostin_answer(const uint8_t *program, size_t program_length, const dou
 
 /* The same three without the check of the program's bytes that every call above makes. Use them where the bytes are a program and have not
  * changed since: vebrostin_compile or vebrostin_derive answered 0 and wrote them, or vebrostin_is_program said true of them. Then they do and
- * answer what the calls above do, and never 10. 1 for a slice that is too short needs no program. With other bytes the calls end too and
- * neither read nor write outside the slices, but what they answer, and what they leave in the slices they may write, means nothing; the report is
- * left as it was. */
+ * answer what the calls above do, and never 10. 1 for a slice that is too short needs no program. With other bytes the calls
+ * neither read nor write outside the slices and end, but maybe only with the budget: a jump that goes back may be done again and again, so a
+ * budget of SIZE_MAX is then as good as no end. What they answer, and what they leave in the slices they may write, means nothing; the report
+ * is left as it was. */
 size_t vebrostin_run_unchecked(const uint8_t *program, size_t program_length, const double *inputs, size_t inputs_length,
                                double *registers, size_t registers_length, uint8_t *path, size_t path_length, size_t budget,
                                uint64_t *state, size_t state_length, uint64_t *report, size_t report_length);
