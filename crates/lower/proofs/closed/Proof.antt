@@ -1,5 +1,5 @@
-use Rattle.lower.proofs.Cells.{closes-done, closes-fault, last-cell, moved-on, opens-done, opens-fault, packed, packed-small, packs-done, stored}
-use mathlib.Core.Path.{_≡_, refl, sym, _∙_, subst}
+use Rattle.lower.proofs.Cells.{closes-done, closes-fault, last-cell, packs-done}
+use mathlib.Core.Path.{sym, _∙_}
 use native.Mathlib.Omega.{arith}
 use borrow.Author.Needs.{needs}
 use Rattle.lower.proofs.closed.Statement.{statement}

@@ -1,6 +1,5 @@
-use Rattle.lower.proofs.Cells.{closes-done, closes-fault, last-cell, moved-on, opens-done, opens-fault, packed, packed-small, stored}
-use mathlib.Core.Path.{_≡_, refl, sym, _∙_, subst}
-use native.Mathlib.Omega.{arith}
+use Rattle.lower.proofs.Cells.{packed, packed-small}
+use mathlib.Core.Path.{refl}
 use borrow.Author.Needs.{needs}
 use Rattle.lower.proofs.number.Statement.{statement}
 use Rattle.lower.proofs.number.Tie as tie
