@@ -1,26 +1,17 @@
 -- The bytes of a name.
 use mathlib.Core.Path.{_≡_, refl, sym, ap, _∙_}
-use mathlib.Core.Bool.{Bool, true, false, _&&_, _||_, or-false, and-false}
+use mathlib.Core.Bool.{Bool, true, false, _&&_, _||_, and-false}
 use mathlib.Core.List.{List, [], _∷_}
 use Prim.Native.Nat.{ℕ, zero, suc, _+_, _-_, _*_, _%_, _≤_, _<_}
 use native.Mathlib.Omega.{arith}
 use lib.ListN.{length, getD, take, drop, length-drop}
 use lib.Seq.{drop-cons, length-take-le}
-use lib.Dec.{eqb, leb, ltb}
-use borrow.Author.Tests.{eqb-true, eqb-false, ne-eqb, eq-eqb, le-leb, lt-leb, ltb-true, ltb-false}
+use lib.Dec.{eqb, ltb}
+use borrow.Author.Tests.{eqb-true, eqb-false, ne-eqb, eq-eqb, ltb-true, ltb-false}
 use Rattle.formula.specs.Text.{same-bytes}
 use Rattle.formula.specs.Names.{is-letter, is-digit, kind-of}
 use Rattle.names.specs.Lines.{Ends, Letters, kind-place, mark}
 use Rattle.names.proofs.Marks.{mark-next}
-
-pub letter-low : (b : ℕ) → b < 97 → eqb b 95 ≡ is-letter b
-letter-low b h = sym (ap (λ (t : Bool). t && leb b 122 || eqb b 95) (lt-leb 97 b h))
-
-pub letter-high : (b : ℕ) → 97 ≤ b → leb b 122 ≡ is-letter b
-letter-high b h =
-    sym (ap (λ (t : Bool). t && leb b 122 || eqb b 95) (le-leb 97 b h)
-    ∙ ap (λ (t : Bool). leb b 122 || t) (ne-eqb b 95 (λ e. omega arith))
-    ∙ or-false (leb b 122))
 
 -- ---- some bytes of a line, from the front
 

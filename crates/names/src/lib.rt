@@ -3,7 +3,7 @@ ghost use mathlib.Core.Bool.{false, _||_};
 ghost use Prim.Native.Nat.{_+_, _-_, _≤_};
 ghost use lib.ListN.{length, take, drop};
 ghost use Rattle.formula.specs.Text.{same-bytes, zeros};
-ghost use Rattle.formula.specs.Names.{is-letter, is-digit, kind-of, symbols-of};
+ghost use Rattle.formula.specs.Names.{between, is-letter, is-digit, kind-of, symbols-of};
 ghost use Rattle.formula.specs.Values.{digit-of, hex as hex-text};
 ghost use Rattle.names.specs.Lines.{place, kind-place, Letters, Tells, repeats, Listed, Marked, Placed, mark, names-of};
 
@@ -42,14 +42,18 @@ pub fn hex(n: u64) -> [u8; 16]
 
 // ---- The name line: "Names joined by commas, each followed by `:` and its kind"
 
+// "`a-z`"
+fn is_a_to_z(b: u8) -> bool
+    ensures { λ r. ⌜ r ≡ between 97 122 b ⌝ }
+{
+    b'a' <= b && b <= b'z'
+}
+
 // "`a-z`, `_`"
 fn is_letter(b: u8) -> bool
     ensures { λ r. ⌜ r ≡ is-letter b ⌝ }
 {
-    if b < b'a' {
-        return b == b'_';
-    }
-    b <= b'z'
+    is_a_to_z(b) || b == b'_'
 }
 
 // "and, not first, `0-9`"

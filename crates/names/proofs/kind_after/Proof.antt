@@ -22,7 +22,7 @@ sub-if2 : tie.Need-sub-if2
 sub-if2 c = search needs
 
 returns-2 : tie.Need-returns-2
-returns-2 c = too-long-there (c .before .before .before .args .line .now) (c .before .before .before .args .at) (c .before .before .before .args .end) (c .before .before .before .pre) (c .if2 .taken)
+returns-2 c = too-long-there (c .before .before .before .args .line .now) (c .before .before .before .args .at) (c .before .before .before .args .end) (c .before .before .before .pre) (omega (arith, c .if2 .taken))
 
 shared-slice-read-if3 : tie.Need-shared-slice-read-if3
 shared-slice-read-if3 c = search needs
@@ -70,7 +70,7 @@ returns-5 c =
     let kind-place = c .before .kind-place in
     let end = args .end in
     let room : end + 2 ≤ length (args .line .now) = omega (arith, if1 .left, pre .inside) in
-    tells-kind (args .line .now) (args .at) end pre (kind-place .result) room (if2 .left) (if3 .left)
+    tells-kind (args .line .now) (args .at) end pre (kind-place .result) room (omega (arith, if2 .left)) (if3 .left)
     (sym (is-letter .ensures) ∙ not-false (is-letter .result) (if4 .left)) (kind-place .ensures .0) (λ l. absurd (omega (arith, c .if5 .taken)))
 
 add-if6 : tie.Need-add-if6
@@ -91,7 +91,7 @@ returns-6 c =
     let kind-place = c .before .before .before .kind-place in
     let end = args .end in
     let room : end + 2 ≤ length (args .line .now) = omega (arith, if1 .left, pre .inside) in
-    tells-kind (args .line .now) (args .at) end pre (kind-place .result) room (if2 .left) (if3 .left)
+    tells-kind (args .line .now) (args .at) end pre (kind-place .result) room (omega (arith, if2 .left)) (if3 .left)
     (sym (is-letter .ensures) ∙ not-false (is-letter .result) (if4 .left)) (kind-place .ensures .0) (λ l. c .if6 .taken)
 
 returns-7 : tie.Need-returns-7
