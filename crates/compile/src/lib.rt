@@ -21,7 +21,6 @@ use paths::write_root;
 use reader::NODE_SIZE;
 use reader::is_formula;
 use reader::is_small;
-use reader::within_limits;
 use refusals::EXPRESSION_LIMIT;
 use refusals::MALFORMED_LINE;
 use refusals::NO_FORMULA;
@@ -212,19 +211,6 @@ pub fn prepare(formula: &[u8], names: &[u8], path: usize, program: usize) -> Pre
 
 // "4 `ExpressionLimit` at `root`": whether a formula is within the limits; `root` is written where it is not.
 pub fn within(formula: &[u8], path: &mut [u8]) -> bool
-    requires { ⌜ 4 ≤ length (now path) ⌝ }
-    ensures { λ r. ⌜ (r ≡ limited 256 32 (formula-of (now (formula .entry)))) × (now (path .exit) ≡ cond r (now (path .entry)) (placed (some root) (now (path .entry)))) ⌝ }
-{
-    let small = within_limits(formula, 256, 32);
-    if small {
-        return true;
-    }
-    write_root(path);
-    false
-}
-
-// The same of bytes that are known to be a formula.
-fn within_known(formula: &[u8], path: &mut [u8]) -> bool
     requires { ⌜ (4 ≤ length (now path)) × (is-some (formula-of (now formula)) ≡ true) ⌝ }
     ensures { λ r. ⌜ (r ≡ limited 256 32 (formula-of (now (formula .entry)))) × (now (path .exit) ≡ cond r (now (path .entry)) (placed (some root) (now (path .entry)))) ⌝ }
 {
@@ -246,7 +232,7 @@ pub fn compile(formula: &[u8], names: &[u8], path: &mut [u8], program: &mut [u8]
     match reading {
         Reading::Refused(n) => Answer::Refused(n),
         Reading::Symbols(count) => {
-            if within_known(formula, path) {
+            if within(formula, path) {
                 let kinds = prepared.kinds;
                 return write(formula, program, path, &kinds[..count], false, 32);
             }

@@ -18,8 +18,8 @@ use differentiate::write_derivative;
 use reader::NODE_SIZE;
 use reader::half;
 use reader::is_formula;
+use reader::is_small;
 use reader::wide;
-use reader::within_limits;
 use survey::By;
 use survey::Found;
 use survey::survey_formula;
@@ -33,7 +33,7 @@ enum Answer {
 // "8 at `root` from the rules, 4 at `root` if the finished tree is too large", and 1 where the slice is too short for it.
 fn derive(f: &[u8], by: By, out: &mut [u8]) -> Answer {
     if is_formula(f) {
-        if within_limits(f, 256, 32) {
+        if is_small(f, 256, 32) {
             let mut table = [0usize; 2048];
             let found = survey_formula(f, 32, by, &mut table);
             if found.fine {

@@ -219,14 +219,3 @@ pub fn is_small(b: &[u8], nodes: usize, levels: usize) -> bool
     };
     true
 }
-
-// Whether the bytes are a formula of at most so many nodes and levels.
-pub fn within_limits(b: &[u8], nodes: usize, levels: usize) -> bool
-    ensures { λ r. ⌜ r ≡ limited nodes levels (formula-of (now (b .entry))) ⌝ }
-{
-    let ok = is_formula(b);
-    if ok {
-        return is_small(b, nodes, levels);
-    }
-    false
-}

@@ -114,8 +114,8 @@ struct Marks(u8, u8, u8);
 fn judged(b: &[u8]) -> Marks {
     let ok = reader::is_formula(b);
     if ok {
-        let small = reader::within_limits(b, 256, 32);
-        let large = reader::within_limits(b, 16384, 128);
+        let small = reader::is_small(b, 256, 32);
+        let large = reader::is_small(b, 16384, 128);
         return Marks(b'1', mark(small), mark(large));
     }
     Marks(b'0', b'-', b'-')

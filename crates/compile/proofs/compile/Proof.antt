@@ -19,8 +19,8 @@ enum-known-reading c = search needs
 enum-known-reading-2 : tie.Need-enum-known-reading-2
 enum-known-reading-2 c = search needs
 
-within-known-requires : tie.Need-within-known-requires
-within-known-requires c κs =
+within-requires : tie.Need-within-requires
+within-requires c κs =
     let args = c .before .before .before .before .before .before .before .before .before .args in
     let prepare = c .before .before .before .before .prepare in
     let S = source-of (args .formula .now) (args .names .now) (length (args .path .now)) (length (args .program .now)) (prepare .result)
@@ -50,7 +50,7 @@ write-requires c κs =
     let args = c .before .before .before .before .before .before .before .before .before .before .before .before .before .before .before .before .before .args in
     let prepare = c .before .before .before .before .before .before .before .before .before .before .before .before .prepare in
     let reading2 = c .before .before .before .before .before .before .before .before .before .before .reading2 in
-    let within = c .before .before .before .before .before .before .before .within-known in
+    let within = c .before .before .before .before .before .before .before .within in
     let if1 = c .before .before .before .before .if1 in
     let S = source-of (args .formula .now) (args .names .now) (length (args .path .now)) (length (args .program .now)) (prepare .result)
     (prepare .ensures) (reading2 .given .0 .0) (reading2 .given .1) in
@@ -68,7 +68,7 @@ returns c =
     let args = c .before .before .before .before .before .before .before .before .before .before .before .before .before .before .before .before .before .before .before .before .before .before .args in
     let prepare = c .before .before .before .before .before .before .before .before .before .before .before .before .before .before .before .before .before .prepare in
     let reading2 = c .before .before .before .before .before .before .before .before .before .before .before .before .before .before .before .reading2 in
-    let within = c .before .before .before .before .before .before .before .before .before .before .before .before .within-known in
+    let within = c .before .before .before .before .before .before .before .before .before .before .before .before .within in
     let if1 = c .before .before .before .before .before .before .before .before .before .if1 in
     let S = source-of (args .formula .now) (args .names .now) (length (args .path .now)) (length (args .program .now)) (prepare .result)
     (prepare .ensures) (reading2 .given .0 .0) (reading2 .given .1) in
@@ -100,7 +100,7 @@ returns-3 c =
     let reading2 = c .before .before .before .before .before .before .reading2 in
     let S = source-of (args .formula .now) (args .names .now) (length (args .path .now)) (length (args .program .now)) (prepare .result)
     (prepare .ensures) (reading2 .given .0 .0) (reading2 .given .1) in
-    let within = c .before .before .before .within-known in
+    let within = c .before .before .before .within in
     early _ 4 (some root) (args .path .now) _ (args .program .now) (above-limit S (within .result) (within .ensures .0) (c .if1 .left)) (omega arith)
     (path-rooted (args .path .now) (within .last .1 .0) (within .result) (within .ensures .1) (c .if1 .left))
 
@@ -111,7 +111,7 @@ compile-spec =
     prepare-requires
     enum-known-reading
     enum-known-reading-2
-    within-known-requires
+    within-requires
     array-share-prefix-kinds
     slice-aggregate-write
     write-requires

@@ -12,14 +12,15 @@ use Rattle.derivative_cases.proofs.derive.Tie as tie
 is-formula-requires : tie.Need-is-formula-requires
 is-formula-requires c κs = search needs
 
-within-limits-requires : tie.Need-within-limits-requires
-within-limits-requires c κs = search needs
+is-small-requires : tie.Need-is-small-requires
+is-small-requires c κs = sym (c .before .is-formula .ensures) ∙ c .if1 .taken
 
 slice-aggregate-survey-formula : tie.Need-slice-aggregate-survey-formula
 slice-aggregate-survey-formula c = search needs
 
 survey-formula-requires : tie.Need-survey-formula-requires
-survey-formula-requires c κs = room-from (c .before .before .before .before .before .before .before .args .f .now) _ (sym (c .before .before .before .before .is-formula .ensures) ∙ c .before .before .before .if1 .taken) (sym (c .before .before .within-limits .ensures) ∙ c .before .if2 .taken) (omega arith)
+survey-formula-requires c κs =
+    room-from (c .before .before .before .before .before .before .before .args .f .now) _ (sym (c .before .before .before .before .is-formula .ensures) ∙ c .before .before .before .if1 .taken) (sym (c .before .before .is-small .ensures) ∙ c .before .if2 .taken) (omega arith)
 
 with-primal-requires : tie.Need-with-primal-requires
 with-primal-requires c κs =
@@ -47,7 +48,7 @@ write-derivative-requires c κs =
     let args = c .before .before .before .before .before .before .before .before .before .before .before .before .before .before .before .before .before .before .before .before .before .args in
     let is-formula = c .before .before .before .before .before .before .before .before .before .before .before .before .before .before .before .before .before .before .is-formula in
     let if1 = c .before .before .before .before .before .before .before .before .before .before .before .before .before .before .before .before .before .if1 in
-    let within-limits = c .before .before .before .before .before .before .before .before .before .before .before .before .before .before .before .before .within-limits in
+    let within-limits = c .before .before .before .before .before .before .before .before .before .before .before .before .before .before .before .before .is-small in
     let if2 = c .before .before .before .before .before .before .before .before .before .before .before .before .before .before .before .if2 in
     let survey-formula = c .before .before .before .before .before .before .before .before .before .before .before .before .before .survey-formula in
     let if3 = c .before .before .before .before .before .before .before .before .before .before .before .if3 in
@@ -80,7 +81,7 @@ derive-spec =
     tie.close
     (tie.spec
     is-formula-requires
-    within-limits-requires
+    is-small-requires
     slice-aggregate-survey-formula
     survey-formula-requires
     with-primal-requires

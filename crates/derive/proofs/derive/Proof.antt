@@ -1,11 +1,13 @@
 use mathlib.Core.Path.{refl, ap}
-use mathlib.Core.Option.{none, some}
+use mathlib.Core.Option.{Option, none, some}
 use native.Mathlib.Omega.{arith}
 use lib.ListN.{length}
+use Rattle.formula.specs.Formula.{Formula}
 use Rattle.formula.specs.Path.{root}
 use Rattle.formula.specs.Term.{term}
 use Rattle.machine.specs.Check.{fault}
 use Rattle.machine.specs.Compile.{lowered-or, own-context}
+use Rattle.reader.specs.Read.{is-some}
 use Rattle.derivative.specs.Derive.{continued}
 use Rattle.compile.proofs.Entries.{above-limit, faults-left, limit-of, path-kept, path-rooted, prefix, prefix-long, refusal-of, source-of, within-table}
 use Rattle.derive.proofs.Parts.{leaves}
@@ -35,7 +37,7 @@ within-requires c κs =
     let n = c .before .before .reading2 .given .0 .0 in
     let S = source-of (args .formula .now) (args .names .now) (length (args .path .now)) (length (args .program .now)) (prepare .result)
     (prepare .ensures) n (c .before .before .reading2 .given .1) in
-    omega (arith, S .places)
+    (omega (arith, S .places), ap (λ (o : Option Formula). is-some o) (S .formed))
 
 array-share-prefix-kinds : tie.Need-array-share-prefix-kinds
 array-share-prefix-kinds c =
