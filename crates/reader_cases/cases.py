@@ -160,9 +160,14 @@ names(",".join("n%d:p" % (i % 255) for i in range(256)))
 names("x" * 63 + "a:p," + "x" * 63 + "b:p")
 names("x" * 63 + "a:p," + "x" * 63 + "a:p")
 
-# hexadecimal digits: every printable byte, then values
-for b in range(32, 127):
-    digits("0" * 15 + chr(b))
+# hexadecimal digits: every byte but a newline as the first and as the last, each digit and the bytes beside the digits in each place, then values
+for b in range(256):
+    if b != 10:
+        digits("0" * 15 + chr(b))
+        digits(chr(b) + "0" * 15)
+for place in range(16):
+    for c in "0123456789abcdef/:?@AFW`g":
+        digits("9" * place + c + "a" * (15 - place))
 for text in ["0123456789abcdef", "fedcba9876543210", "f" * 16, "0" * 16, "7ff0000000000000", "4056800000000000", "405680000000000A", "g" + "0" * 15]:
     digits(text)
 for _ in range(20):
@@ -176,7 +181,7 @@ for n in (0, 1, 2, 3, 4, 5, 12, 13, 102, 103, 255, 1002, 1003, 65538, 65539, 100
 for n in (0, 1, 9, 10, 11, 99, 100, 101, 255, 256, 999, 1000, 65535, 1000000, 4294967295, 4294967296, 9999999999):
     lines.append("d%d" % n)
 
-with open(__file__.rsplit("/", 1)[0] + "/stdin", "w", newline="") as f:
+with open(__file__.rsplit("/", 1)[0] + "/stdin", "w", newline="", encoding="latin-1") as f:
     f.write("\n".join(lines) + "\n")
 with open(__file__.rsplit("/", 1)[0] + "/stdout", "w") as f:
     f.write("%d cases\nok\n" % len(lines))

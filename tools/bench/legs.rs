@@ -30,11 +30,12 @@ fn time() -> f64 {
     (s + t) as f64 + (us + ut) as f64 / 1e6
 }
 
-fn input(lines: usize) -> Vec<u8> {
+/// Lines of eight values: one and some parts of a whole, of which 64 makes short fractions and 7 long ones.
+fn input(lines: usize, parts: f64) -> Vec<u8> {
     let mut text = formulas::NAMES.to_vec();
     for line in 0..lines {
         text.push(b'\n');
-        let value = |i: usize| 1.0 + ((line * 31 + i * 37) % 1024) as f64 / 64.0;
+        let value = |i: usize| 1.0 + ((line * 31 + i * 37) % 1024) as f64 / parts;
         let items: Vec<String> = (0..8).map(|i| format!("{:016x}", value(i).to_bits())).collect();
         text.extend(items.join(",").bytes());
     }
@@ -70,11 +71,47 @@ fn peak_of(program: &Path, folder: &Path) -> String {
     String::from_utf8_lossy(&printed.stdout).trim().into()
 }
 
-pub fn table(here: &str, there: &str) {
-    let absolute = |path: &str| -> PathBuf { fs::canonicalize(path).expect("the program is there") };
-    let (here, there) = (absolute(here), absolute(there));
+fn absolute(path: &str) -> PathBuf {
+    fs::canonicalize(path).expect("the program is there")
+}
+
+fn new_folder() -> PathBuf {
     let folder = std::env::temp_dir().join(format!("bench-{}", std::process::id()));
     fs::create_dir_all(&folder).expect("a folder");
+    folder
+}
+
+/// The least seconds of two programs that take turns.
+fn least(here: &Path, there: &Path, folder: &Path, rounds: usize) -> (f64, f64) {
+    let (mut a, mut b) = (f64::MAX, f64::MAX);
+    for _ in 0..rounds {
+        a = a.min(seconds(here, folder));
+        b = b.min(seconds(there, folder));
+    }
+    (a, b)
+}
+
+/// `bench builds BEFORE AFTER`: lines a second of two builds of `legs`.
+pub fn builds(before: &str, after: &str) {
+    let (before, after, folder) = (absolute(before), absolute(after), new_folder());
+    let lines = 1_000_000;
+    println!("\n### Two builds of `legs`, lines for each second of processor time, eight values a line\n");
+    println!("| formula | nodes | fractions | before lines/s | after lines/s | after / before |\n|---|---|---|---|---|---|");
+    for (name, formula) in [("flight", formulas::flight()), ("arithmetic", formulas::arithmetic(25))] {
+        fs::write(folder.join("formula.bin"), &formula).expect("the formula");
+        for (fractions, parts) in [("short", 64.0), ("long", 7.0)] {
+            fs::write(folder.join("input"), input(lines, parts)).expect("the lines");
+            assert!(output(&before, &folder) == output(&after, &folder), "{name}: the outputs differ");
+            let (a, b) = least(&before, &after, &folder, 9);
+            let rate = |t: f64| lines as f64 / t;
+            println!("| {name} | {} | {fractions} | {:.0} | {:.0} | {:.2} |", formula.len() / NODE_SIZE, rate(a), rate(b), a / b);
+        }
+    }
+    fs::remove_dir_all(&folder).ok();
+}
+
+pub fn table(here: &str, there: &str) {
+    let (here, there, folder) = (absolute(here), absolute(there), new_folder());
     println!("\n### `legs`, lines for each second of processor time of the whole process, output thrown away\n");
     println!("| formula | nodes | lines | here lines/s | Rust lines/s | here / Rust | here peak kB | Rust peak kB |\n|---|---|---|---|---|---|---|---|");
     let formulas = [
@@ -86,16 +123,11 @@ pub fn table(here: &str, there: &str) {
     for (name, formula) in formulas {
         fs::write(folder.join("formula.bin"), &formula).expect("the formula");
         for lines in [10_000, 100_000, 1_000_000] {
-            fs::write(folder.join("input"), input(lines)).expect("the lines");
+            fs::write(folder.join("input"), input(lines, 64.0)).expect("the lines");
             if lines == 10_000 {
                 assert!(output(&here, &folder) == output(&there, &folder), "{name}: the outputs differ");
             }
-            let rounds = if lines > 500_000 { 2 } else { 5 };
-            let (mut a, mut b) = (f64::MAX, f64::MAX);
-            for _ in 0..rounds {
-                a = a.min(seconds(&here, &folder));
-                b = b.min(seconds(&there, &folder));
-            }
+            let (a, b) = least(&here, &there, &folder, if lines > 500_000 { 2 } else { 5 });
             let rate = |t: f64| lines as f64 / t;
             let (nodes, ratio) = (formula.len() / NODE_SIZE, rate(a) / rate(b));
             println!(
@@ -111,7 +143,7 @@ pub fn table(here: &str, there: &str) {
 /// Machine instructions of a line, as callgrind counts them: 20,000 lines less 10,000.
 fn counts(here: &Path, there: &Path, folder: &Path) {
     let of = |program: &Path, lines: usize| {
-        fs::write(folder.join("input"), input(lines)).expect("the lines");
+        fs::write(folder.join("input"), input(lines, 64.0)).expect("the lines");
         let stdin = File::open(folder.join("input")).expect("the lines");
         crate::counts::collected(Command::new("valgrind").current_dir(folder).stdin(stdin), program, &[])
     };

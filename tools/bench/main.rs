@@ -164,6 +164,7 @@ fn main() {
     let words: Vec<String> = std::env::args().skip(1).collect();
     match words.iter().map(String::as_str).collect::<Vec<_>>()[..] {
         ["peak", program] => return legs::print_peak(program),
+        ["builds", before, after] => return legs::builds(before, after),
         ["repeat", work, formula, times] => return counts::repeat(work, formula, times.parse().expect("a number")),
         _ => {}
     }

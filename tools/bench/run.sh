@@ -1,6 +1,7 @@
 #!/bin/sh
 # Times compile, derive, run and legs beside the Rust reference on the same inputs, in one run, as tables. Needs rt, rustc, cc.
-# legs is target/bin/legs, or what LEGS names; without it there is no table of lines a second.
+# legs is target/bin/legs, or what LEGS names; without it there is no table of lines a second. Where BEFORE names another build of
+# legs, only the two builds are timed, side by side.
 set -e
 cd "$(dirname "$0")/../.."
 out=target/library
@@ -11,4 +12,8 @@ legs=${LEGS:-target/bin/legs}
 echo "$(date +%F), $(grep -m1 'model name' /proc/cpuinfo | cut -d: -f2 | sed 's/^ *//'), $(nproc) cores, load $(cut -d' ' -f1 /proc/loadavg), $(rustc --version)"
 [ -x "$legs" ] || exec "$out/bench"
 tools/library/runner.sh "$legs" "$out/legs"
+if [ -n "$BEFORE" ]; then
+    tools/library/runner.sh "$BEFORE" "$out/legs_before"
+    exec "$out/bench" builds "$out/legs_before" "$out/legs"
+fi
 exec "$out/bench" "$out/legs" "$out/legs_reference"

@@ -1,6 +1,5 @@
 -- Lines of values: "each value is 16 lower-case hexadecimal digits, the bits of an f64, joined by commas. A line ends at a newline byte or at the
--- end of the file; nothing after a last newline is no line. An empty file is an empty name line; an empty line of values has none. Hex digits come
--- from a table of sixteen bytes."
+-- end of the file; nothing after a last newline is no line. An empty file is an empty name line; an empty line of values has none."
 use mathlib.Core.Bool.{Bool, true, false, cond}
 use mathlib.Core.List.{List, [], _∷_, _++_, map}
 use mathlib.Core.Option.{Option, none, some}
@@ -9,10 +8,12 @@ use lib.ListN.{length, getD}
 use lib.Dec.{eqb}
 use Rattle.formula.specs.Text.{ascii, split, all-some}
 
+-- the digits from 0 to 15, as text. Document 02: "the digit worked out by its formula: 48 more than the value below ten, 87 more from ten."
+-- That text and formula agree is proved in names/proofs/Digits (`byte-is`, `digit-by-formula`).
 abbrev pub hex-digits : List ℕ
 hex-digits = ascii "0123456789abcdef"
 
--- the place of a byte in a table, counted from i
+-- the place of a byte among others, counted from i
 abbrev pub found : Bool → ℕ → Option ℕ → Option ℕ
 found true i later = some i
 found false i later = later

@@ -19,6 +19,6 @@ abbrev pub All-below : ℕ → List ℕ → Type 0
 All-below n [] = Unit {0}
 All-below n (x ∷ xs) = (x < n) × All-below n xs
 
--- "Hex digits come from a table of sixteen bytes."
+-- the byte of a digit
 abbrev pub digit-byte : ℕ → ℕ
 digit-byte d = getD hex-digits d 0

@@ -3,17 +3,19 @@ use mathlib.Core.Path.{_≡_, refl, sym, ap, _∙_}
 use mathlib.Core.Bool.{Bool, true, false, cond}
 use mathlib.Core.List.{List, [], _∷_, _++_, map, append-assoc, append-nil}
 use mathlib.Core.Option.{Option, none, some}
-use Prim.Native.Nat.{ℕ, zero, suc, _+_, _-_, _*_, _/_, _%_, _≤_, _<_}
+use Prim.Native.Nat.{ℕ, zero, suc, _+_, _-_, _/_, _%_, _≤_, _<_}
 use native.Mathlib.Omega.{arith}
 use lib.ListN.{length, getD, drop, set, length-set}
 use lib.Seq.{drop-cons, drop-set-lt, getD-set-same, drop-length}
 use lib.Dec.{eqb, ltb}
-use borrow.Author.Tests.{eqb-true, eqb-false, ltb-true, ltb-false, ne-eqb, eq-eqb}
+use borrow.Author.Tests.{eqb-true, ne-eqb}
 use Rattle.formula.specs.Text.{all-some}
+use Rattle.formula.specs.Names.{between}
 use Rattle.formula.specs.Values.{hex-digits, found, place-in, digit-of, numbered, value-of, digits-in, hex}
-use Rattle.names.specs.Lines.{cap, place}
+use Rattle.names.specs.Lines.{place}
+use Rattle.formula.proofs.Tests.{no-true, passes}
 
--- ---- the table
+-- ---- a digit and its place
 
 below-by : (t : Bool) (i n : ℕ) (o : Option ℕ) → i < n → ((d : ℕ) → o ≡ some d → d < n) → (d : ℕ) → found t i o ≡ some d → d < n
 below-by true i n o h k d e = let q : i ≡ d = cc in omega arith
@@ -41,48 +43,37 @@ digit-is b r e h = place-is (digit-of b) r (digit-below b) e h
 pub digit-no : (b r : ℕ) → r ≡ place (digit-of b) → r ≡ 16 → digit-of b ≡ none
 digit-no b r e h = place-no (digit-of b) r (digit-below b) e h
 
--- ---- the one place that is looked at
+-- ---- "the digit worked out by its formula: 48 more than the value below ten, 87 more from ten."
 
-abbrev pub place-of-byte : ℕ → ℕ
-place-of-byte b = (b % 16 + 9 * (b / 64)) % 16
+abbrev pub byte-of : ℕ → ℕ
+byte-of d = cond (ltb d 10) (48 + d) (87 + d)
 
--- what is found there
-abbrev place-right : ℕ → Bool
-place-right b = eqb (cond (eqb (getD hex-digits (place-of-byte b) 0) b) (place-of-byte b) 16) (place (digit-of b))
+-- and back, 48 less from `0` to `9` and 87 less from `a` to `f`; no other byte is a digit
+abbrev pub by-formula : ℕ → Option ℕ
+by-formula b = cond (between 48 57 b) (some (b - 48)) (cond (between 97 102 b) (some (b - 87)) none)
 
-abbrev all-right : ℕ → Bool
-all-right zero = true
-all-right (suc n) = cond (place-right n) (all-right n) false
+abbrev same : Option ℕ → Option ℕ → Bool
+same none none = true
+same none (some e) = false
+same (some d) none = false
+same (some d) (some e) = eqb d e
 
-less : (b n : ℕ) → b < suc n → (b ≡ n → ⊥) → b < n
-less b n l k = less-by (ltb b n) refl
-  where
-    less-by : (t : Bool) → ltb b n ≡ t → b < n
-    less-by true p = ltb-true b n p
-    less-by false p = let m = ltb-false b n p in absurd (k (omega arith))
+same-is : (o p : Option ℕ) → same o p ≡ true → o ≡ p
+same-is none none h = refl
+same-is none (some e) h = absurd (no-true h)
+same-is (some d) none h = absurd (no-true h)
+same-is (some d) (some e) h = ap (λ x. some x) (eqb-true d e h)
 
-right-below-by : (t u : Bool) (n b : ℕ) → place-right n ≡ t → eqb b n ≡ u → cond t (all-right n) false ≡ true → b < suc n → (b < n → all-right n ≡ true → place-right b ≡ true)
-    → place-right b ≡ true
-right-below-by false u n b e q h l r = absurd (let z : _≡_ {A = ℕ} 0 1 = cc in omega arith)
-right-below-by true true n b e q h l r = ap place-right (eqb-true b n q) ∙ e
-right-below-by true false n b e q h l r = r (less b n l (eqb-false b n q)) h
+-- the text of the sixteen digits and the formula agree
+pub byte-is : (d : ℕ) → d < 16 → getD hex-digits d 0 ≡ byte-of d
+byte-is d l = eqb-true (getD hex-digits d 0) (byte-of d) (passes (λ i. eqb (getD hex-digits i 0) (byte-of i)) 16 d refl l)
 
-right-below : (n b : ℕ) → all-right n ≡ true → b < n → place-right b ≡ true
-right-below zero b h l = absurd (omega arith)
-right-below (suc n) b h l = right-below-by (place-right n) (eqb b n) n b refl refl h l (λ k g. right-below n b g k)
+pub digit-by-formula : (b : ℕ) → b < 256 → digit-of b ≡ by-formula b
+digit-by-formula b l = same-is (digit-of b) (by-formula b) (passes (λ i. same (digit-of i) (by-formula i)) 256 b refl l)
 
-byte-right : (b : ℕ) → b < 256 → place-right b ≡ true
-byte-right b l = right-below 256 b refl l
-
-pub digit-there : (b : ℕ) → b < 256 → getD hex-digits (place-of-byte b) 0 ≡ b → place-of-byte b ≡ place (digit-of b)
-digit-there b l e =
-    sym (ap (λ (t : Bool). cond t (place-of-byte b) 16) (eq-eqb (getD hex-digits (place-of-byte b) 0) b e))
-    ∙ eqb-true (cond (eqb (getD hex-digits (place-of-byte b) 0) b) (place-of-byte b) 16) (place (digit-of b)) (byte-right b l)
-
-pub digit-nowhere : (b : ℕ) → b < 256 → (getD hex-digits (place-of-byte b) 0 ≡ b → ⊥) → 16 ≡ place (digit-of b)
-digit-nowhere b l e =
-    sym (ap (λ (t : Bool). cond t (place-of-byte b) 16) (ne-eqb (getD hex-digits (place-of-byte b) 0) b e))
-    ∙ eqb-true (cond (eqb (getD hex-digits (place-of-byte b) 0) b) (place-of-byte b) 16) (place (digit-of b)) (byte-right b l)
+-- a digit's byte reads back as the digit
+pub digit-again : (d : ℕ) → d < 16 → digit-of (byte-of d) ≡ some d
+digit-again d l = same-is (digit-of (byte-of d)) (some d) (passes (λ i. same (digit-of (byte-of i)) (some i)) 16 d refl l)
 
 -- ---- a value
 
@@ -111,10 +102,9 @@ digits-step (suc i) rest h =
     let z : i ≡ suc i - 1 = omega arith in
     ap (λ (j : ℕ). digits-in j (rest / 16) ++ (getD hex-digits (rest % 16) 0 ∷ [])) z
 
-pub writing-more : (n rest i : ℕ) (out : List ℕ) → Writing n rest i out → (i ≡ 0 → ⊥)
-    → Writing n (rest / 16) (i - 1) (set out (i - 1) (getD hex-digits (rest % 16) 0))
-writing-more n rest i out g h =
-    let d = getD hex-digits (rest % 16) 0 in
+pub writing-more : (n rest i d : ℕ) (out : List ℕ) → Writing n rest i out → (i ≡ 0 → ⊥) → d ≡ getD hex-digits (rest % 16) 0
+    → Writing n (rest / 16) (i - 1) (set out (i - 1) d)
+writing-more n rest i d out g h e =
     let j = i - 1 in
     let l : j < length out = omega (arith, g .all, g .below) in
     let z : suc j ≡ i = omega arith in
@@ -129,6 +119,7 @@ writing-more n rest i out g h =
       same =
           g .same
           ∙ ap (λ (ys : List ℕ). ys ++ drop i out) (digits-step i rest h)
+          ∙ ap (λ (x : ℕ). (digits-in j (rest / 16) ++ (x ∷ [])) ++ drop i out) (sym e)
           ∙ append-assoc (digits-in j (rest / 16)) (d ∷ []) (drop i out)
           ∙ ap (λ (ys : List ℕ). digits-in j (rest / 16) ++ ys) (sym c);
     }

@@ -12,7 +12,7 @@ use Rattle.names.specs.declared.Names.{Names}
 
 -- ---- digits
 
--- a place in the table of sixteen digits; 16 is none
+-- a digit; 16 is none
 abbrev pub place : Option ℕ → ℕ
 place none = 16
 place (some d) = d

@@ -1,25 +1,40 @@
 ghost use mathlib.Core.Path.{_≡_};
 ghost use mathlib.Core.Bool.{false, _||_};
-ghost use Prim.Native.Nat.{_+_, _-_, _≤_};
-ghost use lib.ListN.{length, take, drop};
+ghost use Prim.Native.Nat.{_+_, _-_, _≤_, _<_};
+ghost use lib.ListN.{length, getD, take, drop};
 ghost use Rattle.formula.specs.Text.{same-bytes, zeros};
 ghost use Rattle.formula.specs.Names.{between, is-letter, is-digit, kind-of, symbols-of};
-ghost use Rattle.formula.specs.Values.{digit-of, hex as hex-text};
+ghost use Rattle.formula.specs.Values.{digit-of, hex-digits, hex as hex-text};
 ghost use Rattle.names.specs.Lines.{place, kind-place, Letters, Tells, repeats, Listed, Marked, Placed, mark, names-of};
 
 // ---- Digits of values: "each value is 16 lower-case hexadecimal digits, the bits of an f64, joined by commas."
 
-// "Hex digits come from a table of sixteen bytes."
-const DIGITS: [u8; 16] = *b"0123456789abcdef";
+// "the digit worked out by its formula: 48 more than the value below ten, 87 more from ten."
+fn digit_byte(d: u8) -> u8
+    requires { ⌜ d < 16 ⌝ }
+    ensures { λ r. ⌜ r ≡ getD hex-digits d 0 ⌝ }
+{
+    if d < 10 {
+        return 48 + d;
+    }
+    87 + d
+}
 
-// The place of a byte in the table, or 16. A byte can stand at one place only, which is looked at: 0 to 9 for bytes below 64,
-// and 10 to 15 for the letters, whose last four bits count from 1.
+// And back: 48 less than `0` to `9`, 87 less than `a` to `f`. No other byte is a digit, which is 16.
 pub fn digit(b: u8) -> u64
     ensures { λ r. ⌜ (r ≡ place (digit-of b)) × (r ≤ 16) ⌝ }
 {
-    let i = ((b % 16 + 9 * (b / 64)) % 16) as usize;
-    if DIGITS[i] == b {
-        return i as u64;
+    if b < 48 {
+        return 16;
+    }
+    if b < 58 {
+        return (b - 48) as u64;
+    }
+    if b < 97 {
+        return 16;
+    }
+    if b < 103 {
+        return (b - 87) as u64;
     }
     16
 }
@@ -33,8 +48,7 @@ pub fn hex(n: u64) -> [u8; 16]
     let mut i = 16;
     while i > 0 {
         i -= 1;
-        let d = (rest % 16) as usize;
-        out[i] = DIGITS[d];
+        out[i] = digit_byte((rest % 16) as u8);
         rest = rest / 16;
     }
     out

@@ -17,17 +17,20 @@ loop-holds c = writing-start (c .args .n) _ refl
 sub-i : tie.Need-sub-i Inv-loop μ-loop
 sub-i c = omega arith
 
-array-read-out : tie.Need-array-read-out Inv-loop μ-loop
-array-read-out c = omega arith
+cast-digit-byte : tie.Need-cast-digit-byte Inv-loop μ-loop
+cast-digit-byte c = omega arith
+
+digit-byte-requires : tie.Need-digit-byte-requires Inv-loop μ-loop
+digit-byte-requires c κs = omega arith
 
 array-write-out : tie.Need-array-write-out Inv-loop μ-loop
-array-write-out c = omega (arith, c .before .loop .inv .below, c .before .loop .inv .all)
+array-write-out c = omega (arith, c .before .before .loop .inv .below, c .before .before .loop .inv .all)
 
 loop-less : tie.Need-loop-less Inv-loop μ-loop
 loop-less c = omega arith
 
 loop-again : tie.Need-loop-again Inv-loop μ-loop
-loop-again c = writing-more (c .before .before .args .n) (c .before .loop .rest) (c .before .loop .i) (c .before .loop .out) (c .before .loop .inv) (λ e. omega arith)
+loop-again c = writing-more (c .before .before .before .args .n) (c .before .before .loop .rest) (c .before .before .loop .i) (c .digit-byte .result) (c .before .before .loop .out) (c .before .before .loop .inv) (λ e. omega arith) (c .digit-byte .ensures)
 
 returns : tie.Need-returns Inv-loop μ-loop
 returns c = writing-end (c .before .before .args .n) (c .before .loop .rest) (c .before .loop .i) (c .before .loop .out) (c .before .loop .inv) (omega arith)
@@ -40,7 +43,8 @@ hex-spec =
     μ-loop
     loop-holds
     sub-i
-    array-read-out
+    cast-digit-byte
+    digit-byte-requires
     array-write-out
     loop-less
     loop-again
