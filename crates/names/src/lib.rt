@@ -20,7 +20,7 @@ fn digit_byte(d: u8) -> u8
     87 + d
 }
 
-// And back: 48 less than `0` to `9`, 87 less than `a` to `f`. No other byte is a digit, which is 16.
+// And back: 48 less from `0` to `9`, 87 less from `a` to `f`, and 16 for any other byte.
 pub fn digit(b: u8) -> u64
     ensures { λ r. ⌜ (r ≡ place (digit-of b)) × (r ≤ 16) ⌝ }
 {
