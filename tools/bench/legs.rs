@@ -43,6 +43,16 @@ fn input(lines: usize, parts: f64) -> Vec<u8> {
     text
 }
 
+/// The same lines with a last byte that is no digit: the value that it ends is then read digit by digit.
+fn malformed(mut text: Vec<u8>) -> Vec<u8> {
+    for end in formulas::NAMES.len() + 1..text.len() {
+        if text[end] == b'\n' {
+            text[end - 1] = b'g';
+        }
+    }
+    text
+}
+
 /// Seconds of processor time of one run in a folder, its output thrown away.
 fn seconds(program: &Path, folder: &Path) -> f64 {
     let stdin = File::open(folder.join("input")).expect("the lines");
@@ -96,15 +106,17 @@ pub fn builds(before: &str, after: &str) {
     let (before, after, folder) = (absolute(before), absolute(after), new_folder());
     let lines = 1_000_000;
     println!("\n### Two builds of `legs`, lines for each second of processor time, eight values a line\n");
-    println!("| formula | nodes | fractions | before lines/s | after lines/s | after / before |\n|---|---|---|---|---|---|");
+    println!("| formula | nodes | values | before lines/s | after lines/s | after / before |\n|---|---|---|---|---|---|");
     for (name, formula) in [("flight", formulas::flight()), ("arithmetic", formulas::arithmetic(25))] {
         fs::write(folder.join("formula.bin"), &formula).expect("the formula");
-        for (fractions, parts) in [("short", 64.0), ("long", 7.0)] {
-            fs::write(folder.join("input"), input(lines, parts)).expect("the lines");
+        let (short, long) = (input(lines, 64.0), input(lines, 7.0));
+        let bad = malformed(long.clone());
+        for (values, text) in [("short fractions", short), ("long fractions", long), ("the last one malformed", bad)] {
+            fs::write(folder.join("input"), text).expect("the lines");
             assert!(output(&before, &folder) == output(&after, &folder), "{name}: the outputs differ");
             let (a, b) = least(&before, &after, &folder, 9);
             let rate = |t: f64| lines as f64 / t;
-            println!("| {name} | {} | {fractions} | {:.0} | {:.0} | {:.2} |", formula.len() / NODE_SIZE, rate(a), rate(b), a / b);
+            println!("| {name} | {} | {values} | {:.0} | {:.0} | {:.2} |", formula.len() / NODE_SIZE, rate(a), rate(b), a / b);
         }
     }
     fs::remove_dir_all(&folder).ok();
