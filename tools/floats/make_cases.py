@@ -1,12 +1,13 @@
 #!/usr/bin/env python3
 """Write crates/float_cases/stdin and stdout: recorded cases of Sqrt, Floor, Ceil, Modulo, Min, Max, bits, abs, is_whole, is_finite.
 
-A record is 50 bytes: the operation's letter, three words of 16 hexadecimal digits (a, b and the result's bits) and a newline.
+A record is 82 bytes: the operation's letter, five words of 16 hexadecimal digits (up to four values, zeros after them, and the result's bits) and a newline.
 The answers are of Python's math module, which has them from the C library, and each root, floor, ceiling and remainder is worked out a
-second time with whole numbers (fractions.Fraction, math.isqrt); the two must agree. The arguments are specials, subnormals, ends of range,
+second time with whole numbers (fractions.Fraction, math.isqrt); the two must agree. Min and Max are the ends of the sorted numbers, -0 before +0,
+unless a NaN comes first. The arguments are specials, subnormals, ends of range,
 neighbours of squares and of half way cases, and bits of a fixed random sequence, so the files come out the same each time.
 """
-import math, random, struct, sys
+import itertools, math, random, struct, sys
 from fractions import Fraction
 
 R = random.Random(754)
@@ -76,11 +77,11 @@ def modulo(a, b):
         return 0.0 if s >= b else s
     return r
 
-def least(a, b):
-    return b if b < a else a
-
-def most(a, b):
-    return b if b > a else a
+def extremum(end, xs):
+    """The first (0) or last (-1) of the numbers in IEEE 754-2019's order; a NaN where it comes first."""
+    if xs[0] != xs[0]:
+        return xs[0]
+    return sorted((x for x in xs if x == x), key=lambda x: (x, math.copysign(1, x)))[end]
 
 SPECIAL = [0.0, 5e-324, of(2), of(0xfffffffffffff), of(0x10000000000000), of(0x10000000000001), 1e-20, 0.25, 0.5, of(0x3fdfffffffffffff), of(0x3fe0000000000001),
            of(0x3fefffffffffffff), 1.0, of(0x3ff0000000000001), 1.5, 2.0, 2.5, 3.0, 4.0, 10.0, 2.0**31, 2.0**51 + 0.5, 2.0**52 - 0.5, 2.0**52, 2.0**52 + 1, 2.0**53 - 1, 2.0**53, 2.0**53 + 2,
@@ -96,12 +97,12 @@ def near(low, high):
 
 out = []
 
-def put(letter, a, b, r):
-    out.append('%s%016x%016x%016x\n' % (letter, a, b, r))
+def put(letter, words, r):
+    out.append(letter + ''.join('%016x' % w for w in words + [0] * (4 - len(words)) + [r]) + '\n')
 
 def one(letter, f, xs):
     for x in xs:
-        put(letter, bits(x), 0, bits(f(x)))
+        put(letter, [bits(x)], bits(f(x)))
 
 def roots():
     yield from SPECIAL
@@ -152,17 +153,17 @@ one('s', sqrt, roots())
 one('f', floor, wholes())
 one('c', ceil, wholes())
 for a, b in quotients():
-    put('m', bits(a), bits(b), bits(modulo(a, b)))
-for a in SPECIAL[::4] + [math.nan, -0.0]:
-    for b in SPECIAL[::4] + [math.nan, -0.0]:
-        put('l', bits(a), bits(b), bits(least(a, b)))
-        put('g', bits(a), bits(b), bits(most(a, b)))
+    put('m', [bits(a), bits(b)], bits(modulo(a, b)))
+for letters, some in [('lg', SPECIAL[::4] + [math.nan, -0.0]), ('nx', [0.0, -0.0, math.nan, 5e-324, -5e-324, 1.0, -1.0]), ('NX', [0.0, -0.0, math.nan, 1.0, -1.0])]:
+    for xs in itertools.product(some, repeat={'l': 2, 'n': 3, 'N': 4}[letters[0]]):
+        for letter, end in zip(letters, (0, -1)):
+            put(letter, [bits(x) for x in xs], bits(extremum(end, xs)))
 for n in [bits(x) for x in SPECIAL] + [0x7ff0000000000001, 0x7fffffffffffffff, 0xfff0000000000001, 0xfff8000000000000, 0xffffffffffffffff] + [R.getrandbits(64) for _ in range(200)]:
-    put('b', n, 0, bits(of(n)))
+    put('b', [n], bits(of(n)))
 one('a', abs, SPECIAL + [any_bits() for _ in range(60)])
 for x in SPECIAL + [near(-3, 55) for _ in range(150)] + [math.floor(near(-3, 55)) * 1.0 for _ in range(60)]:
-    put('w', bits(x), 0, int(math.isfinite(x) and x == math.floor(x)))
-    put('i', bits(x), 0, int(math.isfinite(x)))
+    put('w', [bits(x)], int(math.isfinite(x) and x == math.floor(x)))
+    put('i', [bits(x)], int(math.isfinite(x)))
 
 folder = sys.argv[1] if len(sys.argv) > 1 else 'crates/float_cases'
 open(folder + '/stdin', 'w').write(''.join(out))

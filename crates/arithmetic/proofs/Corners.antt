@@ -1,4 +1,4 @@
--- Values at the places that document 01 names: Modulo's corners, Sqrt 2, Ceil -0.5, a tie of zeros.
+-- Values at the places that document 01 names: Modulo's corners, Sqrt 2, Ceil -0.5, and at zeros and NaNs under Min and Max.
 use mathlib.Core.Path.{_≡_, refl}
 use mathlib.Core.List.{[], _∷_}
 use Prim.Native.Nat.{ℕ}
@@ -38,11 +38,40 @@ pub round-corners :
 unfolding ofBits floor ceil
 round-corners = (refl, refl, refl)
 
--- the earlier of two zeros is held; a NaN first stays, a NaN later is passed over
-pub extremum-corners :
-    (extremum below (f 0 ∷ f 0x8000000000000000 ∷ []) ≡ f 0)
-    × (extremum above (f 0x8000000000000000 ∷ f 0 ∷ []) ≡ f 0x8000000000000000)
-    × (extremum below (f 0x7ff8000000000000 ∷ f 0 ∷ []) ≡ f 0x7ff8000000000000)
-    × (extremum below (f 0 ∷ f 0x7ff8000000000000 ∷ []) ≡ f 0)
+-- the four pairs of zeros: Min gives -0 where there is one, Max gives +0 where there is one
+pub minimum-zeros :
+    (extremum below (f 0 ∷ f 0 ∷ []) ≡ f 0)
+    × (extremum below (f 0 ∷ f 0x8000000000000000 ∷ []) ≡ f 0x8000000000000000)
+    × (extremum below (f 0x8000000000000000 ∷ f 0 ∷ []) ≡ f 0x8000000000000000)
+    × (extremum below (f 0x8000000000000000 ∷ f 0x8000000000000000 ∷ []) ≡ f 0x8000000000000000)
 unfolding ofBits hold lt
-extremum-corners = (refl, refl, refl, refl)
+minimum-zeros = (refl, refl, refl, refl)
+
+pub maximum-zeros :
+    (extremum above (f 0 ∷ f 0 ∷ []) ≡ f 0)
+    × (extremum above (f 0 ∷ f 0x8000000000000000 ∷ []) ≡ f 0)
+    × (extremum above (f 0x8000000000000000 ∷ f 0 ∷ []) ≡ f 0)
+    × (extremum above (f 0x8000000000000000 ∷ f 0x8000000000000000 ∷ []) ≡ f 0x8000000000000000)
+unfolding ofBits hold lt
+maximum-zeros = (refl, refl, refl, refl)
+
+-- Min(1, +0, -0, 2), Max(-1, -0, +0); +0, -0, +0 of each
+pub more-zeros :
+    (extremum below (f 0x3ff0000000000000 ∷ f 0 ∷ f 0x8000000000000000 ∷ f 0x4000000000000000 ∷ []) ≡ f 0x8000000000000000)
+    × (extremum above (f 0xbff0000000000000 ∷ f 0x8000000000000000 ∷ f 0 ∷ []) ≡ f 0)
+    × (extremum below (f 0 ∷ f 0x8000000000000000 ∷ f 0 ∷ []) ≡ f 0x8000000000000000)
+    × (extremum above (f 0 ∷ f 0x8000000000000000 ∷ f 0 ∷ []) ≡ f 0)
+unfolding ofBits hold lt
+more-zeros = (refl, refl, refl, refl)
+
+-- a NaN first stays, a NaN later is passed over, also between two zeros; of none it is a NaN
+pub extremum-nans :
+    (extremum below (f 0x7ff8000000000000 ∷ f 0 ∷ []) ≡ f 0x7ff8000000000000)
+    × (extremum below (f 0x7ff8000000000000 ∷ f 0x8000000000000000 ∷ []) ≡ f 0x7ff8000000000000)
+    × (extremum above (f 0x7ff8000000000000 ∷ f 0 ∷ []) ≡ f 0x7ff8000000000000)
+    × (extremum below (f 0 ∷ f 0x7ff8000000000000 ∷ []) ≡ f 0)
+    × (extremum above (f 0 ∷ f 0x7ff8000000000000 ∷ []) ≡ f 0)
+    × (extremum below (f 0 ∷ f 0x7ff8000000000000 ∷ f 0x8000000000000000 ∷ []) ≡ f 0x8000000000000000)
+    × (extremum below [] ≡ f 0x7ff8000000000000)
+unfolding ofBits hold lt
+extremum-nans = (refl, refl, refl, refl, refl, refl, refl)

@@ -1,5 +1,5 @@
 -- Values: IEEE 754 numbers as `lib.Ieee` has them, and the tests that document 01 puts to them.
-use mathlib.Core.Bool.{Bool, false, cond}
+use mathlib.Core.Bool.{Bool, true, false, cond}
 use Prim.Native.Nat.{_*_, _%_}
 use lib.IntN.{pos, negsuc}
 use lib.Dec.{eqb}
@@ -10,6 +10,9 @@ pub use lib.Ieee.Scale.{finite}
 
 abbrev pub 0f : Float
 0f = Ieee.fin false 0 (pos 0)
+
+abbrev pub -0f : Float
+-0f = Ieee.fin true 0 (pos 0)
 
 abbrev pub 1f : Float
 1f = Ieee.fin false 1 (pos 0)

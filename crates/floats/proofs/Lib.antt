@@ -1,4 +1,5 @@
 mod Zero
+mod Zeros
 mod Truncate
 mod Bits
 mod RootSteps

@@ -2,6 +2,7 @@
 -- The operators +, -, * and / of the code are `add`, `sub`, `mul` and `div` of binary64: `f64-conforms` has them, beside these.
 use mathlib.Core.Path.{_≡_, sym, _∙_, subst}
 use mathlib.Core.Bool.{Bool, true, false, not}
+use mathlib.Core.List.{List, [], _∷_, List·Memᴰ·eq-of-singleton}
 use Prim.Native.Nat.{ℕ}
 use lib.Dec.{T}
 use lib.IntN.{pos}
@@ -12,11 +13,13 @@ use Rattle.arithmetic.specs.Value.{finite, 0f}
 use Rattle.arithmetic.specs.Round.{floor, ceil}
 use Rattle.arithmetic.specs.Root.{sqrt}
 use Rattle.arithmetic.specs.Modulo.{modulo}
+use Rattle.arithmetic.specs.Extremum.{held, hold, below, above, extremum}
 use Rattle.rounding.specs.Rounding.{Counts}
 use Rattle.rounding.specs.Exact.{sign}
 use Rattle.rounding.specs.Whole.{IsFloor, IsCeil}
 use Rattle.rounding.specs.NearestRoot.{NearerRoot, IsNearestRoot}
 use Rattle.rounding.specs.Modulo.{IsModulo}
+use Rattle.rounding.specs.Extremum.{number, Each, IsExtremum}
 use Rattle.rounding.proofs.Formats.{f64-conforms}
 
 -- 52 digits after the leading one, and values below 2 ^ 1024
@@ -57,3 +60,18 @@ modulo-below-infinity a r h k e = e ∙ f64-conforms .modulo-of-minus a h k
 
 pub modulo-within-infinity : (a r : Float) → T (finite a) → lt a 0f ≡ false → r ≡ modulo binary64 a (inf false) → r ≡ a
 modulo-within-infinity a r h k e = e ∙ f64-conforms .modulo-of-plus a h k
+
+held-is : (beyond : Float → Float → Bool)
+    → ((x : Float) (xs : List Float) → T (number binary64 x) → Each (fits binary64) xs → T (number binary64 (extremum beyond (x ∷ xs))) × IsExtremum beyond (x ∷ xs) (extremum beyond (x ∷ xs)))
+    → (earlier next r : Float) → T (number binary64 earlier) → T (fits binary64 next) → r ≡ held beyond earlier next → IsExtremum beyond (earlier ∷ next ∷ []) r
+unfolding hold
+held-is beyond h earlier next r t u e =
+    subst (λ (y : Float). IsExtremum beyond (earlier ∷ next ∷ []) y) (sym e)
+    (h earlier (next ∷ []) t (λ x m. subst (λ (y : Float). T (fits binary64 y)) (sym (List·Memᴰ·eq-of-singleton m)) u) .1)
+
+-- `extremum::hold_below`, `extremum::hold_above`: of a number and any next value the one that the other is not below, or not above; -0 is below +0
+pub minimum-is-least : (earlier next r : Float) → T (number binary64 earlier) → T (fits binary64 next) → r ≡ held below earlier next → IsExtremum below (earlier ∷ next ∷ []) r
+minimum-is-least earlier next r t u e = held-is below (f64-conforms .minimums .result) earlier next r t u e
+
+pub maximum-is-most : (earlier next r : Float) → T (number binary64 earlier) → T (fits binary64 next) → r ≡ held above earlier next → IsExtremum above (earlier ∷ next ∷ []) r
+maximum-is-most earlier next r t u e = held-is above (f64-conforms .maximums .result) earlier next r t u e

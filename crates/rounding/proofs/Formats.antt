@@ -21,6 +21,7 @@ use Rattle.rounding.proofs.Once.{add-rounds, sub-rounds, mul-rounds, di
 use Rattle.rounding.proofs.Whole.{floor-is-at, ceil-is-at, floor-is, ceil-is, floor-fits, ceil-fits}
 use Rattle.rounding.proofs.NearestRoot.{sqrt-nearest, sqrt-zero, sqrt-fits}
 use Rattle.rounding.proofs.Remainder.{modulo-is-at, modulo-is, modulo-infinite, modulo-fits}
+use Rattle.rounding.proofs.Extremum.{min-decides, max-decides}
 
 root-of : (F : Format) (x : Float) → T (fits F x) → T (positive x) → IsNearestRoot (width F) (num x) (den x) (sqrt F x)
 root-of F nan t h = absurd h
@@ -95,6 +96,8 @@ conforms F = record {
   modulos = modulo-of F;
   modulo-of-minus = below-infinity F;
   modulo-of-plus = kept-infinity F;
+  minimums = min-decides F;
+  maximums = max-decides F;
   fit = λ x y t. (add-fits F x y, sub-fits F x y, mul-fits F x y, div-fits F x y, floor-fits F x, ceil-fits F x, sqrt-fits F x t, modulo-fits F x y t);
 }
 

@@ -16,6 +16,8 @@ pub mod Whole
 pub mod NearestRoot
 pub mod RootDigits
 pub mod Remainder
+pub mod Rank
+pub mod Extremum
 pub mod Widths
 pub mod Formats
 pub mod Corners

@@ -7,15 +7,17 @@ use lib.IntN.{pos, _+ℤ_, _-ℤ_}
 use lib.Ieee.{Float, nan, inf, fin, Format, unlike, round, add, sub, mul, div, lt, fits, isNan}
 use lib.Ieee.Positive.{num, den, positive}
 use Rattle.arithmetic.specs.Width.{width}
-use Rattle.arithmetic.specs.Value.{finite, 0f}
+use Rattle.arithmetic.specs.Value.{finite, 0f, -0f}
 use Rattle.arithmetic.specs.Round.{floor, ceil}
 use Rattle.arithmetic.specs.Root.{sqrt-at, sqrt}
 use Rattle.arithmetic.specs.Modulo.{modulo}
+use Rattle.arithmetic.specs.Extremum.{below, above}
 use Rattle.rounding.specs.Rounding.{Size, Counts, IsRounded, round-at}
 use Rattle.rounding.specs.Exact.{sign, signed, RoundsTo}
 use Rattle.rounding.specs.Whole.{IsFloor, IsCeil, floor-at, ceil-at}
 use Rattle.rounding.specs.NearestRoot.{IsNearestRoot}
 use Rattle.rounding.specs.Modulo.{IsModulo, modulo-at}
+use Rattle.rounding.specs.Extremum.{Decides}
 
 -- the operations of the format are those of its width; Sqrt is by definition
 pub record AtWidth (F : Format) : Type 0 where
@@ -52,6 +54,9 @@ pub record Conforms (F : Format) : Type 0 where
   pub modulos : (a b : Float) → T (fits F a) → T (fits F b) → T (finite a) → T (positive b) → IsModulo (width F) a b (modulo F a b)
   pub modulo-of-minus : (a : Float) → T (finite a) → lt a 0f ≡ true → modulo F a (inf false) ≡ 0f
   pub modulo-of-plus : (a : Float) → T (finite a) → lt a 0f ≡ false → modulo F a (inf false) ≡ a
+  -- "IEEE 754-2019 puts -0 below +0 for minimum and maximum. Min and Max follow that now, in every order of arguments"
+  pub minimums : Decides F lt below -0f
+  pub maximums : Decides F (λ x y. lt y x) above 0f
   -- the format holds every result
   pub fit : (x y : Float) → T (fits F x) → T (fits F (add F x y)) × T (fits F (sub F x y)) × T (fits F (mul F x y)) × T (fits F (div F x y)) × T (fits F (floor F x))
       × T (fits F (ceil F x)) × T (fits F (sqrt F x)) × T (fits F (modulo F x y))
