@@ -157,8 +157,13 @@ fn power(a: f64, b: f64, host: &mut Host) -> Work {
     if inside { host.ask(16, a, b) } else { Ok(f64::NAN) }
 }
 
+/// -0 below +0, as `total_cmp` has them; a NaN is below nothing and nothing below it.
+fn below(x: f64, y: f64) -> bool {
+    !x.is_nan() && !y.is_nan() && x.total_cmp(&y).is_lt()
+}
+
 fn extremum(less: bool, values: impl Iterator<Item = f64>) -> f64 {
-    values.reduce(|v, y| if (less && y < v) || (!less && y > v) { y } else { v }).unwrap_or(f64::NAN)
+    values.reduce(|v, y| if if less { below(y, v) } else { below(v, y) } { y } else { v }).unwrap_or(f64::NAN)
 }
 
 fn compare(operator: u8, x: f64, y: f64) -> f64 {

@@ -1,16 +1,26 @@
 #!/usr/bin/env python3
-"""Writes the record that `legs_cases` compares with: make_cases.py ORACLE > crates/legs_cases/stdin"""
+"""Writes the record that `legs_cases` compares with: make_cases.py LEGS ORACLE > crates/legs_cases/stdin
+
+What has to be printed is the reference's answer. Where the two differ in signs of zeros under Min or Max alone, it is what LEGS printed.
+"""
+import os
 import struct
 import sys
 
-from compare import expected, fixed_cases, random_case
+from compare import expected, fixed_cases, random_case, run, same, zero_tables
 from generate import Generator
 
 ROOM = 327680
 
 
-def case(r, oracle, formula, data):
-    want = expected(oracle, formula, data)
+def wanted(legs, oracle, formula, data):
+    want, got = expected(oracle, formula, data), run(legs, formula, data)
+    if not same(formula, got, want):
+        raise SystemExit("legs and the reference differ on %s" % (formula or b"").hex())
+    return got
+
+
+def case(r, formula, data, want):
     if len(want) > 65536:
         return b""
     block = r.choice([1, 2, 3, 7, 16, 17, 64, 1000, 100000])
@@ -22,15 +32,18 @@ def case(r, oracle, formula, data):
 
 
 def main():
-    oracle = sys.argv[1]
+    legs, oracle = map(os.path.abspath, sys.argv[1:3])
     r = Generator(7)
     cases, total = [], 4
     for name, formula, data in fixed_cases():
         if len(data) < 25000:
-            cases.append(case(r, oracle, formula, data))
+            cases.append(case(r, formula, data, wanted(legs, oracle, formula, data)))
+    for name, formula, data, want in zero_tables():
+        cases.append(case(r, formula, data, want))
     while True:
         total = 4 + sum(map(len, cases))
-        new = case(r, oracle, *random_case(r))
+        formula, data = random_case(r)
+        new = case(r, formula, data, wanted(legs, oracle, formula, data))
         if total + len(new) > ROOM:
             break
         cases.append(new)

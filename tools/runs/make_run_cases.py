@@ -41,6 +41,8 @@ FORMULAS = [
     unary(1, binary(0, call(13, A, num(2.0), B), binary(4, C, num(0.5)))),
     conditional(unary(2, compare(3, A, B)), call(7, call(4, C)), call(6, call(5, D))),
     binary(2, call(2, A), call(15, B, B, C)),
+    call(11, num(1.0), num(0.0), num(-0.0), num(2.0)),
+    call(12, num(-1.0), num(-0.0), num(0.0)),
 ]
 
 # ---- the reference
@@ -140,13 +142,17 @@ def binary_work(o, a, b, kept):
     r = math.fmod(a, b)
     return (0.0 if r + b >= b else r + b) if r < 0 else r
 
+def below(x, y):
+    """-0 below +0."""
+    return x < y or (x == y == 0 and math.copysign(1, x) < math.copysign(1, y))
+
 def call_work(f, xs, kept):
     x = xs[0]
     if f == 3: return math.sqrt(x) if x >= 0 else None
     if f == 8: return abs(x)
     if f in (9, 10): return math.copysign(float((math.floor, math.ceil)[f - 9](x)), x)
     if f in (11, 12):
-        for y in xs[1:]: x = y if (y < x if f == 11 else y > x) else x
+        for y in xs[1:]: x = y if (below(y, x) if f == 11 else below(x, y)) else x
         return x
     if f == 13: return hill(*xs, kept)
     if f == 15: return density(*xs, kept)
@@ -267,6 +273,9 @@ def compared(oracle, formula, program, inputs):
         count += more
     said = oracle.ask("trace %s %s %s libm" % (formula.hex(), NAMES.encode().hex(), hexed(inputs))).split(" questions ")[0]
     mine = "value %016x %d" % (bits(answer[1]), count) if answer[0] == "value" else "domain %s %d" % (answer[2], count)
+    if any(name == "call" and f[0] in (11, 12) for name, f, _, _ in program.code):
+        # Rust leaves the sign of such a zero open
+        said, mine = (text.replace("8000000000000000", "0000000000000000") for text in (said, mine))
     assert said == mine, (said, mine)
 
 def main():

@@ -55,14 +55,16 @@ pub maximum-zeros :
 unfolding ofBits hold lt
 maximum-zeros = (refl, refl, refl, refl)
 
--- Min(1, +0, -0, 2), Max(-1, -0, +0); +0, -0, +0 of each
+-- Min(1, +0, -0, 2), Max(-1, -0, +0); +0, -0, +0 of each; beside other numbers a zero's sign is nothing: Min(-0, -1), Max(+0, 1)
 pub more-zeros :
     (extremum below (f 0x3ff0000000000000 ∷ f 0 ∷ f 0x8000000000000000 ∷ f 0x4000000000000000 ∷ []) ≡ f 0x8000000000000000)
     × (extremum above (f 0xbff0000000000000 ∷ f 0x8000000000000000 ∷ f 0 ∷ []) ≡ f 0)
     × (extremum below (f 0 ∷ f 0x8000000000000000 ∷ f 0 ∷ []) ≡ f 0x8000000000000000)
     × (extremum above (f 0 ∷ f 0x8000000000000000 ∷ f 0 ∷ []) ≡ f 0)
+    × (extremum below (f 0x8000000000000000 ∷ f 0xbff0000000000000 ∷ []) ≡ f 0xbff0000000000000)
+    × (extremum above (f 0 ∷ f 0x3ff0000000000000 ∷ []) ≡ f 0x3ff0000000000000)
 unfolding ofBits hold lt
-more-zeros = (refl, refl, refl, refl)
+more-zeros = (refl, refl, refl, refl, refl, refl)
 
 -- a NaN first stays, a NaN later is passed over, also between two zeros; of none it is a NaN
 pub extremum-nans :

@@ -41,6 +41,9 @@ abbrev 2e0 : ℕ
 abbrev -1e0 : ℕ
 -1e0 = 0xbff0000000000000
 
+abbrev -0e0 : ℕ
+-0e0 = 0x8000000000000000
+
 abbrev -2e0 : ℕ
 -2e0 = 0xc000000000000000
 
@@ -95,6 +98,15 @@ max-tie-first = refl
 pub max-tie-second : by 1 false (call Max) (0 ∷ 1 ∷ []) (2e0 ∷ 2e0 ∷ []) [] ≡ gives 0
 unfolding add sub mul div rem neg lt le eq ne ofBits toBits round whole absolute floor hold hill-work density-work density-cost less-one
 max-tie-second = refl
+
+-- zeros are a tie too, though Min(+0, -0) and Max(-0, +0) are the second argument
+pub min-tie-zeros : (by 0 false (call Min) (0 ∷ 1 ∷ []) (0 ∷ -0e0 ∷ []) [] ≡ gives 1e0) × (by 1 false (call Min) (0 ∷ 1 ∷ []) (0 ∷ -0e0 ∷ []) [] ≡ gives 0)
+unfolding add sub mul div rem neg lt le eq ne ofBits toBits round whole absolute floor hold hill-work density-work density-cost less-one
+min-tie-zeros = (refl, refl)
+
+pub max-tie-zeros : (by 0 false (call Max) (0 ∷ 1 ∷ []) (-0e0 ∷ 0 ∷ []) [] ≡ gives 1e0) × (by 1 false (call Max) (0 ∷ 1 ∷ []) (-0e0 ∷ 0 ∷ []) [] ≡ gives 0)
+unfolding add sub mul div rem neg lt le eq ne ofBits toBits round whole absolute floor hold hill-work density-work density-cost less-one
+max-tie-zeros = (refl, refl)
 
 -- "Hill at x = 0 gives 0 where dx is the literal zero"
 pub hill-constant : by 1 true (call Hill) (0 ∷ 1 ∷ 2 ∷ []) (0 ∷ 1e0 ∷ 2e0 ∷ []) [] ≡ gives 0

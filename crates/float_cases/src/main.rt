@@ -53,6 +53,28 @@ fn outcome(letter: u8, x: f64, y: f64, z: f64, u: f64) -> u64 {
     }
 }
 
+// Whether a record's last number is what the operation gives on those before it.
+fn is_right(record: &[u8]) -> bool {
+    let a = hex(record, 1, 17);
+    let b = hex(record, 17, 33);
+    let c = hex(record, 33, 49);
+    let d = hex(record, 49, 65);
+    let e = hex(record, 65, 81);
+    let fine = all(all(a.fine, b.fine), all(c.fine, all(d.fine, e.fine)));
+    let letter = reader::byte(record, 0);
+    all(
+        fine,
+        outcome(
+            letter,
+            of_bits(a.value),
+            of_bits(b.value),
+            of_bits(c.value),
+            of_bits(d.value),
+        )
+            == e.value,
+    )
+}
+
 // The next record's case. One that comes out otherwise is written out.
 fn next_case(t: Tally) -> Tally {
     let mut record = [0u8; 82];
@@ -60,20 +82,7 @@ fn next_case(t: Tally) -> Tally {
     if !read {
         return cases::end(t);
     }
-    let a = hex(&record, 1, 17);
-    let b = hex(&record, 17, 33);
-    let c = hex(&record, 33, 49);
-    let d = hex(&record, 49, 65);
-    let e = hex(&record, 65, 81);
-    let fine = all(all(a.fine, b.fine), all(c.fine, all(d.fine, e.fine)));
-    let here = outcome(
-        record[0],
-        of_bits(a.value),
-        of_bits(b.value),
-        of_bits(c.value),
-        of_bits(d.value),
-    );
-    let right = all(fine, here == e.value);
+    let right = is_right(&record);
     if !right {
         io::write_all(1, &record);
     }

@@ -2,7 +2,7 @@
 use mathlib.Core.Path.{_≡_, refl, sym, ap, _∙_, subst}
 use mathlib.Core.Logic.{_⊎_, inl, inr, ⊎-swap}
 use mathlib.Core.Bool.{Bool, true, false, not, _&&_, _||_, cond, true≢false}
-use mathlib.Core.List.{List, [], _∷_, List·Memᴰ, List·Memᴰ·head, List·Memᴰ·tail, List·Memᴰ·not-nil, List·Memᴰ·cases-cons, Memᴰ·cast, List·Permᴰ, List·Permᴰ·nil, List·Permᴰ·cons, List·Permᴰ·swap, List·Permᴰ·trans, Permᴰ·symm}
+use mathlib.Core.List.{List, [], _∷_, List·Memᴰ, List·Memᴰ·head, List·Memᴰ·tail, List·Memᴰ·not-nil, List·Memᴰ·cases-cons, List·Permᴰ, List·Permᴰ·nil, List·Permᴰ·cons, List·Permᴰ·swap, List·Permᴰ·trans, Permᴰ·symm}
 use Prim.Native.Nat.{ℕ, suc, _+_, _-_, _≤_, _<_}
 use native.Mathlib.Nat.{le-refl, le-trans, le-of-eq, le-of-lt, le-antisymm}
 use native.Mathlib.Omega.{arith}
@@ -13,7 +13,7 @@ use lib.Ieee.Fits.{and-i, and-l, and-r}
 use lib.Ieee.Bits.{is-true}
 use Rattle.arithmetic.specs.Width.{width, past}
 use Rattle.arithmetic.specs.Value.{0f, -0f, is-zero}
-use Rattle.arithmetic.specs.Extremum.{held, hold, zero-of, below, above, extremum}
+use Rattle.arithmetic.specs.Extremum.{held, hold, zero-of, below, above}
 use Rattle.rounding.specs.Extremum.{number, Each, numbers, IsExtremum, Decides}
 use Rattle.rounding.proofs.Rank.{rank-of, plain-rank-of, below-ranks, lt-ranks, rank-bound, plain-bound, rank-one, plain-one, zero±, equal-values}
 

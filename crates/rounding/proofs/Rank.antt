@@ -3,7 +3,7 @@ use mathlib.Core.Path.{_≡_, refl, sym, ap, ap₂, _∙_, subst, subst₂}
 use mathlib.Core.Logic.{_⊎_, inl, inr}
 use mathlib.Core.Bool.{Bool, true, false, not, _&&_, _||_, Bool·beq, cond, true≢false}
 use Prim.Native.Nat.{ℕ, suc, _+_, _-_, _*_, _/_, _^_, _≤_, _<_}
-use native.Mathlib.Nat.{le-refl, le-of-eq, lt-of-lt-of-le, lt-of-le-of-lt, lt-irrefl, zero-mul, add-mul, mul-right-comm, mul-assoc, mul-comm, mul-pos, mul-lt-mul-of-pos-right, lt-of-mul-lt-mul-right, eq-of-mul-eq-mul-right, mul-div-cancel}
+use native.Mathlib.Nat.{le-refl, le-of-eq, lt-of-lt-of-le, lt-irrefl, zero-mul, add-mul, mul-right-comm, mul-assoc, mul-comm, mul-pos, mul-lt-mul-of-pos-right, lt-of-mul-lt-mul-right, eq-of-mul-eq-mul-right, mul-div-cancel}
 use native.Mathlib.Omega.{arith}
 use borrow.Author.Tests.{ltb-true, ltb-false, lt-ltb, le-ltb, eq-eqb, ne-eqb}
 use lib.Dec.{T, ltb, eqb, eqb→eq}

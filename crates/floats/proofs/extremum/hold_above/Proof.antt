@@ -1,11 +1,9 @@
 -- `hold_above`: strictly above, or of the two zeros +0.
 use borrow.Author.Needs.{needs}
-use mathlib.Core.Path.{_≡_, refl, ap, _∙_}
 use mathlib.Core.Logic.{inl, inr}
-use mathlib.Core.Bool.{Bool, true, false, cond, and-comm}
+use mathlib.Core.Bool.{true, false, and-comm}
 use native.Mathlib.Omega.{arith}
-use lib.Dec.{T}
-use lib.Ieee.{Float, binary64, fits}
+use lib.Ieee.{binary64, fits}
 use Rattle.arithmetic.specs.Extremum.{zero-of, above}
 use Rattle.floats.proofs.Zero.{held}
 use Rattle.floats.proofs.Zeros.{the-zero, no-zero, no-zeros, either}
@@ -41,7 +39,7 @@ returns-4 c =
     let e = c .before .before .args .earlier in
     let t = held (fits binary64 n) (c .before .before .good .1 .0 .1) in
     let u = held (fits binary64 e) (c .before .before .good .0 .1) in
-    rw (c .before .if1 .left, and-comm (zero-of true (c .before .before .args .earlier)) (zero-of false (c .before .before .args .next)), no-zeros false n e t u (c .if2 .left))
+    rw (c .before .if1 .left, and-comm (zero-of true e) (zero-of false n), no-zeros false n e t u (c .if2 .left))
 
 pub hold-above-spec : {M : Type 1} → statement M
 hold-above-spec = tie.close (tie.spec returns bits-of-requires returns-2 returns-3 returns-4)

@@ -1,12 +1,10 @@
 -- `hold_below`: strictly below, or of the two zeros -0.
 use borrow.Author.Needs.{needs}
-use mathlib.Core.Path.{_≡_, refl, ap, _∙_}
 use mathlib.Core.Logic.{inl, inr}
-use mathlib.Core.Bool.{Bool, true, false, cond}
+use mathlib.Core.Bool.{true}
 use native.Mathlib.Omega.{arith}
-use lib.Dec.{T}
-use lib.Ieee.{Float, binary64, fits}
-use Rattle.arithmetic.specs.Extremum.{zero-of, below}
+use lib.Ieee.{binary64, fits}
+use Rattle.arithmetic.specs.Extremum.{below}
 use Rattle.floats.proofs.Zero.{held}
 use Rattle.floats.proofs.Zeros.{the-zero, no-zero, no-zeros, either}
 use Rattle.floats.proofs.extremum.hold_below.Statement.{statement}
