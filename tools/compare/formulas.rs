@@ -46,6 +46,11 @@ pub struct Maker<'a> {
     out: Vec<u8>,
 }
 
+/// Bits of a zero of either sign, or of 1 or -1: inputs under which many arguments of Min and Max are equal.
+pub fn zero(random: &mut Random) -> u64 {
+    random.choice(&[0.0_f64, -0.0, 0.0, -0.0, 1.0, -1.0]).to_bits()
+}
+
 /// Bits of a float; with the chance `strange` one that isn't finite.
 pub fn value(random: &mut Random, strange: f64) -> u64 {
     if random.chance(strange) {

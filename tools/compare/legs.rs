@@ -86,14 +86,16 @@ fn expected(formula: &[u8], input: &[u8]) -> String {
 }
 
 /// Lines of values for a name line, some damaged.
-fn input(case: &Case, random: &mut Random) -> Vec<u8> {
+fn input(case: &Case, loose: bool, random: &mut Random) -> Vec<u8> {
     let count = if case.names.is_empty() { 0 } else { case.names.split(|byte| *byte == b',').count() };
     let mut input = case.names.clone();
     for _ in 0..random.choice(&[0, 1, 5, 20, 40]) {
         input.push(b'\n');
         let wrong = usize::from(random.chance(0.03));
         let strange = if random.chance(0.05) { 0.2 } else { 0.0 };
-        let items: Vec<String> = (0..count + wrong).map(|_| format!("{:016x}", formulas::value(random, strange))).collect();
+        let zeros = loose && random.chance(0.3);
+        let value = |random: &mut Random| if zeros { formulas::zero(random) } else { formulas::value(random, strange) };
+        let items: Vec<String> = (0..count + wrong).map(|_| format!("{:016x}", value(random))).collect();
         let mut line = items.join(",").into_bytes();
         if random.chance(0.05) && !line.is_empty() {
             let at = random.below(line.len());
@@ -120,9 +122,10 @@ impl Legs {
         Self { program: fs::canonicalize(program).expect("the program legs"), folder }
     }
 
-    /// Runs `legs` on a case and compares; gives the number of lines.
-    pub fn compare(&mut self, case: &Case, random: &mut Random) -> Result<u64, String> {
-        let input = input(case, random);
+    /// Runs `legs` on a case and compares; gives the number of lines, and of those with a zero of the other sign.
+    pub fn compare(&mut self, case: &Case, random: &mut Random) -> Result<(u64, u64), String> {
+        let loose = case.formula.chunks_exact(NODE_SIZE).any(|node| node[0] == 7 && matches!(node[1], 11 | 12));
+        let input = input(case, loose, random);
         let (formula, text) = (self.folder.join("formula.bin"), self.folder.join("input"));
         let none = random.chance(0.01);
         fs::write(&text, &input).map_err(|e| e.to_string())?;
@@ -135,9 +138,9 @@ impl Legs {
         let output = Command::new(&self.program).current_dir(&self.folder).stdin(stdin).output().map_err(|e| e.to_string())?;
         let here = String::from_utf8_lossy(&output.stdout);
         let there = if none { format!("{HEADER}0,refused,1:,0\n") } else { expected(&case.formula, &input) };
-        let loose = case.formula.chunks_exact(NODE_SIZE).any(|node| node[0] == 7 && matches!(node[1], 11 | 12));
         if output.status.success() && same(&here, &there, loose) {
-            Ok(there.lines().count() as u64 - 1)
+            let zeros = here.lines().zip(there.lines()).filter(|(a, b)| a != b).count();
+            Ok((there.lines().count() as u64 - 1, zeros as u64))
         } else {
             let input = String::from_utf8_lossy(&input);
             Err(format!("legs ends with {}: here\n{here}in Rust\n{there}for\n{input}", output.status))

@@ -52,6 +52,8 @@ struct Tally {
     derivative_runs: runs::Tally,
     files: u64,
     lines: u64,
+    /// Lines of `legs` with a zero of the other sign.
+    zeros: u64,
     differences: u64,
 }
 
@@ -258,7 +260,8 @@ impl Comparison {
 
 fn record(recorder: &mut Option<Recorder>, case: &Case, made: Made, played: &Played) {
     if let Some(recorder) = recorder {
-        recorder.add(case, &Made { inputs: &played.inputs, registers: played.registers, calls: &played.calls, ..made });
+        let Played { inputs, registers, calls, zeros } = played;
+        recorder.add(case, &Made { inputs, registers: *registers, calls, zeros: *zeros, ..made });
     }
 }
 
@@ -284,8 +287,13 @@ fn report(tally: &Tally) {
         );
     }
     println!("legs: {} files of {} lines", tally.files, tally.lines);
-    let zeros = runs::OTHER_ZEROS.load(std::sync::atomic::Ordering::Relaxed);
-    println!("{} differences; {zeros} zeros of formulas with Min or Max had the other sign", tally.differences);
+    let [values, arguments, registers] = [0, 1, 2].map(|i| tally.runs.zeros[i] + tally.derivative_runs.zeros[i]);
+    println!(
+        "zeros of formulas with Min or Max that have the other sign in Rust: {values} values, {arguments} arguments, {registers} registers, \
+         in {} lines of legs",
+        tally.zeros
+    );
+    println!("{} differences", tally.differences);
 }
 
 fn compare(seed: u64, count: u64, legs: Option<String>, folder: Option<String>) -> bool {
@@ -304,7 +312,10 @@ fn compare(seed: u64, count: u64, legs: Option<String>, folder: Option<String>) 
         if let (Some(legs), Ok(()), 0) = (&mut legs, &outcome, number % 100) {
             let lines = legs.compare(&case, &mut comparison.random);
             comparison.tally.files += 1;
-            outcome = lines.map(|lines| comparison.tally.lines += lines);
+            outcome = lines.map(|(lines, zeros)| {
+                comparison.tally.lines += lines;
+                comparison.tally.zeros += zeros;
+            });
         }
         if let Err(text) = outcome {
             comparison.tally.differences += 1;

@@ -35,6 +35,8 @@ pub struct Made<'a> {
     pub registers: usize,
     pub inputs: &'a [f64],
     pub calls: &'a [Call],
+    /// Whether a zero of Min or Max has the other sign in Rust.
+    pub zeros: bool,
 }
 
 impl Default for Made<'_> {
@@ -51,6 +53,7 @@ impl Default for Made<'_> {
             registers: 0,
             inputs: &[],
             calls: &[],
+            zeros: false,
         }
     }
 }
@@ -61,7 +64,7 @@ pub struct Recorder {
     bytes: Vec<u8>,
     lists: Vec<u8>,
     listed: usize,
-    answers: std::collections::BTreeMap<(bool, usize, bool), usize>,
+    answers: std::collections::BTreeMap<(bool, usize, bool, bool), usize>,
     pub cases: usize,
     pub calls: usize,
 }
@@ -72,9 +75,12 @@ fn extend(bytes: &mut Vec<u8>, numbers: impl IntoIterator<Item = u64>) {
     }
 }
 
-/// Cases of one answer at most: more where calls follow.
-const REFUSED: usize = 12;
+/// Cases of one answer at most: more where calls follow, fewer of refusals and of zeros that have the other sign in Rust.
+const OTHERS: usize = 12;
 const ANSWERED: usize = 45;
+/// Bytes of a tree and of a program that crates/library_cases has room for.
+const TREE: usize = 8192;
+const PROGRAM: usize = 65536;
 
 impl Recorder {
     pub fn new(folder: String) -> Self {
@@ -88,13 +94,14 @@ impl Recorder {
     /// Takes a case that is small and of an answer that is still wanted.
     pub fn add(&mut self, case: &Case, made: &Made) {
         let small = case.formula.len() <= 400 && case.names.len() <= 400 && made.tree.len() <= 1000 && made.registers <= 64;
+        let room = made.lengths[1] <= TREE && made.lengths[2] <= PROGRAM;
         let short = made.calls.len() <= 9 && made.calls.iter().all(|call| call.text.len() <= 500);
         let refused = made.calls.iter().any(|call| (1..12).contains(&call.numbers[20]) && call.numbers[20] != 9);
-        let rich = made.answer != 0 || (made.calls.len() > 3 && (refused || self.cases % 4 == 0));
-        let key = (made.symbol < 1 << 32, made.answer, made.tree_zero);
-        let wanted = if made.answer == 0 { ANSWERED } else { REFUSED };
+        let rich = made.answer != 0 || made.zeros || (made.calls.len() > 3 && (refused || self.cases % 4 == 0));
+        let key = (made.symbol < 1 << 32, made.answer, made.tree_zero, made.zeros);
+        let wanted = if made.answer == 0 && !made.zeros { ANSWERED } else { OTHERS };
         let taken = self.answers.entry(key).or_default();
-        if !small || !short || !rich || *taken == wanted {
+        if !small || !room || !short || !rich || *taken == wanted {
             return;
         }
         *taken += 1;

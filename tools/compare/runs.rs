@@ -6,13 +6,10 @@ use crate::machine::{bits, Machine, Question, State};
 use crate::random::Random;
 use crate::record::Call;
 use crate::{formulas, programs, steps};
-use std::sync::atomic::{AtomicU64, Ordering::Relaxed};
 use std::panic::{catch_unwind, resume_unwind, AssertUnwindSafe};
 use vebrostin::slices::{self, ASK, COUNT, FIRST, KEPT, KEPT_COUNT, PATH, POSITION, QUESTION, REPORT, SECOND, SPENT, STATE, VALUE};
 
 const FILL: u8 = 170;
-/// Zeros of a formula with Min or Max whose signs differed.
-pub static OTHER_ZEROS: AtomicU64 = AtomicU64::new(0);
 
 /// How a whole run ended.
 #[derive(Clone, Debug, PartialEq)]
@@ -45,6 +42,8 @@ pub struct Tally {
     pub damaged: u64,
     pub still: u64,
     pub instructions: u64,
+    /// Zeros whose sign is the other one in Rust: values, arguments of questions, registers at the end.
+    pub zeros: [u64; 3],
 }
 
 fn question(asked: &libm::Question) -> Question {
@@ -69,18 +68,15 @@ fn by_reference(program: &Program, inputs: &[f64], mut registers: Vec<f64>, sour
     Whole { questions, end, count, registers }
 }
 
-/// Bits are the same, every NaN as one; where a formula has Min or Max, zeros of either sign are one.
-fn same(here: f64, there: f64, loose: bool) -> bool {
-    let zeros = loose && here == 0.0 && there == 0.0 && bits(here) != bits(there);
-    if zeros {
-        OTHER_ZEROS.fetch_add(1, Relaxed);
-    }
-    zeros || bits(here) == bits(there)
+/// Bits are the same, every NaN as one; where a formula has Min or Max, zeros of either sign are one, and those that differ are counted.
+fn same(here: f64, there: f64, loose: bool, zeros: &mut u64) -> bool {
+    let other = loose && here == 0.0 && there == 0.0 && bits(here) != bits(there);
+    *zeros += u64::from(other);
+    other || bits(here) == bits(there)
 }
 
-fn same_question(here: &[u64], there: &Question, loose: bool) -> bool {
-    let argument = |at: usize| f64::from_bits(here[at]);
-    here[QUESTION] == there.0 + 1 && same(argument(FIRST), there.1, loose) && (there.0 != 16 || same(argument(SECOND), there.2, loose))
+fn same_question(here: &Question, there: &Question, loose: bool, zeros: &mut u64) -> bool {
+    here.0 == there.0 && same(here.1, there.1, loose, zeros) && (there.0 != 16 || same(here.2, there.2, loose, zeros))
 }
 
 /// One call as the library answers it and as the model does; the numbers of the state after.
@@ -261,6 +257,8 @@ pub struct Played {
     pub inputs: Vec<f64>,
     pub registers: usize,
     pub calls: Vec<Call>,
+    /// Whether a zero has the other sign in Rust.
+    pub zeros: bool,
 }
 
 /// Compares a run of the program that both sides made. `loose` where the formula has Min or Max.
@@ -271,7 +269,9 @@ pub fn compare(program: &Program, bytes: &[u8], loose: bool, random: &mut Random
     let (count, inputs_count, result) = program.counts();
     let strange = if random.chance(0.02) { 0.2 } else { 0.0 };
     let wrong = if random.chance(0.01) { 1 } else { 0 };
-    let inputs: Vec<f64> = (0..inputs_count + wrong).map(|_| f64::from_bits(formulas::value(random, strange))).collect();
+    let zeros = loose && random.chance(0.3);
+    let input = |random: &mut Random| if zeros { formulas::zero(random) } else { formulas::value(random, strange) };
+    let inputs: Vec<f64> = (0..inputs_count + wrong).map(|_| f64::from_bits(input(random))).collect();
     let few = usize::from(random.chance(0.01));
     let registers = vec![7.25; (count + random.below(3)).saturating_sub(few)];
     let source = if random.chance(0.6) {
@@ -286,11 +286,12 @@ pub fn compare(program: &Program, bytes: &[u8], loose: bool, random: &mut Random
     let machine = Machine { rows: &rows, registers: count, inputs: inputs_count, result };
     let mut player =
         Player { bytes, machine, inputs: &inputs, registers, cells: [0; STATE], path: vec![0; PATH + 8], calls: Vec::new() };
+    let before = tally.zeros;
     let end = play(&mut player, &whole, loose, random, tally)?;
     tally.calls += player.calls.len() as u64;
     check_end(&end, &whole, &player, loose, tally)?;
     let (registers, calls) = (player.registers.len(), player.calls);
-    Ok(Played { inputs, registers, calls })
+    Ok(Played { inputs, registers, calls, zeros: tally.zeros != before })
 }
 
 /// Calls until the run ends as the reference's did; gives how it ended and how many instructions were completed.
@@ -323,7 +324,7 @@ fn play(player: &mut Player, whole: &Whole, loose: bool, random: &mut Random, ta
                 let Some((asked, answer)) = answers.next() else {
                     return Ok((End::Asked(pending), completed));
                 };
-                if !same_question(&player.cells, asked, loose) {
+                if !same_question(&pending, asked, loose, &mut tally.zeros[1]) {
                     return Err(format!("question {pending:?} here, {asked:?} in Rust"));
                 }
                 tally.questions += 1;
@@ -341,8 +342,8 @@ fn random_limit(code: usize) -> usize {
 
 fn check_end((end, completed): &(End, u64), whole: &Whole, player: &Player, loose: bool, tally: &mut Tally) -> Result<(), String> {
     let equal = match (end, &whole.end) {
-        (End::Value(a), End::Value(b)) => same(*a, *b, loose),
-        (End::Asked(a), End::Asked(b)) => a.0 == b.0 && same(a.1, b.1, loose) && (a.0 != 16 || same(a.2, b.2, loose)),
+        (End::Value(a), End::Value(b)) => same(*a, *b, loose, &mut tally.zeros[0]),
+        (End::Asked(a), End::Asked(b)) => same_question(a, b, loose, &mut tally.zeros[1]),
         (a, b) => a == b,
     };
     if !equal {
@@ -351,7 +352,7 @@ fn check_end((end, completed): &(End, u64), whole: &Whole, player: &Player, loos
     if *completed != whole.count {
         return Err(format!("run: {completed} instructions here, {} in Rust", whole.count));
     }
-    if player.registers.iter().zip(&whole.registers).any(|(a, b)| !same(*a, *b, loose)) {
+    if player.registers.iter().zip(&whole.registers).any(|(a, b)| !same(*a, *b, loose, &mut tally.zeros[2])) {
         return Err("run: registers differ from Rust's".into());
     }
     tally.instructions += completed;

@@ -150,7 +150,10 @@ def damaged(r, line):
     ])
 
 
-def value_line(r, count):
+def value_line(r, count, extremum):
+    if extremum and r.chance(0.3):
+        # many arguments of Min and Max are zeros then
+        return ",".join("%016x" % bits(r.choice([0.0, -0.0, 0.0, -0.0, 1.0, -1.0])) for _ in range(count)).encode()
     if r.chance(0.05):
         count = r.choice([0, 1, count + 1, max(count - 1, 0), 256, 257, 300])
     line = ",".join("%016x" % r.value(0.02 if r.chance(0.1) else 0.0) for _ in range(count)).encode()
@@ -167,7 +170,7 @@ def random_case(r):
     if r.chance(0.04):
         names = r.damaged_line(names)
     count = len(r.symbols)
-    lines = [names] + [value_line(r, count) for _ in range(r.choice([0, 1, 2, 5, 20, 40]))]
+    lines = [names] + [value_line(r, count, has_extremum(formula)) for _ in range(r.choice([0, 1, 2, 5, 20, 40]))]
     data = b"\n".join(lines) + r.choice([b"", b"\n", b"\n\n"])
     return formula, data
 
@@ -269,11 +272,12 @@ def main():
             cuts = sorted(r.randrange(len(data) + 1) for _ in range(r.choice([1, 2, 5, 30])))
         got = run(legs, formula, data, cuts)
         records += want.count(b"\n") - 1
-        zeros += got != want and same(formula, got, want)
-        if not same(formula, got, want):
+        if same(formula, got, want):
+            zeros += sum(a != b for a, b in zip(lines_of(got), lines_of(want)))
+        else:
             wrong += 1
             print("differs: case %d of seed %d" % (case, seed), formula.hex(), data[:300], got[:300], want[:300])
-    print("%d cases, %d lines, %d differ; %d random files with Min or Max had a zero of the other sign" % (cases, records, wrong, zeros))
+    print("%d cases, %d lines, %d differ; %d lines of formulas with Min or Max have a zero of the other sign in Rust" % (cases, records, wrong, zeros))
     sys.exit(1 if wrong else 0)
 
 
