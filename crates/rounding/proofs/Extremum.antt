@@ -1,7 +1,7 @@
 -- Min and Max of a format's values, by any whole number that orders them: the result has the least one, so the order of the arguments is nothing to it.
 use mathlib.Core.Path.{_≡_, refl, sym, ap, _∙_, subst}
 use mathlib.Core.Logic.{_⊎_, inl, inr, ⊎-swap}
-use mathlib.Core.Bool.{Bool, true, false, not, _&&_, _||_, cond, true≢false}
+use mathlib.Core.Bool.{Bool, true, false, not, _&&_, _||_, cond, true≢false, and-false}
 use mathlib.Core.List.{List, [], _∷_, List·Memᴰ, List·Memᴰ·head, List·Memᴰ·tail, List·Memᴰ·not-nil, List·Memᴰ·cases-cons, List·Permᴰ, List·Permᴰ·nil, List·Permᴰ·cons, List·Permᴰ·swap, List·Permᴰ·trans, Permᴰ·symm}
 use Prim.Native.Nat.{ℕ, suc, _+_, _-_, _≤_, _<_}
 use native.Mathlib.Nat.{le-refl, le-trans, le-of-eq, le-of-lt, le-antisymm}
@@ -15,6 +15,7 @@ use Rattle.arithmetic.specs.Width.{width, past}
 use Rattle.arithmetic.specs.Value.{0f, -0f, is-zero}
 use Rattle.arithmetic.specs.Extremum.{held, hold, zero-of, below, above}
 use Rattle.rounding.specs.Extremum.{number, Each, numbers, IsExtremum, Decides}
+use Rattle.rounding.proofs.Order.{same-less}
 use Rattle.rounding.proofs.Rank.{rank-of, plain-rank-of, below-ranks, lt-ranks, rank-bound, plain-bound, rank-one, plain-one, zero±, equal-values}
 
 -- ---- values that a format holds
@@ -57,11 +58,7 @@ turned F beyond key most bound k = record {
 }
   where
     flip : (a b : ℕ) → a ≤ most → b ≤ most → ltb a b ≡ ltb (most - b) (most - a)
-    flip a b h g = go (ltb a b) (ltb-true a b) (ltb-false a b)
-      where
-        go : (t : Bool) → (t ≡ true → a < b) → (t ≡ false → b ≤ a) → t ≡ ltb (most - b) (most - a)
-        go true p q = let l = p refl in sym (lt-ltb (most - b) (most - a) (omega arith))
-        go false p q = let l = q refl in sym (le-ltb (most - b) (most - a) (omega arith))
+    flip a b h g = same-less a b (most - b) (most - a) (λ l. omega arith) (λ l. omega arith)
 
 module _ (F : Format) (beyond : Float → Float → Bool) (key : Float → ℕ) (k : Keyed F beyond key) where
   not-beyond : (x y : Float) → T (number F x) → T (number F y) → beyond x y ≡ false → key y ≤ key x
@@ -229,11 +226,7 @@ below-keyed F = record { less = below-ranks F; of-nan = λ x. refl; at-nan = bes
     beside : (x : Float) → below x nan ≡ false
     beside nan = refl
     beside (inf s) = refl
-    beside (fin true m e) = no (eqb m 0)
-      where
-        no : (b : Bool) → (b && false) ≡ false
-        no true = refl
-        no false = refl
+    beside (fin true m e) = and-false (eqb m 0)
     beside (fin false m e) = refl
 
 lt-keyed : (F : Format) → Keyed F lt (plain-rank-of F)

@@ -5,7 +5,7 @@ use mathlib.Core.Bool.{Bool, true, false, not, _&&_, _||_}
 use Prim.Native.Nat.{ℕ, _+_, _*_, _≤_, _<_}
 use native.Mathlib.Nat.{le-of-eq, le-of-lt, lt-of-lt-of-le, lt-irrefl, zero-mul, mul-pos, eq-or-lt-of-le, eq-zero-or-pos, mul-one, mul-right-comm, eq-of-mul-eq-mul-right}
 use native.Mathlib.Omega.{arith}
-use borrow.Author.Tests.{eqb-true, eqb-false, eq-eqb, ne-eqb}
+use borrow.Author.Tests.{ltb-true, ltb-false, lt-ltb, eqb-true, eqb-false, eq-eqb, ne-eqb}
 use lib.Dec.{T, ltb, eqb, ltb→lt, lt→ltb, eqb→eq}
 use lib.IntN.{ℤ}
 use lib.Ieee.{Float, nan, inf, fin, up, down, eq, le, neg, level}
@@ -20,6 +20,17 @@ same-test a b c d f g = go (eqb a b) (eqb-true a b) (eqb-false a b)
     go : (t : Bool) → (t ≡ true → a ≡ b) → (t ≡ false → a ≡ b → ⊥) → t ≡ eqb c d
     go true p q = sym (eq-eqb c d (f (p refl)))
     go false p q = sym (ne-eqb c d (λ e. q refl (g e)))
+
+pub same-less : (a b c d : ℕ) → (a < b → c < d) → (c < d → a < b) → ltb a b ≡ ltb c d
+same-less a b c d f g = go (ltb a b) (ltb-true a b) (ltb-false a b)
+  where
+    go : (t : Bool) → (t ≡ true → a < b) → (t ≡ false → b ≤ a) → t ≡ ltb c d
+    go true p q = sym (lt-ltb c d (f (p refl)))
+    go false p q = go-on (ltb c d) (ltb-true c d)
+      where
+        go-on : (u : Bool) → (u ≡ true → c < d) → false ≡ u
+        go-on true r = absurd (lt-irrefl a (lt-of-lt-of-le (g (r refl)) (q refl)))
+        go-on false r = refl
 
 level-same : (s : Bool) (a b : ℕ) → level s a s b ≡ eqb a b
 level-same true a b = go (eqb a b)

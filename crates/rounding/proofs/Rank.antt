@@ -1,11 +1,11 @@
 -- The order of a format's values as the order of whole numbers: by sign and size, and by rank, in which -0 stands one below +0.
 use mathlib.Core.Path.{_≡_, refl, sym, ap, ap₂, _∙_, subst, subst₂}
 use mathlib.Core.Logic.{_⊎_, inl, inr}
-use mathlib.Core.Bool.{Bool, true, false, not, _&&_, _||_, Bool·beq, cond, true≢false}
+use mathlib.Core.Bool.{Bool, true, false, not, _&&_, _||_, Bool·beq, cond, true≢false, and-false, or-false}
 use Prim.Native.Nat.{ℕ, suc, _+_, _-_, _*_, _/_, _^_, _≤_, _<_}
 use native.Mathlib.Nat.{le-refl, le-of-eq, lt-of-lt-of-le, lt-irrefl, zero-mul, add-mul, mul-right-comm, mul-assoc, mul-comm, mul-pos, mul-lt-mul-of-pos-right, lt-of-mul-lt-mul-right, eq-of-mul-eq-mul-right, mul-div-cancel}
 use native.Mathlib.Omega.{arith}
-use borrow.Author.Tests.{ltb-true, ltb-false, lt-ltb, le-ltb, eq-eqb, ne-eqb}
+use borrow.Author.Tests.{ltb-false, lt-ltb, le-ltb, eq-eqb, ne-eqb}
 use lib.Dec.{T, ltb, eqb, eqb→eq}
 use lib.IntN.{ℤ, pos}
 use lib.Pow.{pow-pos}
@@ -17,22 +17,10 @@ use Rattle.arithmetic.specs.Extremum.{zero-of, below}
 use Rattle.rounding.specs.Rounding.{Counts}
 use Rattle.rounding.specs.Exact.{sign}
 use Rattle.rounding.specs.Extremum.{number}
-use Rattle.rounding.proofs.Order.{same-test, zero-left}
+use Rattle.rounding.proofs.Order.{same-test, same-less, zero-left}
 use Rattle.rounding.proofs.Value.{fits-size, one-value}
 
--- ---- tests of numbers, and of the same numbers over other denominators
-same-less : (a b c d : ℕ) → (a < b → c < d) → (c < d → a < b) → ltb a b ≡ ltb c d
-same-less a b c d f g = go (ltb a b) (ltb-true a b) (ltb-false a b)
-  where
-    go : (t : Bool) → (t ≡ true → a < b) → (t ≡ false → b ≤ a) → t ≡ ltb c d
-    go true p q = sym (lt-ltb c d (f (p refl)))
-    go false p q = go-on (ltb c d) (ltb-true c d)
-      where
-        go-on : (u : Bool) → (u ≡ true → c < d) → false ≡ u
-        go-on true r = absurd (lt-irrefl a (lt-of-lt-of-le (g (r refl)) (q refl)))
-        go-on false r = refl
-
--- a / c' and b / c' are j / l and i / l
+-- ---- tests of the same numbers over other denominators: a / c is j / l, and b / c is i / l
 module _ (l c : ℕ) (L : 0 < l) (C : 0 < c) where
   less : (a b j i : ℕ) → a * l ≡ j * c → b * l ≡ i * c → ltb a b ≡ ltb j i
   less a b j i p q =
@@ -78,11 +66,7 @@ fin-inf true false j p h = sym (lt-ltb 0 (j + p) (omega arith))
 fin-inf true true j p h = sym (le-ltb p j (omega arith))
 
 inf-level : (s t : Bool) (p : ℕ) → 0 < p → Bool·beq s t ≡ level s p t p
-inf-level s t p h = go (Bool·beq s t) ∙ sym (ap₂ (λ (u w : Bool). u && (Bool·beq s t || w)) (eq-eqb p p refl) (ne-eqb p 0 (λ e. omega arith)))
-  where
-    go : (b : Bool) → b ≡ (b || false)
-    go true = refl
-    go false = refl
+inf-level s t p h = sym (or-false (Bool·beq s t)) ∙ sym (ap₂ (λ (u w : Bool). u && (Bool·beq s t || w)) (eq-eqb p p refl) (ne-eqb p 0 (λ e. omega arith)))
 
 unlevel : (s t : Bool) (j i : ℕ) → (j ≡ i → ⊥) → false ≡ level s j t i
 unlevel s t j i h = ap (λ (u : Bool). u && (Bool·beq s t || eqb j 0)) (sym (ne-eqb j i h))
@@ -129,11 +113,7 @@ module _ (W : Width) where
 
   pub zero-counts : (u : Bool) (x : Float) (s : Bool) (j : ℕ) → Counts W x s j → zero-of u x ≡ (Bool·beq u s && eqb j 0)
   zero-counts u nan s j h = absurd h
-  zero-counts u (inf a) s j h = sym (ap (λ (w : Bool). Bool·beq u s && w) (ne-eqb j 0 (λ e. lt-irrefl 0 (lt-of-lt-of-le past-pos (le-of-eq (sym (h .1) ∙ e))))) ∙ neither (Bool·beq u s))
-    where
-      neither : (b : Bool) → (b && false) ≡ false
-      neither true = refl
-      neither false = refl
+  zero-counts u (inf a) s j h = sym (ap (λ (w : Bool). Bool·beq u s && w) (ne-eqb j 0 (λ e. lt-irrefl 0 (lt-of-lt-of-le past-pos (le-of-eq (sym (h .1) ∙ e))))) ∙ and-false (Bool·beq u s))
   zero-counts u (fin a m e) s j h = ap₂ (λ (v w : Bool). Bool·beq u v && w) (h .0) (same-test m 0 j 0 there back)
     where
       there : m ≡ 0 → j ≡ 0
@@ -160,22 +140,13 @@ plain-most p false j h = omega arith
 by-rank : (p : ℕ) (s t : Bool) (j i : ℕ) → j ≤ p → i ≤ p
     → (Ieee.below s j t i || ((Bool·beq true s && eqb j 0) && (Bool·beq false t && eqb i 0))) ≡ ltb (rank p s j) (rank p t i)
 by-rank p false false j i h k = or-false (ltb j i) ∙ same-less j i (suc (p + j)) (suc (p + i)) (λ l. omega arith) (λ l. omega arith)
-  where
-    or-false : (b : Bool) → (b || false) ≡ b
-    or-false true = refl
-    or-false false = refl
 by-rank p false true j i h k = sym (le-ltb (suc (p + j)) (p - i) (omega arith))
 by-rank p true false j i h k = go (ltb 0 (j + i)) (ltb-false 0 (j + i)) ∙ sym (lt-ltb (p - j) (suc (p + i)) (omega arith))
   where
     go : (b : Bool) → (b ≡ false → j + i ≤ 0) → (b || (eqb j 0 && eqb i 0)) ≡ true
     go true z = refl
     go false z = let l = z refl in ap₂ _&&_ (eq-eqb j 0 (omega arith)) (eq-eqb i 0 (omega arith))
-by-rank p true true j i h k = or-nothing (ltb i j) (eqb j 0) ∙ same-less i j (p - j) (p - i) (λ l. omega arith) (λ l. omega arith)
-  where
-    or-nothing : (b c : Bool) → (b || (c && false)) ≡ b
-    or-nothing true c = refl
-    or-nothing false true = refl
-    or-nothing false false = refl
+by-rank p true true j i h k = ap (λ (b : Bool). ltb i j || b) (and-false (eqb j 0)) ∙ or-false (ltb i j) ∙ same-less i j (p - j) (p - i) (λ l. omega arith) (λ l. omega arith)
 
 by-plain-rank : (p : ℕ) (s t : Bool) (j i : ℕ) → j ≤ p → i ≤ p → Ieee.below s j t i ≡ ltb (plain-rank p s j) (plain-rank p t i)
 by-plain-rank p false false j i h k = same-less j i (p + j) (p + i) (λ l. omega arith) (λ l. omega arith)
