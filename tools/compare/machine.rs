@@ -163,7 +163,8 @@ fn below(x: f64, y: f64) -> bool {
 }
 
 fn extremum(less: bool, values: impl Iterator<Item = f64>) -> f64 {
-    values.reduce(|v, y| if if less { below(y, v) } else { below(v, y) } { y } else { v }).unwrap_or(f64::NAN)
+    let beyond = |y: f64, v: f64| if less { below(y, v) } else { below(v, y) };
+    values.reduce(|v, y| if beyond(y, v) { y } else { v }).unwrap_or(f64::NAN)
 }
 
 fn compare(operator: u8, x: f64, y: f64) -> f64 {

@@ -62,17 +62,14 @@ fn is_right(record: &[u8]) -> bool {
     let e = hex(record, 65, 81);
     let fine = all(all(a.fine, b.fine), all(c.fine, all(d.fine, e.fine)));
     let letter = reader::byte(record, 0);
-    all(
-        fine,
-        outcome(
-            letter,
-            of_bits(a.value),
-            of_bits(b.value),
-            of_bits(c.value),
-            of_bits(d.value),
-        )
-            == e.value,
-    )
+    let here = outcome(
+        letter,
+        of_bits(a.value),
+        of_bits(b.value),
+        of_bits(c.value),
+        of_bits(d.value),
+    );
+    all(fine, here == e.value)
 }
 
 // The next record's case. One that comes out otherwise is written out.
