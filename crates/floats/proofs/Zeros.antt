@@ -1,7 +1,7 @@
 -- One step of Min and Max by the code's tests: of two equal values only zeros differ, and a zero is known by its bits.
 use mathlib.Core.Path.{_≡_, refl, sym, ap, ap₂, _∙_, subst}
-use mathlib.Core.Logic.{_⊎_, inl, inr}
-use mathlib.Core.Bool.{Bool, true, false, not, _&&_, Bool·beq, cond, true≢false}
+use mathlib.Core.Logic.{inl, inr}
+use mathlib.Core.Bool.{Bool, true, false, not, _&&_, _||_, Bool·beq, cond, true≢false, and-comm, or-true}
 use Prim.Native.Nat.{ℕ}
 use borrow.Author.Tests.{eqb-true}
 use lib.Dec.{T, eqb}
@@ -11,14 +11,10 @@ use Rattle.arithmetic.specs.Extremum.{zero-of}
 use Rattle.rounding.specs.Exact.{sign}
 use Rattle.rounding.proofs.Value.{zero-exponent}
 use Rattle.rounding.proofs.Rank.{zero±, equal-values}
-
--- of equal values either
-pub either : (b : Bool) (x y : Float) → x ≡ y → x ≡ cond b x y
-either true x y e = refl
-either false x y e = e
+use Rattle.floats.proofs.Zero.{held}
 
 -- ---- the zero with the sign s, and its bits
-abbrev pub zero-bits : Bool → ℕ
+abbrev zero-bits : Bool → ℕ
 zero-bits s = cond s 0x8000000000000000 0
 
 bits-of-zero : (s : Bool) → toBits binary64 (zero± s) ≡ zero-bits s
@@ -53,7 +49,7 @@ is-the-zero s (fin u m e) t h =
     ap₂ (λ (v : Bool) (n : ℕ). fin v n e) (same-sign s u (b .0)) z ∙ ap (fin s 0) (zero-exponent binary64 u e (subst (λ (n : ℕ). T (fits binary64 (fin u n e))) z t))
 
 -- other bits: not the zero
-pub no-zero : (s : Bool) (x : Float) → T (fits binary64 x) → (toBits binary64 x ≡ zero-bits s → ⊥) → zero-of s x ≡ false
+no-zero : (s : Bool) (x : Float) → T (fits binary64 x) → (toBits binary64 x ≡ zero-bits s → ⊥) → zero-of s x ≡ false
 no-zero s x t h = go (zero-of s x) refl
   where
     go : (b : Bool) → zero-of s x ≡ b → b ≡ false
@@ -66,23 +62,53 @@ unfolding eq
 zeros-equal true = refl
 zeros-equal false = refl
 
-module _ (s : Bool) (x y : Float) (t : T (fits binary64 x)) (u : T (fits binary64 y)) where
+-- x is the zero with the sign s and y the other one, in the order that `below` and `above` have them: x is -0 for Min, +0 for Max
+abbrev zeros : Bool → Float → Float → Bool
+zeros true x y = zero-of true x && zero-of false y
+zeros false x y = zero-of true y && zero-of false x
+
+zeros-is : (s : Bool) (x y : Float) → zeros s x y ≡ (zero-of s x && zero-of (not s) y)
+zeros-is true x y = refl
+zeros-is false x y = and-comm (zero-of true y) (zero-of false x)
+
+-- ---- one step: x comes next, y is held, and p says whether x is strictly beyond y
+module _ (s : Bool) (x y : Float) (X : fits binary64 x ≡ true) (Y : fits binary64 y ≡ true) (p : Bool) where
+  t : T (fits binary64 x)
+  t = held (fits binary64 x) X
+
+  u : T (fits binary64 y)
+  u = held (fits binary64 y) Y
+
+  step : (b : Bool) → zeros s x y ≡ b → cond (p || zeros s x y) x y ≡ cond (p || b) x y
+  step b e = ap (λ (c : Bool). cond (p || c) x y) e
+
   -- equal to y, and with the bits of the zero: y is the same value, or the other zero
-  pub the-zero : eq x y ≡ true → toBits binary64 x ≡ zero-bits s → (x ≡ y) ⊎ ((zero-of s x ≡ true) × (zero-of (not s) y ≡ true))
-  the-zero h e = elim (equal-values binary64 x y t u h) [
-    | inl p ↦ inl p
-    | inr z ↦ inr (named s (z .0) (sym (by-bits s x t e) ∙ z .1) (z .1) (z .2))
+  pub takes-zero : eq x y ≡ true → toBits binary64 x ≡ zero-bits s → x ≡ cond (p || zeros s x y) x y
+  takes-zero h e = elim (equal-values binary64 x y t u h) [
+    | inl q ↦ either (p || zeros s x y) q
+    | inr z ↦ sym (step true (zeros-is s x y ∙ named s (z .0) (sym (by-bits s x t e) ∙ z .1) (z .1) (z .2)) ∙ ap (λ (b : Bool). cond b x y) (or-true p))
   ]
     where
-      named : (s v : Bool) → zero± s ≡ zero± v → x ≡ zero± v → y ≡ zero± (not v) → (zero-of s x ≡ true) × (zero-of (not s) y ≡ true)
-      named true true p a b = (ap (zero-of true) a, ap (zero-of false) b)
-      named true false p a b = absurd (true≢false (ap sign p))
-      named false true p a b = absurd (true≢false (sym (ap sign p)))
-      named false false p a b = (ap (zero-of false) a, ap (zero-of true) b)
+      either : (b : Bool) → x ≡ y → x ≡ cond b x y
+      either true q = refl
+      either false q = q
 
-  -- not equal: not the two zeros
-  pub no-zeros : eq x y ≡ false → (zero-of s x && zero-of (not s) y) ≡ false
-  no-zeros h = go (zero-of s x && zero-of (not s) y) refl
+      named : (s v : Bool) → zero± s ≡ zero± v → x ≡ zero± v → y ≡ zero± (not v) → (zero-of s x && zero-of (not s) y) ≡ true
+      named true true q a b = ap₂ _&&_ (ap (zero-of true) a) (ap (zero-of false) b)
+      named true false q a b = absurd (true≢false (ap sign q))
+      named false true q a b = absurd (true≢false (sym (ap sign q)))
+      named false false q a b = ap₂ _&&_ (ap (zero-of false) a) (ap (zero-of true) b)
+
+  kept : p ≡ false → zeros s x y ≡ false → y ≡ cond (p || zeros s x y) x y
+  kept l z = sym (step false z ∙ ap (λ (b : Bool). cond (b || false) x y) l)
+
+  -- with other bits it is not the zero
+  pub keeps-held : p ≡ false → (toBits binary64 x ≡ zero-bits s → ⊥) → y ≡ cond (p || zeros s x y) x y
+  keeps-held l h = kept l (zeros-is s x y ∙ ap (λ (b : Bool). b && zero-of (not s) y) (no-zero s x t h))
+
+  -- two values that are not equal are not the two zeros
+  pub keeps-unequal : p ≡ false → eq x y ≡ false → y ≡ cond (p || zeros s x y) x y
+  keeps-unequal l h = kept l (zeros-is s x y ∙ go (zero-of s x && zero-of (not s) y) refl)
     where
       go : (b : Bool) → (zero-of s x && zero-of (not s) y) ≡ b → b ≡ false
       go true e =

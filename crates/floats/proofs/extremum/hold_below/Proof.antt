@@ -1,12 +1,9 @@
 -- `hold_below`: strictly below, or of the two zeros -0.
 use borrow.Author.Needs.{needs}
-use mathlib.Core.Logic.{inl, inr}
 use mathlib.Core.Bool.{true}
 use native.Mathlib.Omega.{arith}
-use lib.Ieee.{binary64, fits}
-use Rattle.arithmetic.specs.Extremum.{below}
-use Rattle.floats.proofs.Zero.{held}
-use Rattle.floats.proofs.Zeros.{the-zero, no-zero, no-zeros, either}
+use lib.Ieee.{lt}
+use Rattle.floats.proofs.Zeros.{takes-zero, keeps-held, keeps-unequal}
 use Rattle.floats.proofs.extremum.hold_below.Statement.{statement}
 use Rattle.floats.proofs.extremum.hold_below.Tie as tie
 
@@ -18,28 +15,21 @@ bits-of-requires c κs = search needs
 
 returns-2 : tie.Need-returns-2
 returns-2 c =
-    let n = c .before .before .before .before .args .next in
-    let e = c .before .before .before .before .args .earlier in
-    let t = held (fits binary64 n) (c .before .before .before .before .good .1 .0 .1) in
-    let u = held (fits binary64 e) (c .before .before .before .before .good .0 .1) in
-    elim (the-zero true n e t u (c .before .before .if2 .taken) (omega (arith, c .before .bits-of .ensures, c .if3 .taken))) [
-      | inl p ↦ either (below n e) n e p
-      | inr z ↦ rw (c .before .before .before .if1 .left, z .0, z .1)
-    ]
+    let a = c .before .before .before .before in
+    takes-zero true (a .args .next) (a .args .earlier) (a .good .1 .0 .1) (a .good .0 .1) (lt (a .args .next) (a .args .earlier))
+    (c .before .before .if2 .taken) (omega (arith, c .before .bits-of .ensures, c .if3 .taken))
 
 returns-3 : tie.Need-returns-3
 returns-3 c =
-    let n = c .before .before .before .before .args .next in
-    let z = no-zero true n (held (fits binary64 n) (c .before .before .before .before .good .1 .0 .1)) (λ e. omega (arith, c .before .bits-of .ensures, c .if3 .left, e)) in
-    rw (c .before .before .before .if1 .left, z)
+    let a = c .before .before .before .before in
+    keeps-held true (a .args .next) (a .args .earlier) (a .good .1 .0 .1) (a .good .0 .1) (lt (a .args .next) (a .args .earlier))
+    (c .before .before .before .if1 .left) (λ e. omega (arith, c .before .bits-of .ensures, c .if3 .left, e))
 
 returns-4 : tie.Need-returns-4
 returns-4 c =
-    let n = c .before .before .args .next in
-    let e = c .before .before .args .earlier in
-    let t = held (fits binary64 n) (c .before .before .good .1 .0 .1) in
-    let u = held (fits binary64 e) (c .before .before .good .0 .1) in
-    rw (c .before .if1 .left, no-zeros true n e t u (c .if2 .left))
+    let a = c .before .before in
+    keeps-unequal true (a .args .next) (a .args .earlier) (a .good .1 .0 .1) (a .good .0 .1) (lt (a .args .next) (a .args .earlier))
+    (c .before .if1 .left) (c .if2 .left)
 
 pub hold-below-spec : {M : Type 1} → statement M
 hold-below-spec = tie.close (tie.spec returns bits-of-requires returns-2 returns-3 returns-4)
