@@ -14,4 +14,6 @@ for text in examples/*.txt; do
     done
     (cd "target/examples/$name" && "$legs" < input) | diff "examples/$name/output" -
 done
+# the two flights have no text to make them from
+(cd examples/flights && "$legs" < input) | diff examples/flights/output -
 echo "examples agree"

@@ -72,6 +72,8 @@ ok eval-truth-rate eval "$try/truth.txt" "$try/a.csv" --by a
 printf 'counts: a fixed quantity, in kg\nnames:\n1 / 3\n' > "$try/fixed.txt"
 printf '\n\n\n' > "$try/fixed.csv"
 ok eval-fixed eval "$try/fixed.txt" "$try/fixed.csv"
+head -c 1000002 /dev/zero | tr '\0' '\n' > "$try/many.csv"
+ok pack-many pack "$try/fixed.txt" "$try/many.csv" "$try/many"
 
 # folders that operators may send
 sent() {
@@ -92,13 +94,15 @@ sent refused "$floor$symbol" 'a:i\n3ff0000000000000\nrubbish\n'
 sent unnamed "$symbol" ''
 sent escape "$symbol" 'a:p\n\033[31m\n'
 printf 'fuel \033[31m\n' > "$try/escape/counts.txt"
-printf 'no,answer,detail,steps\n1,ask,16:4069000000000000:4000000000000000,8\n2,ask,0:3ff0000000000000,8\n3,bad,3,0\n4,bad,5,0\n5,\033[31m\n0,refused,6:root,0\n' > "$try/escape/output"
+printf 'no,answer,detail,steps\n1,ask,16:4069000000000000:4000000000000000,8\n2,ask,0:3ff0000000000000,8\n3,bad,3,0\n4,bad,5,0\n5,\033[31m\n0,refused,6:root,0\ntotal,1,1,1,1\ntotal,1,1,1,1,1\n' > "$try/escape/output"
+sent older "$symbol" 'a:p\n3ff0000000000000\n'
+printf 'no,answer,detail,steps\n1,value,3ff0000000000000,1\n' > "$try/older/output"
 { printf '\7\13\0\1\0\0\0\0\0\0\0\0\0\0\0\0'; for i in $(seq 256); do printf "$symbol"; done; } > "$try/long"
 sent large '' 'a:p\n'
 sent deep '' 'a:p\n'
 { for i in $(seq 1100); do printf '\3\1\1\0\0\0\0\0\0\0\0\0\0\0\0\0'; done; printf "$symbol"; } > "$try/deep/formula.bin"
 mv "$try/long" "$try/large/formula.bin"
-for name in empty cut kind more names refused unnamed escape large deep; do
+for name in empty cut kind more names refused unnamed escape older large deep; do
     ok "show-$name" show "$try/$name"
 done
 

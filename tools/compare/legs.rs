@@ -17,6 +17,8 @@ use std::process::Command;
 const HEADER: &str = "no,answer,detail,steps\n";
 /// Bytes of a formula file at most.
 const LARGEST: usize = 4096;
+/// Lines of values that are listed at most.
+const LINES: usize = 1_000_000;
 
 /// The program and the folder that it is run in.
 pub struct Legs {
@@ -56,9 +58,17 @@ fn record(program: &Program, line: &[u8], out: &mut String) {
     written.expect("a string takes all");
 }
 
+/// The whole output: the header, the lines above the total, and the total, added up from their text.
+fn whole(above: &str) -> String {
+    let count = |answer: &str| above.lines().filter(|line| line.split(',').nth(1) == Some(answer)).count();
+    let completed = |line: &str| line.rsplit(',').next().and_then(|steps| steps.parse::<u64>().ok()).expect("a line ends in its steps");
+    let steps: u64 = above.lines().map(completed).sum();
+    format!("{HEADER}{above}total,{},{},{},{},{steps}\n", count("value"), count("domain"), count("ask"), count("bad"))
+}
+
 /// The whole output, worked out by the reference.
 fn expected(formula: &[u8], input: &[u8]) -> String {
-    let mut out = String::from(HEADER);
+    let mut out = String::new();
     let lines = lines(input);
     let (line, values) = lines.split_first().map_or((&b""[..], &[][..]), |(line, values)| (*line, values));
     let program = match (formula.len() <= LARGEST, nodes::well_formed(formula), names::read(line)) {
@@ -75,14 +85,14 @@ fn expected(formula: &[u8], input: &[u8]) -> String {
     match program {
         Err((number, place)) => writeln!(out, "0,refused,{number}:{},0", place.unwrap_or_default()).expect("a string takes all"),
         Ok(program) => {
-            for (number, line) in (1..).zip(values) {
+            for (number, line) in (1..).zip(values.iter().take(LINES)) {
                 write!(out, "{number},").expect("a string takes all");
                 record(&program, line, &mut out);
                 out.push('\n');
             }
         }
     }
-    out
+    whole(&out)
 }
 
 /// Lines of values for a name line, some damaged.
@@ -137,10 +147,11 @@ impl Legs {
         let stdin = File::open(&text).map_err(|e| e.to_string())?;
         let output = Command::new(&self.program).current_dir(&self.folder).stdin(stdin).output().map_err(|e| e.to_string())?;
         let here = String::from_utf8_lossy(&output.stdout);
-        let there = if none { format!("{HEADER}0,refused,1:,0\n") } else { expected(&case.formula, &input) };
+        let there = if none { whole("0,refused,1:,0\n") } else { expected(&case.formula, &input) };
         if output.status.success() && same(&here, &there, loose) {
             let zeros = here.lines().zip(there.lines()).filter(|(a, b)| a != b).count();
-            Ok((there.lines().count() as u64 - 1, zeros as u64))
+            // header and total are no records
+            Ok((there.lines().count() as u64 - 2, zeros as u64))
         } else {
             let input = String::from_utf8_lossy(&input);
             Err(format!("legs ends with {}: here\n{here}in Rust\n{there}for\n{input}", output.status))

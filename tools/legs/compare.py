@@ -4,16 +4,19 @@ are compared as numbers, as Rust leaves their sign open; the fixed tables of zer
 
 Usage: compare.py LEGS ORACLE [SEED [CASES]]
 
-LEGS is the built program, ORACLE the reference (reference/build.sh). What the reference has no part in, lines, digits, counts
+LEGS is the built program, ORACLE the reference (reference/build.sh). What the reference has no part in, lines, digits, counts, totals
 and the form of the output, is written out here from docs/REFERENCE.md. In some cases the input is cut into blocks at random places:
 a block is written to the pipe when the program has read all of the one before.
 """
 import array
+import bisect
+import collections
 import fcntl
 import itertools
 import os
 import random
 import re
+import select
 import shutil
 import subprocess
 import sys
@@ -28,6 +31,9 @@ from generate import Generator, is_finite  # noqa: E402
 from nodes import bits, node, number, symbol  # noqa: E402
 
 HEADER = b"no,answer,detail,steps\n"
+# lines of values that are listed, and seconds that a run may take
+LIMIT = 1000000
+SECONDS = 60
 PLUS, MINUS = b"0000000000000000", b"8000000000000000"
 VALUES = re.compile(rb"[0-9a-f]{16}(,[0-9a-f]{16})*")
 
@@ -44,42 +50,57 @@ def ask(oracle, commands):
     return answers.splitlines()
 
 
+def whole(above):
+    """The whole output: the header, the lines above the total, and the total, added up from their text."""
+    counts, steps = collections.Counter(), 0
+    for line in lines_of(above):
+        _, answer, _, completed = line.split(b",")
+        counts[answer] += 1
+        steps += int(completed)
+    columns = [counts[answer] for answer in (b"value", b"domain", b"ask", b"bad")]
+    return HEADER + above + b"total,%d,%d,%d,%d,%d\n" % (*columns, steps)
+
+
 def refusal(number, path=""):
-    return HEADER + b"0,refused,%d:%s,0\n" % (number, path.encode())
+    return whole(b"0,refused,%d:%s,0\n" % (number, path.encode()))
 
 
-def record(number, words):
+def fault(line, count):
+    """3 or 5 for a bad line, 0 for a good one."""
+    if line and not VALUES.fullmatch(line):
+        return 3
+    values = line.split(b",") if line else []
+    return 0 if len(values) == count and all(is_finite(int(v, 16)) for v in values) else 5
+
+
+def answer(words):
     if words[0] in ("value", "domain", "ask"):
-        return "%d,%s,%s,%s\n" % (number, words[0], words[1], words[2])
+        return ",".join(words[:3])
     raise SystemExit("the reference answered " + " ".join(words))
+
+
+def answers(oracle, words, count, lines):
+    """Answer, detail and steps of each line. Lines that are the same have the same ones, so each line is asked once, however often it
+    stands there: a million empty lines are one question."""
+    faults = {line: fault(line, count) for line in dict.fromkeys(lines)}
+    good = [line for line in faults if not faults[line]]
+    told = ask(oracle, ["run %s %s -" % (words, line.decode() or "-") for line in good]) if good else []
+    found = {line: "bad,%d,0" % number for line, number in faults.items()}
+    found.update(zip(good, (answer(text.split()) for text in told), strict=True))
+    return [found[line] for line in lines]
 
 
 def expected(oracle, formula, data):
     if formula is None or len(formula) > 4096:
         return refusal(1)
-    lines = lines_of(data)
-    names = lines[0] if lines else b""
-    words = [formula.hex() or "-", names.hex() or "-"]
-    first = ask(oracle, ["compile " + " ".join(words)])[0].split()
+    names, *values = lines_of(data)[:1 + LIMIT] or [b""]
+    words = "%s %s" % (formula.hex() or "-", names.hex() or "-")
+    first = ask(oracle, ["compile " + words])[0].split()
     if first[0] == "refused":
         return refusal(int(first[1]), "" if first[2] == "-" else first[2])
     count = names.count(b",") + 1 if names else 0
-    out, commands = [], []
-    for line in lines[1:]:
-        if line and not VALUES.fullmatch(line):
-            out.append(3)
-            continue
-        values = line.decode().split(",") if line else []
-        if len(values) != count or not all(is_finite(int(v, 16)) for v in values):
-            out.append(5)
-            continue
-        out.append(None)
-        commands.append("run %s %s -" % (" ".join(words), ",".join(values) or "-"))
-    answers = iter(ask(oracle, commands)) if commands else iter([])
-    text = []
-    for i, bad in enumerate(out, 1):
-        text.append(record(i, next(answers).split()) if bad is None else "%d,bad,%d,0\n" % (i, bad))
-    return HEADER + "".join(text).encode()
+    records = enumerate(answers(oracle, words, count, values), 1)
+    return whole("".join("%d,%s\n" % record for record in records).encode())
 
 
 def has_extremum(formula):
@@ -100,38 +121,57 @@ def waiting(fd):
     return left[0]
 
 
+def is_closed(pipe):
+    """Whether nobody reads the pipe any more; what is left in it stays there."""
+    poll = select.poll()
+    poll.register(pipe, 0)
+    return bool(poll.poll(0))
+
+
 def feed(pipe, blocks):
+    """Writes the blocks to the pipe. `legs` may end before it has read them all."""
     try:
         for block in blocks:
             os.write(pipe, block)
-            while waiting(pipe):
+            while waiting(pipe) and not is_closed(pipe):
                 time.sleep(0.0001)
     except BrokenPipeError:
         pass
     os.close(pipe)
 
 
-def run(legs, formula, data, cuts=None):
+def output_of(process):
+    """What the program prints; if it doesn't end, or not well, a text that is no output."""
+    try:
+        output = process.communicate(timeout=SECONDS)[0]
+    except subprocess.TimeoutExpired:
+        process.kill()
+        process.communicate()
+        return b"no end after %d seconds" % SECONDS
+    return b"status %d" % process.returncode if process.returncode else output
+
+
+def run_blocks(legs, formula, blocks):
     folder = tempfile.mkdtemp()
     try:
         if formula is not None:
             with open(os.path.join(folder, "formula.bin"), "wb") as file:
                 file.write(formula)
-        if cuts is None:
-            return subprocess.run([legs], cwd=folder, input=data, capture_output=True, check=True).stdout
         reader, writer = os.pipe()
-        blocks = [data[a:b] for a, b in zip([0] + cuts, cuts + [len(data)]) if a < b]
         process = subprocess.Popen([legs], cwd=folder, stdin=reader, stdout=subprocess.PIPE)
         os.close(reader)
         thread = threading.Thread(target=feed, args=(writer, blocks))
         thread.start()
-        output = process.stdout.read()
+        output = output_of(process)
         thread.join()
-        if process.wait():
-            raise SystemExit("the program ended with status %d" % process.returncode)
         return output
     finally:
         shutil.rmtree(folder)
+
+
+def run(legs, formula, data, cuts=()):
+    ends = [0, *cuts, len(data)]
+    return run_blocks(legs, formula, filter(None, (data[a:b] for a, b in zip(ends, ends[1:]))))
 
 
 # ---- random inputs
@@ -187,10 +227,12 @@ def fixed_cases():
     widest = b",".join(b"%s:p" % (b"a" * 60 + bytes([97 + i // 26, 97 + i % 26, 95, 95])) for i in range(256))
     yield "missing", None, b"a:p\n\n"
     yield "missing, no input", None, b""
+    yield "missing, 3 MB of lines", None, b"a:p\n" + b"\n" * 3000000
     yield "empty formula", b"", b""
     yield "cut formula", one[:15], b""
     yield "no input", one, b""
     yield "a formula over a name that is not there", symbol(0), b""
+    yield "the same, 3 MB of lines", symbol(0), b"\n" * 3000000
     yield "one newline", one, b"\n"
     yield "no names, empty lines", one, b"\n" * 20000
     yield "no names, carriage returns", one, b"\n\r\n\r"
@@ -221,6 +263,32 @@ def fixed_cases():
     yield "many records to a block", one, b"\n" + b"\n" * 70000
     far = node(3, 1, [b""]) * 30 + divide
     yield "long Domain paths", far, b"a:i,b:i\n" + (value + ",0000000000000000\n").encode() * 3000
+    inverse = node(5, 0, [node(4, 3, [one, symbol(0)]), one])
+    farthest = node(3, 2, [b""]) * 28 + node(6, 0, [node(1, value=1)] * 222 + [inverse])
+    yield "a longer one, then the total", farthest, b"a:p\n0000000000000000"
+
+
+# ---- outputs written out
+
+# 1 / a below 1, else Exp(a); a line for each answer, and their records
+EACH = node(8, 0, [node(5, 0, [symbol(0), number(1.0)]), node(4, 3, [number(1.0), symbol(0)]), node(7, 0, [symbol(0)])])
+FIVE = b"a:p\nbff0000000000000\n0000000000000000\n4000000000000000\nx\n\n"
+FIVE_RECORDS = b"1,value,bff0000000000000,9\n2,domain,root.then,6\n3,ask,0:4000000000000000,5\n4,bad,3,0\n5,bad,5,0\n"
+
+
+def worked_outputs():
+    """Formula, input and the whole output."""
+    one = number(1.0)
+    flight = node(4, 0, [symbol(0), node(4, 3, [node(4, 2, [symbol(1), symbol(2)]), node(4, 0, [symbol(3), symbol(4)])])])
+    values = b"4056800000000000,4072c00000000000,4079000000000000,4069000000000000,"
+    flights = b"climb:p,burn:p,distance:i,tas:i,wind:i\n" + values + b"0000000000000000\n" + values + b"c069000000000000\n"
+    yield "the worked flights", flight, flights, \
+        HEADER + b"1,value,4085900000000000,9\n2,domain,root.arguments[1],7\ntotal,1,1,0,0,16\n"
+    yield "each answer", EACH, FIVE, HEADER + FIVE_RECORDS + b"total,1,1,1,2,20\n"
+    yield "two empty lines", one, b"\n\n\n", HEADER + b"1,value,3ff0000000000000,1\n2,value,3ff0000000000000,1\ntotal,2,0,0,0,2\n"
+    yield "an empty name line", one, b"\n", HEADER + b"total,0,0,0,0,0\n"
+    yield "an empty input", one, b"", HEADER + b"total,0,0,0,0,0\n"
+    yield "no file", None, FIVE, HEADER + b"0,refused,1:,0\ntotal,0,0,0,0,0\n"
 
 
 # ---- the zeros of Min and Max: -0 below +0, in every order
@@ -230,55 +298,135 @@ def zero_tables():
     pairs = b"".join(b"%s,%s\n" % (a, b) for a in (PLUS, MINUS) for b in (PLUS, MINUS))
     least, most = node(7, 11, [symbol(0), symbol(1)]), node(7, 12, [symbol(0), symbol(1)])
     for name, formula, zeros in [("Min", least, (PLUS, MINUS, MINUS, MINUS)), ("Max", most, (PLUS, PLUS, PLUS, MINUS))]:
-        yield name, formula, b"a:p,b:p\n" + pairs, HEADER + b"".join(b"%d,value,%s,3\n" % row for row in enumerate(zeros, 1))
+        yield name, formula, b"a:p,b:p\n" + pairs, whole(b"".join(b"%d,value,%s,3\n" % row for row in enumerate(zeros, 1)))
         asked = b"".join(b"%d,ask,0:%s,3\n" % row for row in enumerate(zeros, 1))
-        yield "Exp of " + name, node(7, 0, [formula]), b"a:p,b:p\n" + pairs, HEADER + asked
+        yield "Exp of " + name, node(7, 0, [formula]), b"a:p,b:p\n" + pairs, whole(asked)
     # three and four values: every order of 1, +0, -0, 2 under Min and of -1, -0, +0 under Max
     for name, call, values, zero in [("Min", 11, (1.0, 0.0, -0.0, 2.0), MINUS), ("Max", 12, (-1.0, -0.0, 0.0), PLUS)]:
         orders = list(itertools.permutations(b"%016x" % bits(v) for v in values))
         names = b",".join(b"%c:p" % c for c in b"abcd"[:len(values)])
         want = b"".join(b"%d,value,%s,%d\n" % (i, zero, len(values) + 1) for i in range(1, len(orders) + 1))
-        yield name + " in every order", node(7, call, [symbol(i) for i in range(len(values))]), names + b"\n" + b"".join(b",".join(o) + b"\n" for o in orders), HEADER + want
+        yield name + " in every order", node(7, call, [symbol(i) for i in range(len(values))]), names + b"\n" + b"".join(b",".join(o) + b"\n" for o in orders), whole(want)
+
+
+# ---- around line 1,000,000, the last that is listed
+
+def limit_cases():
+    """Formula, input and the end of the output, written out. An empty last line without a newline is no line, so a last line without one
+    has a byte here."""
+    one = number(1.0)
+    full = b"1000000,value,3ff0000000000000,1\ntotal,1000000,0,0,0,1000000\n"
+    for count, end, bad in [
+        (999999, b"999999,value,3ff0000000000000,1\ntotal,999999,0,0,0,999999\n", b"999999,bad,3,0\ntotal,999998,0,0,1,999998\n"),
+        (1000000, full, b"1000000,bad,3,0\ntotal,999999,0,0,1,999999\n"),
+        (1000001, full, full),
+    ]:
+        yield "%d empty lines" % count, one, b"\n" + b"\n" * count, end
+        yield "%d lines, the last one malformed" % count, one, b"\n" * count + b"x\n", bad
+        yield "%d lines, the last one malformed and without a newline" % count, one, b"\n" * count + b"x", bad
+    million = FIVE + b"\n" * 999994 + b"bff0000000000000"
+    end = b"999999,bad,5,0\n1000000,value,bff0000000000000,9\ntotal,2,1,1,999996,29\n"
+    for more in (b"", b"\n", b"\n\n", b"\nx", b"\nbff0000000000000", b"\nbff0000000000000\n", b"\n" * 1000000, b"\n" + b"0" * 1000000):
+        yield "each answer, 1000000 lines and %d bytes more" % len(more), EACH, million + more, end
+
+
+def cuts_at_limit(data):
+    """Cuts near the newline of line 1,000,000, or near the input's end: it is a block, it ends one, it is in one with bytes of the lines on
+    both sides; each byte there is a block."""
+    end = len(b"\n".join(data.split(b"\n", LIMIT + 1)[:LIMIT + 1]))
+    return [end, end + 1], [end + 1], [end - 3, end + 5], range(end - 20, end + 20)
+
+
+def endless():
+    """Empty lines without end, two million of them at once."""
+    return itertools.chain([b"\n" * 2000000], itertools.repeat(b"\n"))
+
+
+# ---- the comparison
+
+class Tally:
+    """Records compared, outputs that differ, and records with a zero of the other sign in Rust."""
+
+    def __init__(self):
+        self.records = self.wrong = self.zeros = 0
+
+    def count(self, want):
+        """Header and total are no records."""
+        self.records += want.count(b"\n") - 2
+
+    def hold(self, good, name, got, want):
+        """Where two outputs aren't the same, says from which byte on."""
+        if not good:
+            self.wrong += 1
+            at = bisect.bisect_left(range(1, min(len(got), len(want)) + 1), True, key=lambda n: got[:n] != want[:n])
+            near = slice(max(at - 100, 0), at + 200)
+            print("differs:", name, "at byte", at, got[near], want[near])
+
+
+def try_fixed(tally, legs, oracle):
+    for name, formula, data in fixed_cases():
+        want, got = expected(oracle, formula, data), run(legs, formula, data)
+        tally.count(want)
+        tally.hold(same(formula, got, want), name, got, want)
+        for step in (1, 2, 7, 16, 17) if len(data) < 2000 else ():
+            cut = run(legs, formula, data, range(step, len(data), step))
+            tally.hold(cut == got, "%s, in blocks of %d" % (name, step), cut, got)
+
+
+def try_written(tally, legs, oracle):
+    for name, formula, data, want in itertools.chain(worked_outputs(), zero_tables()):
+        tally.count(want)
+        got, rust = run(legs, formula, data), expected(oracle, formula, data)
+        tally.hold(got == want, name, got, want)
+        tally.hold(same(formula, rust, want), name + ", by the reference", rust, want)
+
+
+def try_limit(tally, legs, oracle):
+    for name, formula, data, end in limit_cases():
+        want = expected(oracle, formula, data)
+        tally.count(want)
+        tally.hold(want.endswith(b"\n" + end), name + ", by the reference", want[-len(end):], end)
+        for cuts in ((), *cuts_at_limit(data)):
+            got = run(legs, formula, data, cuts)
+            tally.hold(got == want, "%s, cut at %s" % (name, list(cuts)), got, want)
+
+
+def try_endless(tally, legs, oracle):
+    for name, formula in [("a million records", number(1.0)), ("no file", None), ("refused", symbol(0))]:
+        want, got = expected(oracle, formula, b"\n" + b"\n" * LIMIT), run_blocks(legs, formula, endless())
+        tally.count(want)
+        tally.hold(got == want, "an endless input, " + name, got, want)
+
+
+def try_random(tally, legs, oracle, seed, cases):
+    r = Generator(seed)
+    for case in range(cases):
+        formula, data = random_case(r)
+        want = expected(oracle, formula, data)
+        cuts = ()
+        if r.chance(0.3):
+            cuts = sorted(r.randrange(len(data) + 1) for _ in range(r.choice([1, 2, 5, 30])))
+        got = run(legs, formula, data, cuts)
+        tally.count(want)
+        good = same(formula, got, want)
+        tally.hold(good, "case %d of seed %d %s %s" % (case, seed, formula.hex(), data[:300]), got, want)
+        if good:
+            tally.zeros += sum(a != b for a, b in zip(lines_of(got), lines_of(want)))
 
 
 def main():
     legs, oracle = os.path.abspath(sys.argv[1]), os.path.abspath(sys.argv[2])
     seed = int(sys.argv[3]) if len(sys.argv) > 3 else 1
     cases = int(sys.argv[4]) if len(sys.argv) > 4 else 1000
-    wrong = records = zeros = 0
-    for name, formula, data in fixed_cases():
-        want = expected(oracle, formula, data)
-        got = run(legs, formula, data)
-        records += want.count(b"\n") - 1
-        if not same(formula, got, want):
-            wrong += 1
-            print("differs:", name, got[:200], want[:200])
-        if len(data) < 2000:
-            for step in (1, 2, 7, 16, 17):
-                if run(legs, formula, data, list(range(step, len(data), step))) != got:
-                    wrong += 1
-                    print("differs in blocks of %d:" % step, name)
-    for name, formula, data, want in zero_tables():
-        records += want.count(b"\n") - 1
-        if not run(legs, formula, data) == want or not same(formula, expected(oracle, formula, data), want):
-            wrong += 1
-            print("differs:", name, run(legs, formula, data), want)
-    r = Generator(seed)
-    for case in range(cases):
-        formula, data = random_case(r)
-        want = expected(oracle, formula, data)
-        cuts = None
-        if r.chance(0.3):
-            cuts = sorted(r.randrange(len(data) + 1) for _ in range(r.choice([1, 2, 5, 30])))
-        got = run(legs, formula, data, cuts)
-        records += want.count(b"\n") - 1
-        if same(formula, got, want):
-            zeros += sum(a != b for a, b in zip(lines_of(got), lines_of(want)))
-        else:
-            wrong += 1
-            print("differs: case %d of seed %d" % (case, seed), formula.hex(), data[:300], got[:300], want[:300])
-    print("%d cases, %d lines, %d differ; %d lines of formulas with Min or Max have a zero of the other sign in Rust" % (cases, records, wrong, zeros))
-    sys.exit(1 if wrong else 0)
+    tally = Tally()
+    try_fixed(tally, legs, oracle)
+    try_written(tally, legs, oracle)
+    try_limit(tally, legs, oracle)
+    try_endless(tally, legs, oracle)
+    try_random(tally, legs, oracle, seed, cases)
+    print("%d cases, %d lines, %d differ; %d lines of formulas with Min or Max have a zero of the other sign in Rust"
+          % (cases, tally.records, tally.wrong, tally.zeros))
+    sys.exit(1 if tally.wrong else 0)
 
 
 if __name__ == "__main__":

@@ -3,11 +3,12 @@
 
 What has to be printed is the reference's answer. Where the two differ in signs of zeros under Min or Max alone, it is what LEGS printed.
 """
+import itertools
 import os
 import struct
 import sys
 
-from compare import expected, fixed_cases, random_case, run, same, zero_tables
+from compare import expected, fixed_cases, random_case, run, same, worked_outputs, zero_tables
 from generate import Generator
 
 ROOM = 327680
@@ -38,7 +39,7 @@ def main():
     for name, formula, data in fixed_cases():
         if len(data) < 25000:
             cases.append(case(r, formula, data, wanted(legs, oracle, formula, data)))
-    for name, formula, data, want in zero_tables():
+    for name, formula, data, want in itertools.chain(worked_outputs(), zero_tables()):
         cases.append(case(r, formula, data, want))
     while True:
         total = 4 + sum(map(len, cases))

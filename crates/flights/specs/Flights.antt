@@ -26,7 +26,7 @@ use Rattle.machine.specs.Machine.{Answer, Reply, asks, fresh, gives, outside, r
 use Rattle.machine.specs.Compile.{Compiled, accepted, compile, own-context}
 use Rattle.derivative.specs.Rules.{less-one}
 use Rattle.derivative.specs.Derive.{Derived, derive, derived, generated-context}
-use Rattle.listing.specs.Legs.{legs}
+use Rattle.listing.specs.Legs.{legs, line-limit}
 
 -- ---- formulas
 
@@ -113,7 +113,7 @@ branching = node conditional (of-list (node (operation (compare Lt)) (of-list (s
 
 pub flights :
     (legs (some (encode flight)) input
-    ≡ ascii "no,answer,detail,steps\n1,value,4085900000000000,9\n2,domain,root.arguments[1],7\n")
+    ≡ ascii "no,answer,detail,steps\n1,value,4085900000000000,9\n2,domain,root.arguments[1],7\ntotal,1,1,0,0,16\n")
     × (run-derived flight-inputs (float 0x40e3880000000000) (derive (encode flight) name-line 2 path-room room room)
     ≡ (23, asks (power (float 0x4069000000000000) (float 2e0)), gives (float 0x3ff8000000000000)))
     × (closed (of2 Modulo (lit 0xbff0000000000000) (lit 3e0)) ≡ (gives (float 2e0), 3))
@@ -127,5 +127,5 @@ pub flights :
     × (closed (node (operation (call Hill)) (of-list (lit 0 ∷ lit 2e0 ∷ lit 1e0 ∷ []))) ≡ (gives (float 0), 4))
     × (closed (node (operation (call Sqrt)) (of-list (lit 2e0 ∷ []))) ≡ (gives (float 0x3ff6a09e667f3bcd), 2))
     × (closed (node (operation (call Ceil)) (of-list (lit 0xbfe0000000000000 ∷ []))) ≡ (gives (float 0x8000000000000000), 2))
-unfolding add sub mul div rem neg lt le eq ne ofBits toBits round whole absolute floor ceil sqrt-at hold half-at word-at long-at encode formula-of tree-in head-at head-of fields-at node-bytes symbols-of values-of hill-work density-work compile less-one derive legs
+unfolding add sub mul div rem neg lt le eq ne ofBits toBits round whole absolute floor ceil sqrt-at hold half-at word-at long-at encode formula-of tree-in head-at head-of fields-at node-bytes symbols-of values-of hill-work density-work compile less-one derive line-limit legs
 flights = (refl, refl, refl, refl, refl, refl, refl, refl, refl, refl, refl, refl, refl)

@@ -105,8 +105,9 @@ fn feed(
     Fed::On(stage)
 }
 
-// Hands on all of standard input. A proved loop has to end, so it counts its turns down from a number that no run uses up, and
-// with which the lines of all blocks can be counted. That the bytes come from `read` and go to `write` no contract can say.
+// Hands on standard input, up to its end or to where the rest of it changes nothing: after a refusal, and after the last line
+// that is listed. A proved loop has to end, so it counts its turns down from a number that no run uses up. That the bytes come from
+// `read` and go to `write` no contract can say.
 fn feed_all(
     formula: &[u8],
     block: &mut [u8],
@@ -124,6 +125,9 @@ fn feed_all(
     let mut stage = start;
     let mut turns: u64 = 0xffff_ffff_ffff;
     while turns > 0 {
+        if lines::is_finished(stage) {
+            return Fed::On(stage);
+        }
         let read = read_once(STDIN_FILENO, block);
         let File::Bytes(n) = read else {
             return Fed::On(stage);

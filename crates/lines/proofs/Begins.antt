@@ -29,13 +29,16 @@ use Rattle.compile.specs.declared.Answer.{Answer}
 use Rattle.compile.specs.declared.Answer.the-variants as Answer
 use Rattle.compile.proofs.Back.{accepted-parts, reads-back}
 use Rattle.listing.specs.Legs.{compiled, place-text, printed}
+use Rattle.listing.specs.Totals.{nothing}
 use Rattle.lines.specs.declared.Begun.{Begun}
 use Rattle.lines.specs.declared.Stage.{Stage}
 use Rattle.lines.specs.declared.Stage.the-variants as Stage
+use Rattle.lines.specs.declared.sums.Totals.{Totals}
 use Rattle.lines.specs.declared.values.Reading.{Reading}
 use Rattle.lines.specs.Reading.{Starts}
 use Rattle.lines.specs.Record.{Ready}
 use Rattle.lines.specs.Text.{Wrote, refused-as}
+use Rattle.lines.specs.Sums.{totals-of}
 use Rattle.lines.specs.Owed.{Compiled-as, Compiles, Text-length}
 use Rattle.lines.proofs.Places.{free-place, place-stands, place-taken}
 
@@ -78,7 +81,7 @@ no-program : (n : ℕ) → Answer.Refused n ≡ Answer.Program → ⊥
 no-program n e = let z : _≡_ {A = ℕ} 0 1 = cc in omega arith
 
 module _ (formula names path slice path′ program′ out out′ : List ℕ) (r : Begun) (a : Answer)
-    (told : a ≡ answer (compile formula names (length path) (length slice))) where
+    (told : a ≡ answer (compile formula names (length path) (length slice))) (t : Totals) (none-yet : totals-of t ≡ nothing) where
   -- compile's slices are as long as `legs` has them
   same-rooms : path ≡ zeros 8192 → length slice ≡ 61440 → compile formula names (length path) (length slice) ≡ compiled formula names
   same-rooms z l =
@@ -86,42 +89,44 @@ module _ (formula names path slice path′ program′ out out′ : List ℕ) (r 
 
   refused-by : (X : Compiled) → compile formula names (length path) (length slice) ≡ X → (n m len : ℕ) → a ≡ Answer.Refused n → path ≡ zeros 8192
       → path′ ≡ path-after (compile formula names (length path) (length slice)) path → length path′ ≡ length path → Text-length path′ m
-      → Wrote out 0 (printed 0 (refused-as n (take m path′))) out′ len → r ≡ record { stage = Stage.Finished; length = len } → Compiles X program′ r out out′
-  refused-by (accepted f ss) e n m len b z w l t v s = absurd (no-program n (sym b ∙ told ∙ ap answer e))
-  refused-by (Compile.refused k place) e n m len b z w l t v s =
+      → Wrote out 0 (printed 0 (refused-as n (take m path′))) out′ len → r ≡ record { stage = Stage.Finished t; length = len } → Compiles X program′ r out out′
+  refused-by (accepted f ss) e n m len b z w l y v s = absurd (no-program n (sym b ∙ told ∙ ap answer e))
+  refused-by (Compile.refused k place) e n m len b z w l y v s =
       let q : Answer.Refused n ≡ Answer.Refused k = sym b ∙ told ∙ ap answer e in
       let nk : n ≡ k = cc in
       let h = place-stands place path path′ z (w ∙ ap (λ (X : Compiled). path-after X path) e) l in
-      let c = place-taken place path′ (h .0) m (h .1) (t .2 (place-text place) (h .0) (h .1) (free-place place) (h .2)) in
+      let c = place-taken place path′ (h .0) m (h .1) (y .2 (place-text place) (h .0) (h .1) (free-place place) (h .2)) in
       let text : printed 0 (refused-as n (take m path′)) ≡ printed 0 (refused-as k (place-text place)) =
       ap (λ (x : ℕ). printed 0 (refused-as x (take m path′))) nk ∙ ap (λ (xs : List ℕ). printed 0 (refused-as k xs)) c in (
-        ap (λ (x : Begun). x .stage) s,
+        (t, ap (λ (x : Begun). x .stage) s, none-yet),
         subst (λ (x : ℕ). Wrote out 0 (printed 0 (refused-as k (place-text place))) out′ x) (sym (ap (λ (x : Begun). x .length) s))
             (subst (λ (xs : List ℕ). Wrote out 0 xs out′ len) text v),
       )
 
   pub begins-refused : (n m len : ℕ) → a ≡ Answer.Refused n → path′ ≡ path-after (compile formula names (length path) (length slice)) path → length path′ ≡ length path
-      → Text-length path′ m → Wrote out 0 (printed 0 (refused-as n (take m path′))) out′ len → r ≡ record { stage = Stage.Finished; length = len }
+      → Text-length path′ m → Wrote out 0 (printed 0 (refused-as n (take m path′))) out′ len → r ≡ record { stage = Stage.Finished t; length = len }
       → Compiled-as formula names path slice program′ r out out′
-  begins-refused n m len b w l t v s z k =
+  begins-refused n m len b w l y v s z k =
       subst (λ (X : Compiled). Compiles X program′ r out out′) (same-rooms z k)
-      (refused-by (compile formula names (length path) (length slice)) refl n m len b z w l t v s)
+      (refused-by (compile formula names (length path) (length slice)) refl n m len b z w l y v s)
 
   accepted-by : (X : Compiled) → compile formula names (length path) (length slice) ≡ X → a ≡ Answer.Program → ((i : ℕ) → byte-at formula i < 256)
       → program′ ≡ program-after image (compile formula names (length path) (length slice)) slice → (s : Reading) → Starts s
-      → r ≡ record { stage = Stage.Values 1 s; length = 0 } → Compiles X program′ r out out′
+      → r ≡ record { stage = Stage.Values 1 s t; length = 0 } → Compiles X program′ r out out′
   accepted-by (Compile.refused k place) e b bytes w s f q = absurd (no-program k (sym (ap answer e) ∙ sym told ∙ b))
   accepted-by (accepted g ss) e b bytes w s f q = (
     s,
+    t,
     ap (λ (x : Begun). x .stage) q,
     f,
+    none-yet,
     ap (λ (x : Begun). x .length) q,
     ready formula names (length path) (length slice) bytes g ss e slice program′ w,
     written formula names (length path) (length slice) bytes g ss e slice program′ w,
   )
 
   pub begins-accepted : a ≡ Answer.Program → ((i : ℕ) → byte-at formula i < 256) → program′ ≡ program-after image (compile formula names (length path) (length slice)) slice
-      → (s : Reading) → Starts s → r ≡ record { stage = Stage.Values 1 s; length = 0 } → Compiled-as formula names path slice program′ r out out′
+      → (s : Reading) → Starts s → r ≡ record { stage = Stage.Values 1 s t; length = 0 } → Compiled-as formula names path slice program′ r out out′
   begins-accepted b bytes w s f q z k =
       subst (λ (X : Compiled). Compiles X program′ r out out′) (same-rooms z k)
       (accepted-by (compile formula names (length path) (length slice)) refl b bytes w s f q)

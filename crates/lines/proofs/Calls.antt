@@ -8,7 +8,8 @@ use lib.ListN.{length, getD, take}
 use lib.Seq.{length-take-le}
 use lib.Ieee.{Float}
 use Rattle.layout.specs.Decode.{program-at}
-use Rattle.listing.specs.Legs.{header}
+use Rattle.listing.specs.Legs.{header, line-limit}
+use Rattle.listing.specs.Totals.{nothing, total-line}
 use Rattle.names.specs.Lines.{first-piece, free}
 use Rattle.writer.specs.Over.{over}
 use Rattle.writer.proofs.Over.{over-nil}
@@ -17,14 +18,17 @@ use Rattle.lines.specs.declared.Begun.{Begun}
 use Rattle.lines.specs.declared.Listed.{Listed}
 use Rattle.lines.specs.declared.Stage.{Stage}
 use Rattle.lines.specs.declared.Stage.the-variants as Stage
+use Rattle.lines.specs.declared.record.Recorded.{Recorded}
+use Rattle.lines.specs.declared.sums.Totals.{Totals}
 use Rattle.lines.specs.declared.values.Reading.{Reading}
 use Rattle.lines.specs.Record.{Ready, Records}
 use Rattle.lines.specs.Reading.{Tells-empty}
 use Rattle.lines.specs.Text.{Wrote, Wrote-some}
-use Rattle.lines.specs.Owed.{Keeps-on, Memory, Opens, line-number, memory, output-room}
+use Rattle.lines.specs.Sums.{totals-of}
+use Rattle.lines.specs.Owed.{Ends-with, Keeps-on, Memory, Opens, memory, output-room, stage-at}
 use Rattle.lines.specs.Calls.{Advancing, Beginning, Compiled-over, Finishing, Listing-block, Starting, kept-bytes}
 use Rattle.lines.proofs.Keeping.{Holds}
-use Rattle.lines.proofs.Newlines.{first-is}
+use Rattle.lines.proofs.Newlines.{drop-later, drop-wrote, first-is, take-wrote}
 use Rattle.lines.proofs.Stages.{advances-finished, begins, begins-beyond, names-end, names-finish, names-on, values-last, values-none, values-on}
 
 abbrev advanced : Stage → ℕ → ℕ → Advanced
@@ -32,22 +36,22 @@ advanced s used len = record { stage = s; used = used; length = len }
 
 -- ---- the start
 
-pub start-idle : (readable : Bool) (formula out : List ℕ) → length out < output-room → Starting readable formula out (record { stage = Stage.Finished; length = 0 }) out
-start-idle readable formula out h =
-    record { begins = λ room. absurd (omega arith); idle = λ z. (refl, refl); unnumbered = refl; room = omega arith; beyond = refl }
+pub start-idle : (readable : Bool) (formula out : List ℕ) (t : Totals) → totals-of t ≡ nothing → length out < output-room
+    → Starting readable formula out (record { stage = Stage.Finished t; length = 0 }) out
+start-idle readable formula out t e h =
+    record { begins = λ room. absurd (omega arith); idle = λ z. ((t, refl, e), refl, refl); room = omega arith; beyond = refl }
 
 pub starting : (readable : Bool) (formula out mid : List ℕ) (at : ℕ) (r : Begun) (out′ : List ℕ) → output-room ≤ length out → at ≤ length out → r .length ≤ length out
-    → Wrote out 0 header mid at → Opens readable formula r mid at out′ → line-number (r .stage) ≡ 0 → Starting readable formula out r out′
-starting readable formula out mid at r out′ room h k w o n =
+    → Wrote out 0 header mid at → Opens readable formula r mid at out′ → Starting readable formula out r out′
+starting readable formula out mid at r out′ room h k w o =
     record {
       begins = λ y. begins readable formula out mid at r out′ h k w o;
       idle = λ y. absurd (omega arith);
-      unnumbered = n;
       room = k;
       beyond = begins-beyond readable formula out mid at r out′ h k w o;
     }
 
--- ---- too little output, and after a refusal
+-- ---- too little output, and at the end
 
 pub advance-idle : (formula input : List ℕ) (m : Memory) (s : Stage) (out : List ℕ) → length out < output-room → (r : Advanced) → r ≡ record { stage = s; used = 0; length = 0 }
     → Advancing formula input m s out r m out
@@ -56,7 +60,6 @@ advance-idle formula input m s out h r e =
     (record {
       advances = λ g o. (g, o, λ rest. refl);
       goes-on = λ st room. absurd (omega arith);
-      numbered = omega arith;
       inside = omega arith;
       room = omega arith;
       beyond = refl;
@@ -64,13 +67,12 @@ advance-idle formula input m s out h r e =
       idle = λ z. (refl, refl, refl);
     })
 
-pub advance-finished : (formula input : List ℕ) (m : Memory) (out : List ℕ) → output-room ≤ length out
-    → Advancing formula input m Stage.Finished out (record { stage = Stage.Finished; used = length input; length = 0 }) m out
-advance-finished formula input m out h =
+pub advance-finished : (formula input : List ℕ) (m : Memory) (t : Totals) (out : List ℕ) → output-room ≤ length out
+    → Advancing formula input m (Stage.Finished t) out (record { stage = Stage.Finished t; used = length input; length = 0 }) m out
+advance-finished formula input m t out h =
     record {
-      advances = advances-finished formula m (take (length input) input) out;
-      goes-on = λ st room few some. some;
-      numbered = omega arith;
+      advances = advances-finished formula m t (take (length input) input) out;
+      goes-on = λ st room some. some;
       inside = omega arith;
       room = omega arith;
       beyond = refl;
@@ -82,9 +84,17 @@ pub finish-idle : (formula : List ℕ) (m : Memory) (s : Stage) (out : List ℕ)
 finish-idle formula m s out h =
     record { ends = λ room. absurd (omega arith); room = omega arith; beyond = refl; leaves = λ room. absurd (omega arith); idle = λ z. (refl, refl, refl) }
 
-pub finish-finished : (formula : List ℕ) (m : Memory) (out : List ℕ) → output-room ≤ length out → Finishing formula m Stage.Finished out 0 m out
-finish-finished formula m out h =
-    record { ends = λ room g o. o []; room = omega arith; beyond = refl; leaves = λ room. (refl, refl); idle = λ z. absurd (omega arith) }
+pub finish-finished : (formula : List ℕ) (m : Memory) (t : Totals) (out out′ : List ℕ) (r : ℕ) → output-room ≤ length out → Wrote out 0 (total-line (totals-of t)) out′ r → r ≤ 0 + 111
+    → Finishing formula m (Stage.Finished t) out r m out′
+finish-finished formula m t out out′ r h w k =
+    let l : r ≤ length out = omega arith in
+    record {
+      ends = λ room g o. o [] ∙ sym (take-wrote out 0 (total-line (totals-of t)) out′ r w l);
+      room = l;
+      beyond = drop-wrote out 0 (total-line (totals-of t)) out′ r w l;
+      leaves = λ room. refl;
+      idle = λ z. absurd (omega arith);
+    }
 
 -- ---- the name line
 
@@ -99,7 +109,6 @@ module _ (formula input : List ℕ) (k : ℕ) (names path program₀ out : List 
       (record {
         advances = λ g o. (g, o, λ rest. refl);
         goes-on = λ st. absurd (let y = st .1 .kept .count in omega arith);
-        numbered = omega arith;
         inside = omega arith;
         room = omega arith;
         beyond = refl;
@@ -135,8 +144,7 @@ module _ (formula input : List ℕ) (k : ℕ) (names path program₀ out : List 
         let l = line-long in
         record {
           advances = names-on formula input k names path program₀ names′ end count (place .1) same on values regs out;
-          goes-on = λ st y few some. omega arith;
-          numbered = omega arith;
+          goes-on = λ st y some. omega arith;
           inside = place .0;
           room = omega arith;
           beyond = refl;
@@ -160,14 +168,14 @@ module _ (formula input : List ℕ) (k : ℕ) (names path program₀ out : List 
         (memory names′ path′ program′ values regs) out′
     names-ended h path′ program′ out′ r b =
         let l = line-long in
+        let short : r .length ≤ length out = let z = b .room in omega arith in
         let m = memory names path program₀ values regs in
         let m′ = memory names′ path′ program′ values regs in
         record {
-          advances = names-end formula input k names path program₀ names′ end count (place .1) same on values regs path′ program′ out out′ r h (place .2 h) (b .room) (b .built);
-          goes-on = λ st y few some. omega arith;
-          numbered = let n = b .numbered in omega arith;
+          advances = names-end formula input k names path program₀ names′ end count (place .1) same on values regs path′ program′ out out′ r h (place .2 h) short (b .built);
+          goes-on = λ st y some. omega arith;
           inside = omega arith;
-          room = b .room;
+          room = short;
           beyond = b .beyond;
           leaves = λ y. record {
             numbers = record { values = refl; regs = refl };
@@ -198,13 +206,18 @@ module _ (formula : List ℕ) (k : ℕ) (names path program₀ out : List ℕ) (
         idle = λ y. absurd (omega arith);
       }
 
-  pub names-last : k ≤ length names → (path′ program′ out′ : List ℕ) (r : Begun) → Beginning formula (take k names) path program₀ path′ program′ r out out′
-      → Finishing formula (memory names path program₀ values regs) (Stage.Names k) out (r .length) (memory names path′ program′ values regs) out′
-  names-last h path′ program′ out′ r b =
+  -- compiled, and the total line
+  pub names-last : k ≤ length names → (path′ program′ out′ : List ℕ) (r : Begun) → Beginning formula (take k names) path program₀ path′ program′ r out out′ → length out′ ≡ length out
+      → (t : Totals) → totals-of t ≡ nothing → (out″ : List ℕ) (len : ℕ) → Wrote out′ (r .length) (total-line (totals-of t)) out″ len → len ≤ r .length + 111
+      → Finishing formula (memory names path program₀ values regs) (Stage.Names k) out len (memory names path′ program′ values regs) out″
+  names-last h path′ program′ out′ r b same t e out″ len w j =
+      let z = b .room in
+      let x = w .ends in
+      let i : len ≤ length out′ = omega arith in
       record {
-        ends = λ y. names-finish formula k names path program₀ values regs program′ out out′ r (b .room) (b .built);
-        room = b .room;
-        beyond = b .beyond;
+        ends = λ y. names-finish formula k names path program₀ values regs program′ out out′ r (omega arith) (b .built) t e out″ len w i;
+        room = omega arith;
+        beyond = drop-wrote out′ (r .length) (total-line (totals-of t)) out″ len w i ∙ drop-later out′ out (r .length) len (omega arith) (b .beyond);
         leaves = λ y. record {
           numbers = record { values = refl; regs = refl };
           names = refl;
@@ -216,32 +229,32 @@ module _ (formula : List ℕ) (k : ℕ) (names path program₀ out : List ℕ) (
 
 -- ---- lines of values
 
-module _ (n : ℕ) (s : Reading) (program₀ : List ℕ) (values regs : List Float) (out : List ℕ) (room : output-room ≤ length out) (formula names path : List ℕ) where
+module _ (n : ℕ) (s : Reading) (t : Totals) (program₀ : List ℕ) (values regs : List Float) (out : List ℕ) (room : output-room ≤ length out) (formula names path : List ℕ) where
   pub values-advance : (input : List ℕ) (values′ regs′ : List Float) (out′ : List ℕ) (l : Listed) → Ready program₀ (length values) (length regs) → length values′ ≡ length values → length regs′ ≡ length regs
-      → Listing-block (program-at program₀) n s values input out l values′ out′
-      → Advancing formula input (memory names path program₀ values regs) (Stage.Values n s) out (record { stage = Stage.Values (l .number) (l .reading); used = l .used; length = l .length })
+      → Listing-block (program-at program₀) n s t values input out l values′ out′ → (s′ : Stage) → s′ ≡ stage-at (l .number) (l .reading) (l .totals)
+      → Advancing formula input (memory names path program₀ values regs) (Stage.Values n s t) out (record { stage = s′; used = l .used; length = l .length })
       (memory names path program₀ values′ regs′) out′
-  values-advance input values′ regs′ out′ l ready lv lr b =
-      record {
-        advances = values-on n s program₀ values regs formula names path values′ regs′ lv lr (take (l .used) input) (take (l .length) out′) (l .number) (l .reading) (b .lists);
-        goes-on = λ st. b .goes-on;
-        numbered = b .numbered;
+  values-advance input values′ regs′ out′ l ready lv lr b s′ e =
+      subst (λ (x : Stage). Advancing formula input (memory names path program₀ values regs) (Stage.Values n s t) out (record { stage = x; used = l .used; length = l .length })
+      (memory names path program₀ values′ regs′) out′) (sym e)
+      (record {
+        advances = values-on n s t program₀ values regs formula names path values′ regs′ lv lr (take (l .used) input) (take (l .length) out′) (l .number) (l .reading) (l .totals) (b .lists);
+        goes-on = λ st. b .goes-on (st .1 .within);
         inside = b .inside;
         room = b .room;
         beyond = b .beyond;
         leaves = λ y. record { texts = record { names = refl; path = refl; program = refl }; unfit = λ u. absurd (u ready) };
         idle = λ y. absurd (omega arith);
-      }
+      })
 
-  pub values-unfit : (input : List ℕ) → (Ready program₀ (length values) (length regs) → ⊥) → (r : Advanced) → r ≡ record { stage = Stage.Values n s; used = 0; length = 0 }
-      → Advancing formula input (memory names path program₀ values regs) (Stage.Values n s) out r (memory names path program₀ values regs) out
+  pub values-unfit : (input : List ℕ) → (Ready program₀ (length values) (length regs) → ⊥) → (r : Advanced) → r ≡ record { stage = Stage.Values n s t; used = 0; length = 0 }
+      → Advancing formula input (memory names path program₀ values regs) (Stage.Values n s t) out r (memory names path program₀ values regs) out
   values-unfit input h r e =
       let m = memory names path program₀ values regs in
-      subst (λ (x : Advanced). Advancing formula input m (Stage.Values n s) out x m out) (sym e)
+      subst (λ (x : Advanced). Advancing formula input m (Stage.Values n s t) out x m out) (sym e)
       (record {
         advances = λ g o. (g, o, λ rest. refl);
         goes-on = λ st. absurd (h (st .1 .ready));
-        numbered = omega arith;
         inside = omega arith;
         room = omega arith;
         beyond = refl;
@@ -250,19 +263,20 @@ module _ (n : ℕ) (s : Reading) (program₀ : List ℕ) (values regs : List Flo
       })
 
   -- no byte of a last line
-  pub values-last-none : (b : Bool) → Tells-empty s b → b ≡ true
-      → Finishing formula (memory names path program₀ values regs) (Stage.Values n s) out 0 (memory names path program₀ values regs) out
-  values-last-none b t e =
+  pub values-last-none : (b : Bool) → Tells-empty s b → b ≡ true → Ready program₀ (length values) (length regs) → (out′ : List ℕ) (len : ℕ) → Wrote out 0 (total-line (totals-of t)) out′ len → len ≤ 0 + 111
+      → Finishing formula (memory names path program₀ values regs) (Stage.Values n s t) out len (memory names path program₀ values regs) out′
+  values-last-none b h e ready out′ len w k =
+      let l : len ≤ length out = omega arith in
       record {
-        ends = λ y. values-none n s program₀ values regs formula names path b t e out;
-        room = omega arith;
-        beyond = refl;
-        leaves = λ y. record { texts = record { names = refl; path = refl; program = refl }; unfit = λ u. (refl, refl) };
+        ends = λ y. values-none n s t program₀ values regs formula names path b h e out out′ len l w;
+        room = l;
+        beyond = drop-wrote out 0 (total-line (totals-of t)) out′ len w l;
+        leaves = λ y. record { texts = record { names = refl; path = refl; program = refl }; unfit = λ u. absurd (u ready) };
         idle = λ y. absurd (omega arith);
       }
 
   pub values-last-unfit : (Ready program₀ (length values) (length regs) → ⊥)
-      → Finishing formula (memory names path program₀ values regs) (Stage.Values n s) out 0 (memory names path program₀ values regs) out
+      → Finishing formula (memory names path program₀ values regs) (Stage.Values n s t) out 0 (memory names path program₀ values regs) out
   values-last-unfit h =
       record {
         ends = λ y g o. absurd (h (o .ready));
@@ -272,14 +286,18 @@ module _ (n : ℕ) (s : Reading) (program₀ : List ℕ) (values regs : List Flo
         idle = λ y. absurd (omega arith);
       }
 
-  pub values-last-line : (b : Bool) → Tells-empty s b → b ≡ false → Ready program₀ (length values) (length regs) → (values′ regs′ : List Float) (out′ : List ℕ) (len : ℕ) → len ≤ 8242
-      → Records program₀ s values n out 0 out′ len → Wrote-some out 0 out′ len
-      → Finishing formula (memory names path program₀ values regs) (Stage.Values n s) out len (memory names path program₀ values′ regs′) out′
-  values-last-line b t e ready values′ regs′ out′ len h w v =
+  -- its record, and the total line
+  pub values-last-line : (b : Bool) → Tells-empty s b → b ≡ false → Ready program₀ (length values) (length regs) → length (program-at program₀ .code) ≤ 4294967296 → (values′ regs′ : List Float) (out′ : List ℕ) (put : Recorded) → put .end ≤ 0 + 8242
+      → Records program₀ s values n t out 0 out′ put → Wrote-some out 0 out′ (put .end) → length out′ ≡ length out
+      → (out″ : List ℕ) (len : ℕ) → Wrote out′ (put .end) (total-line (totals-of (put .totals))) out″ len → len ≤ put .end + 111
+      → Finishing formula (memory names path program₀ values regs) (Stage.Values n s t) out len (memory names path program₀ values′ regs′) out″
+  values-last-line b h e ready short values′ regs′ out′ put k w v same out″ len x j =
+      let q = x .ends in
+      let i : len ≤ length out′ = omega arith in
       record {
-        ends = λ y. values-last n s program₀ values regs formula names path b t e out out′ len (omega arith) w;
+        ends = λ y. values-last n s t program₀ values regs formula names path b h e short out out′ put (omega arith) w out″ len i x;
         room = omega arith;
-        beyond = v .beyond;
+        beyond = drop-wrote out′ (put .end) (total-line (totals-of (put .totals))) out″ len x i ∙ drop-later out′ out (put .end) len (omega arith) (v .beyond);
         leaves = λ y. record { texts = record { names = refl; path = refl; program = refl }; unfit = λ u. absurd (u ready) };
         idle = λ y. absurd (omega arith);
       }

@@ -8,7 +8,7 @@ use lib.Seq.{length-take-le, take-add, take-all, take-take}
 use borrow.Rule.Slice.PartMut.{midOf}
 use Rattle.lines.specs.declared.Advanced.{Advanced}
 use Rattle.lines.specs.declared.Stage.{Stage}
-use Rattle.lines.specs.Owed.{Advances, Memory, line-number}
+use Rattle.lines.specs.Owed.{Advances, Memory}
 use Rattle.lines.specs.Calls.{Advancing, Feedable}
 use Rattle.lines.proofs.Compose.{advances-none, advances-then, stands-after}
 
@@ -45,20 +45,17 @@ pub record Feeding (formula input : List ℕ) (m : Memory) (s : Stage) (out : Li
   pub inside : at ≤ length input
   pub same : Same-lengths m out m′ out′
   pub advances : Advances formula m s (take at input) m′ s′ text
-  pub numbered : line-number s′ ≤ line-number s + at
 
 pub feeding-start : (formula input : List ℕ) (m : Memory) (s : Stage) (out : List ℕ) → Feeding formula input m s out 0 m s out []
-feeding-start formula input m s out = record { inside = omega arith; same = same-start m out; advances = advances-none formula m s; numbered = omega arith }
+feeding-start formula input m s out = record { inside = omega arith; same = same-start m out; advances = advances-none formula m s }
 
 module _ (formula input : List ℕ) (m : Memory) (s : Stage) (out : List ℕ) (at : ℕ) (m′ : Memory) (s′ : Stage) (out′ text : List ℕ)
     (g : Feeding formula input m s out at m′ s′ out′ text) where
   -- a call for the bytes from there to an end
   module _ (end : ℕ) (h : end ≤ length input) (r : Advanced) (m″ : Memory) (out″ : List ℕ) (a : Advancing formula (midOf at (end - at) input) m′ s′ out′ r m″ out″) where
-    pub feeding-used : Feedable formula input m s out → at < end → 1 ≤ r .used
+    pub feeding-used : Feedable formula m s out → at < end → 1 ≤ r .used
     feeding-used f l =
-        let n = g .numbered in
-        let k = f .numbers in
-        a .goes-on (stands-after formula m m′ s s′ (take at input) text (f .stands) (g .advances)) (let o = g .same .output in let p = f .room in omega arith) (omega arith)
+        a .goes-on (stands-after formula m m′ s s′ (take at input) text (f .stands) (g .advances)) (let o = g .same .output in let p = f .room in omega arith)
         (omega (arith, part-long at end input h))
 
     pub feeding-advances : Advances formula m s (take (at + r .used) input) m″ (r .stage) (text ++ take (r .length) out″)
@@ -75,7 +72,6 @@ module _ (formula input : List ℕ) (m : Memory) (s : Stage) (out : List ℕ) (a
           inside = let u = a .inside in omega (arith, part-long at end input h);
           same = same-then m out m′ out′ m″ out″ (g .same) l;
           advances = feeding-advances;
-          numbered = let n = g .numbered in let j = a .numbered in omega arith;
         }
 
   -- all of the input was used

@@ -6,6 +6,7 @@ pub mod Parts
 pub mod Texts
 pub mod Runs
 pub mod Newlines
+pub mod Totals
 pub mod Listings
 pub mod Keeping
 pub mod Places

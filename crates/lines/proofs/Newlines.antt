@@ -1,4 +1,4 @@
--- The lines of an input, one after another.
+-- Parts of an input up to a newline, and of an output up to where it is written.
 use mathlib.Core.Path.{_≡_, refl, sym, ap, _∙_}
 use mathlib.Core.Bool.{Bool, true, false}
 use mathlib.Core.List.{List, [], _∷_, _++_, append-assoc}
@@ -9,22 +9,10 @@ use lib.Seq.{drop-at, drop-drop, split-at, take-add, take-all, take-at, take-suc
 use lib.Dec.{ltb}
 use borrow.Author.Tests.{ltb-true, ltb-false}
 use Rattle.formula.specs.Text.{split}
-use Rattle.formula.specs.Values.{ended, last-line, lines-of}
 use Rattle.names.specs.Lines.{first-piece, free, part}
 use Rattle.names.proofs.Splits.{later-pieces, pieces, split-end, split-next}
 use Rattle.writer.specs.Over.{over}
 use Rattle.lines.specs.Text.{Wrote, Wrote-some}
-
--- "A line ends at a newline byte"
-pub lines-next : (l rest : List ℕ) → free 10 l ≡ true → lines-of (l ++ (10 ∷ rest)) ≡ l ∷ lines-of rest
-lines-next l rest f =
-    ap ended (split-next 10 l rest f)
-    ∙ ap (λ (ps : List (List ℕ)). ended (l ∷ ps)) (pieces 10 rest)
-    ∙ ap (λ (ps : List (List ℕ)). l ∷ ended ps) (sym (pieces 10 rest))
-
--- "or at the end of the file; nothing after a last newline is no line"
-pub lines-last : (l : List ℕ) → free 10 l ≡ true → lines-of l ≡ last-line l
-lines-last l f = ap ended (split-end 10 l f)
 
 -- ---- parts of the input
 

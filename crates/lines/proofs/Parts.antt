@@ -13,7 +13,7 @@ use borrow.Author.Tests.{ne-eqb}
 use Rattle.formula.specs.Text.{all-some, little-endian, long-at}
 use Rattle.formula.specs.Values.{digit-of, numbered, of-digits}
 use Rattle.names.specs.Lines.{cap, free, part}
-use Rattle.names.proofs.Splits.{and-both, and-first, and-second}
+use Rattle.names.proofs.Splits.{and-both, and-first, and-second, free-append}
 use Rattle.lines.specs.declared.words.Digits.{Digits}
 use Rattle.lines.specs.declared.words.Digits.the-variants.{Number}
 use Rattle.lines.specs.declared.values.Part.{Part}
@@ -42,11 +42,6 @@ pub free-more : (c : ℕ) (xs : List ℕ) (x : ℕ) → free c xs ≡ true → (
 free-more c [] x f n = and-both (not (eqb x c)) true (ap not (ne-eqb x c n)) refl
 free-more c (y ∷ xs) x f n =
     and-both (not (eqb y c)) (free c (xs ++ (x ∷ []))) (and-first (not (eqb y c)) (free c xs) f) (free-more c xs x (and-second (not (eqb y c)) (free c xs) f) n)
-
-pub free-append : (c : ℕ) (xs ys : List ℕ) → free c xs ≡ true → free c ys ≡ true → free c (xs ++ ys) ≡ true
-free-append c [] ys f g = g
-free-append c (y ∷ xs) ys f g =
-    and-both (not (eqb y c)) (free c (xs ++ ys)) (and-first (not (eqb y c)) (free c xs) f) (free-append c xs ys (and-second (not (eqb y c)) (free c xs) f) g)
 
 pub on-none : (s : Reading) (values : List Float) → Reads-on s values [] s values
 on-none s values seen g = subst (λ (xs : List ℕ). Reads xs s values) (sym (append-nil seen)) g

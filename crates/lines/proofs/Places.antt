@@ -1,45 +1,24 @@
 -- The text of a refusal's place, with zeros after it.
 use mathlib.Core.Path.{_≡_, refl, sym, ap, _∙_}
-use mathlib.Core.Bool.{Bool, true, false, not}
+use mathlib.Core.Bool.{Bool, true, false}
 use mathlib.Core.List.{List, [], _∷_, _++_}
 use mathlib.Core.Option.{Option, none, some}
-use Prim.Native.Nat.{ℕ, zero, suc, _+_, _-_, _/_, _%_, _≤_, _<_}
+use Prim.Native.Nat.{ℕ, zero, _+_, _-_, _≤_, _<_}
 use native.Mathlib.Omega.{arith}
 use lib.ListN.{length, getD, take, length-append, length-replicate, getD-replicate, List·getD-append, List·getD-eq-default}
 use lib.Seq.{getD-append-add, take-at}
-use lib.Dec.{eqb, ltb}
-use borrow.Author.Tests.{ltb-true, ltb-false, ne-eqb}
-use Rattle.formula.specs.Text.{ascii, decimal, decimal-in, zeros}
-use Rattle.formula.specs.Path.{Path, Step, _▸_, argument, condition, else-arm, placed, root, step-text, text, then-arm}
+use lib.Dec.{ltb}
+use borrow.Author.Tests.{ltb-true, ltb-false}
+use Rattle.formula.specs.Text.{zeros}
+use Rattle.formula.specs.Path.{Path, placed, text}
 use Rattle.listing.specs.Legs.{place-text}
 use Rattle.names.specs.Lines.{free}
-use Rattle.names.proofs.Splits.{and-both, free-at}
-use Rattle.lines.proofs.Parts.{free-append}
+use Rattle.names.proofs.Splits.{free-at}
+use Rattle.listing.proofs.Fields.{plain-free, plain-place}
 
--- ---- no zero in a path's text
-
-free-one : (n : ℕ) → free 0 ((48 + n) ∷ []) ≡ true
-free-one n = and-both (not (eqb (48 + n) 0)) true (ap not (ne-eqb (48 + n) 0 (λ z. omega arith))) refl
-
-free-digits : (turns : ℕ) (small : Bool) (n : ℕ) → free 0 (decimal-in turns small n) ≡ true
-free-digits zero small n = refl
-free-digits (suc turns) true n = free-one n
-free-digits (suc turns) false n = free-append 0 (decimal-in turns (ltb (n / 10) 10) (n / 10)) ((48 + n % 10) ∷ []) (free-digits turns (ltb (n / 10) 10) (n / 10)) (free-one (n % 10))
-
-free-step : (s : Step) → free 0 (step-text s) ≡ true
-free-step (argument i) =
-    free-append 0 (ascii ".arguments[" ++ decimal i) (ascii "]") (free-append 0 (ascii ".arguments[") (decimal i) refl (free-digits (suc i) (ltb i 10) i)) refl
-free-step condition = refl
-free-step then-arm = refl
-free-step else-arm = refl
-
-free-text : (p : Path) → free 0 (text p) ≡ true
-free-text root = refl
-free-text (p ▸ s) = free-append 0 (text p) (step-text s) (free-text p) (free-step s)
-
+-- no zero stands in a path's text
 pub free-place : (o : Option Path) → free 0 (place-text o) ≡ true
-free-place none = refl
-free-place (some p) = free-text p
+free-place o = plain-free 0 (place-text o) (omega arith) (plain-place o)
 
 -- ---- where the text ends
 

@@ -12,7 +12,7 @@ use lib.Ieee.{Float, binary64}
 use borrow.Author.Tests.{le-ltb, lt-ltb, ltb-false, ltb-true, ne-eqb}
 use Rattle.refusals.specs.Numbers.{invalid-input, malformed-line}
 use Rattle.arithmetic.specs.Value.{0f, finite}
-use Rattle.formula.specs.Text.{all}
+use Rattle.formula.specs.Text.{all, byte-at, half-at, word-at}
 use Rattle.formula.specs.Path.{path-room}
 use Rattle.machine.specs.Program.{Program, valid}
 use Rattle.machine.specs.Machine as Machine
@@ -87,6 +87,11 @@ module _ (b : List ℕ) (ok : valid (program-at b) ≡ true) where
       (run-5 inputs b 8192 k regs (omega arith) ok
       (unfit-by (eqb (length inputs) (input-count b)) (leb (register-total b) (length regs)) (all finite inputs) (not (eqb k 0)) (ne-eqb (length inputs) (input-count b) n)))
       ∙ whole-run inputs regs k refl refl
+
+-- a code's instructions are counted in four bytes
+pub code-short : (b : List ℕ) → valid (program-at b) ≡ true → ((i : ℕ) → byte-at b i < 256) → length (program-at b .code) ≤ 4294967296
+unfolding code-count half-at word-at
+code-short b ok h = omega (arith, budget-is b ok, h 4, h 5, h 6, h 7)
 
 -- ---- what a line was found to be
 

@@ -17,6 +17,7 @@ use Rattle.writer.specs.Over.{over}
 use Rattle.writer.proofs.Over.{next-over, over-length, over-over}
 use Rattle.writer.proofs.Decimal.{decimal-length-le}
 use Rattle.listing.specs.Legs.{Line, bits-text, colon, comma, line-of, printed}
+use Rattle.listing.specs.Totals.{Totals, total-line}
 use Rattle.lines.specs.Text.{Wrote, refused-as, shown}
 use Rattle.lines.proofs.Eights.{hex-halves}
 
@@ -139,6 +140,24 @@ module _ (out : List ℕ) (at number count steps : ℕ) (a : Answer) (o1 o2 o3 o
       wrote-as out at (x3 ++ comma ++ decimal steps ++ ascii "\n") (printed number (line-of a count)) o6 r6
       (ap (λ (zs : List ℕ). x2 ++ zs ++ comma ++ decimal steps ++ ascii "\n") (shown-any a count) ∙ line-text number steps (line-of a count) e)
       (wrote-then out at (x3 ++ comma ++ decimal steps) o5 r5 (ascii "\n") o6 r6 h5 v5 w6)
+
+-- ---- the total line
+
+module _ (out : List ℕ) (at : ℕ) (t : Totals) (o1 o2 o3 o4 o5 o6 : List ℕ) (r1 r2 r3 r4 r5 r6 : ℕ) where
+  pub total-wrote : r1 ≤ length out → r2 ≤ length out → r3 ≤ length out → r4 ≤ length out → r5 ≤ length out → Wrote out at (ascii "total,") o1 r1
+      → Wrote o1 r1 (decimal (t .values) ++ ascii ",") o2 r2 → Wrote o2 r2 (decimal (t .domains) ++ ascii ",") o3 r3 → Wrote o3 r3 (decimal (t .asks) ++ ascii ",") o4 r4
+      → Wrote o4 r4 (decimal (t .bads) ++ ascii ",") o5 r5 → Wrote o5 r5 (decimal (t .steps) ++ ascii "\n") o6 r6 → Wrote out at (total-line t) o6 r6
+  total-wrote h1 h2 h3 h4 h5 w1 w2 w3 w4 w5 w6 =
+      let x1 = ascii "total," in
+      let x2 = x1 ++ (decimal (t .values) ++ ascii ",") in
+      let x3 = x2 ++ (decimal (t .domains) ++ ascii ",") in
+      let x4 = x3 ++ (decimal (t .asks) ++ ascii ",") in
+      let x5 = x4 ++ (decimal (t .bads) ++ ascii ",") in
+      let v2 = wrote-then out at x1 o1 r1 (decimal (t .values) ++ ascii ",") o2 r2 h1 w1 w2 in
+      let v3 = wrote-then out at x2 o2 r2 (decimal (t .domains) ++ ascii ",") o3 r3 h2 v2 w3 in
+      let v4 = wrote-then out at x3 o3 r3 (decimal (t .asks) ++ ascii ",") o4 r4 h3 v3 w4 in
+      let v5 = wrote-then out at x4 o4 r4 (decimal (t .bads) ++ ascii ",") o5 r5 h4 v4 w5 in
+      wrote-as out at (x5 ++ (decimal (t .steps) ++ ascii "\n")) (total-line t) o6 r6 (simp append-assoc) (wrote-then out at x5 o5 r5 (decimal (t .steps) ++ ascii "\n") o6 r6 h5 v5 w6)
 
 -- ---- a refusal
 

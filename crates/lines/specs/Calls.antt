@@ -9,6 +9,8 @@ use lib.Ieee.{Float}
 use Rattle.machine.specs.Compile.{compile, path-after, program-after}
 use Rattle.machine.specs.Program.{Program}
 use Rattle.layout.specs.Image.{image}
+use Rattle.listing.specs.Legs.{line-limit}
+use Rattle.listing.specs.Totals.{nothing}
 use Rattle.names.specs.Lines.{first-piece}
 use Rattle.writer.specs.Over.{over}
 use Rattle.lines.specs.declared.Advanced.{Advanced}
@@ -16,9 +18,10 @@ use Rattle.lines.specs.declared.Begun.{Begun}
 use Rattle.lines.specs.declared.Listed.{Listed}
 use Rattle.lines.specs.declared.Stage.{Stage}
 use Rattle.lines.specs.declared.Stage.the-variants.{Finished, Names, Values}
+use Rattle.lines.specs.declared.sums.Totals.{Totals}
 use Rattle.lines.specs.declared.values.Reading.{Reading}
 use Rattle.lines.specs.Record.{Ready}
-use Rattle.lines.specs.Owed.{Advances, Begins, Compiled-as, Ends, Lists, Memory, Stands, last-number, line-number, memory, output-room}
+use Rattle.lines.specs.Owed.{Advances, Begins, Compiled-as, Ends, Ends-with, Lists, Memory, Stands, memory, output-room}
 
 -- ---- the memory after
 
@@ -59,14 +62,14 @@ pub record Names-leave (formula input : List ℕ) (k : ℕ) (m : Memory) (r : Ad
   pub unfit : length (m .names) < k → (r ≡ record { stage = Names k; used = 0; length = 0 }) × (m′ .path ≡ m .path) × (m′ .program ≡ m .program)
 
 -- after a part of the lines of values; nothing is done without a program that fits the slices
-pub record Values-leave (n : ℕ) (s : Reading) (m : Memory) (r : Advanced) (m′ : Memory) : Type 0 where
+pub record Values-leave (n : ℕ) (s : Reading) (t : Totals) (m : Memory) (r : Advanced) (m′ : Memory) : Type 0 where
   pub texts : Same-texts m m′
-  pub unfit : (Fits m → ⊥) → (r ≡ record { stage = Values n s; used = 0; length = 0 }) × (m′ ≡ m)
+  pub unfit : (Fits m → ⊥) → (r ≡ record { stage = Values n s t; used = 0; length = 0 }) × (m′ ≡ m)
 
 abbrev pub Leaves : List ℕ → List ℕ → Memory → Stage → Advanced → Memory → Type 0
 Leaves formula input m (Names k) r m′ = Names-leave formula input k m r m′
-Leaves formula input m (Values n s) r m′ = Values-leave n s m r m′
-Leaves formula input m Finished r m′ = (r ≡ record { stage = Finished; used = length input; length = 0 }) × (m′ ≡ m)
+Leaves formula input m (Values n s t) r m′ = Values-leave n s t m r m′
+Leaves formula input m (Finished t) r m′ = (r ≡ record { stage = Finished t; used = length input; length = 0 }) × (m′ ≡ m)
 
 -- at the input's end: a name line is compiled, a line of values is run
 pub record Names-leave-last (formula : List ℕ) (k : ℕ) (m : Memory) (r : ℕ) (m′ : Memory) : Type 0 where
@@ -81,39 +84,35 @@ pub record Values-leave-last (m : Memory) (r : ℕ) (m′ : Memory) : Type 0 whe
 
 abbrev pub Leaves-last : List ℕ → Memory → Stage → ℕ → Memory → Type 0
 Leaves-last formula m (Names k) r m′ = Names-leave-last formula k m r m′
-Leaves-last formula m (Values n s) r m′ = Values-leave-last m r m′
-Leaves-last formula m Finished r m′ = (r ≡ 0) × (m′ ≡ m)
+Leaves-last formula m (Values n s t) r m′ = Values-leave-last m r m′
+Leaves-last formula m (Finished t) r m′ = m′ ≡ m
 
 -- ---- the calls
 
 pub record Starting (readable : Bool) (formula out : List ℕ) (r : Begun) (out′ : List ℕ) : Type 0 where
   pub begins : output-room ≤ length out → Begins readable formula (r .stage) (take (r .length) out′)
-  pub idle : length out < output-room → (r ≡ record { stage = Finished; length = 0 }) × (out′ ≡ out)
-  pub unnumbered : line-number (r .stage) ≡ 0
+  pub idle : length out < output-room → Ends-with nothing (r .stage) × (r .length ≡ 0) × (out′ ≡ out)
   pub room : r .length ≤ length out
   pub beyond : drop (r .length) out′ ≡ drop (r .length) out
 
--- with room in the output and a number below the last, input that is there is used
-abbrev pub Goes-on : ℕ → List ℕ → List ℕ → ℕ → Type 0
-Goes-on n input out used = output-room ≤ length out → n < last-number → 1 ≤ length input → 1 ≤ used
+-- with room in the output, input that is there is used
+abbrev pub Goes-on : List ℕ → List ℕ → ℕ → Type 0
+Goes-on input out used = output-room ≤ length out → 1 ≤ length input → 1 ≤ used
 
--- From a stage that stands, input is used; its number grows by at most the bytes used. So any input of at most 2^64 - 1 bytes is used up by finitely
--- many calls.
+-- From a stage that stands, input is used. So any input is used up by finitely many calls.
 pub record Advancing (formula input : List ℕ) (m : Memory) (s : Stage) (out : List ℕ) (r : Advanced) (m′ : Memory) (out′ : List ℕ) : Type 0 where
   pub advances : Advances formula m s (take (r .used) input) m′ (r .stage) (take (r .length) out′)
-  pub goes-on : Stands formula m s → Goes-on (line-number s) input out (r .used)
-  pub numbered : line-number (r .stage) ≤ line-number s + r .used
+  pub goes-on : Stands formula m s → Goes-on input out (r .used)
   pub inside : r .used ≤ length input
   pub room : r .length ≤ length out
   pub beyond : drop (r .length) out′ ≡ drop (r .length) out
   pub leaves : output-room ≤ length out → Leaves formula input m s r m′
   pub idle : length out < output-room → (r ≡ record { stage = s; used = 0; length = 0 }) × (m′ ≡ m) × (out′ ≡ out)
 
--- what it takes to hand all of an input on, part by part: a stage that stands, room in the output, and numbers for the lines that may end in the input
-pub record Feedable (formula input : List ℕ) (m : Memory) (s : Stage) (out : List ℕ) : Type 0 where
+-- what it takes to hand all of an input on, part by part: a stage that stands, and room in the output
+pub record Feedable (formula : List ℕ) (m : Memory) (s : Stage) (out : List ℕ) : Type 0 where
   pub stands : Stands formula m s
   pub room : output-room ≤ length out
-  pub numbers : line-number s + length input ≤ last-number
 
 pub record Finishing (formula : List ℕ) (m : Memory) (s : Stage) (out : List ℕ) (r : ℕ) (m′ : Memory) (out′ : List ℕ) : Type 0 where
   pub ends : output-room ≤ length out → Ends formula m s (take r out′)
@@ -127,17 +126,15 @@ pub record Finishing (formula : List ℕ) (m : Memory) (s : Stage) (out : List �
 -- a name line is compiled
 pub record Beginning (formula line path program path′ program′ : List ℕ) (r : Begun) (out out′ : List ℕ) : Type 0 where
   pub built : Compiled-as formula line path program program′ r out out′
-  pub numbered : line-number (r .stage) ≤ 1
-  pub room : r .length ≤ length out
+  pub room : r .length ≤ 8209
   pub beyond : drop (r .length) out′ ≡ drop (r .length) out
   pub path-is : path′ ≡ path-after (compile formula line (length path) (length program)) path
   pub program-is : program′ ≡ program-after image (compile formula line (length path) (length program)) program
 
 -- lines of values are listed
-pub record Listing-block (P : Program) (n : ℕ) (s : Reading) (values : List Float) (input out : List ℕ) (r : Listed) (values′ : List Float) (out′ : List ℕ) : Type 0 where
-  pub lists : Lists P n s values (take (r .used) input) (take (r .length) out′) (r .number) (r .reading) values′
-  pub goes-on : Goes-on n input out (r .used)
-  pub numbered : r .number ≤ n + r .used
+pub record Listing-block (P : Program) (n : ℕ) (s : Reading) (t : Totals) (values : List Float) (input out : List ℕ) (r : Listed) (values′ : List Float) (out′ : List ℕ) : Type 0 where
+  pub lists : Lists P n s t values (take (r .used) input) (take (r .length) out′) (r .number) (r .reading) (r .totals) values′
+  pub goes-on : n ≤ line-limit → Goes-on input out (r .used)
   pub inside : r .used ≤ length input
   pub room : r .length ≤ length out
   pub beyond : drop (r .length) out′ ≡ drop (r .length) out
@@ -146,14 +143,14 @@ abbrev pub Names-advance : List ℕ → List ℕ → ℕ → List ℕ → List �
 Names-advance formula input k names path program out r names′ path′ program′ out′ =
     (values regs : List Float) → Advancing formula input (memory names path program values regs) (Names k) out r (memory names′ path′ program′ values regs) out′
 
-abbrev pub Values-advance : List ℕ → ℕ → Reading → List ℕ → List Float → List Float → List ℕ → Advanced → List Float → List Float → List ℕ → Type 0
-Values-advance input n s program values regs out r values′ regs′ out′ =
-    (formula names path : List ℕ) → Advancing formula input (memory names path program values regs) (Values n s) out r (memory names path program values′ regs′) out′
+abbrev pub Values-advance : List ℕ → ℕ → Reading → Totals → List ℕ → List Float → List Float → List ℕ → Advanced → List Float → List Float → List ℕ → Type 0
+Values-advance input n s t program values regs out r values′ regs′ out′ =
+    (formula names path : List ℕ) → Advancing formula input (memory names path program values regs) (Values n s t) out r (memory names path program values′ regs′) out′
 
 abbrev pub Names-end : List ℕ → ℕ → List ℕ → List ℕ → List ℕ → List ℕ → ℕ → List ℕ → List ℕ → List ℕ → Type 0
 Names-end formula k names path program out r path′ program′ out′ =
     (values regs : List Float) → Finishing formula (memory names path program values regs) (Names k) out r (memory names path′ program′ values regs) out′
 
-abbrev pub Values-end : ℕ → Reading → List ℕ → List Float → List Float → List ℕ → ℕ → List Float → List Float → List ℕ → Type 0
-Values-end n s program values regs out r values′ regs′ out′ =
-    (formula names path : List ℕ) → Finishing formula (memory names path program values regs) (Values n s) out r (memory names path program values′ regs′) out′
+abbrev pub Values-end : ℕ → Reading → Totals → List ℕ → List Float → List Float → List ℕ → ℕ → List Float → List Float → List ℕ → Type 0
+Values-end n s t program values regs out r values′ regs′ out′ =
+    (formula names path : List ℕ) → Finishing formula (memory names path program values regs) (Values n s t) out r (memory names path program values′ regs′) out′

@@ -3,9 +3,9 @@ use mathlib.Core.Path.{_≡_}
 use mathlib.Core.Bool.{Bool, true, false, cond}
 use mathlib.Core.List.{List, [], _∷_, _++_}
 use mathlib.Core.Option.{Option, none, some}
-use Prim.Native.Nat.{ℕ, _+_, _≤_, min}
+use Prim.Native.Nat.{ℕ, suc, _+_, _-_, _≤_, min}
 use lib.ListN.{length, take}
-use lib.Dec.{ltb}
+use lib.Dec.{leb, ltb}
 use lib.Ieee.{Float}
 use Rattle.formula.specs.Text.{zeros}
 use Rattle.formula.specs.Values.{lines-of}
@@ -15,29 +15,47 @@ use Rattle.machine.specs.Compile as Compile
 use Rattle.machine.specs.Lower.{program}
 use Rattle.machine.specs.Program.{Program}
 use Rattle.layout.specs.Decode.{program-at}
-use Rattle.listing.specs.Legs.{compiled, legs, records, refusal-line, with-file, with-input}
+use Rattle.listing.specs.Legs.{compiled, legs, line-limit, records, refusal-line, with-file, with-input}
+use Rattle.listing.specs.Totals as Total
+use Rattle.listing.specs.Totals.{add-up, nothing, plus, total-line, with-total}
 use Rattle.names.specs.Lines.{free}
 use Rattle.lines.specs.declared.Advanced.{Advanced}
 use Rattle.lines.specs.declared.Begun.{Begun}
 use Rattle.lines.specs.declared.Stage.{Stage}
 use Rattle.lines.specs.declared.Stage.the-variants.{Finished, Names, Values}
+use Rattle.lines.specs.declared.sums.Totals.{Totals}
 use Rattle.lines.specs.declared.values.Reading.{Reading}
 use Rattle.lines.specs.Reading.{Reads, Starts}
 use Rattle.lines.specs.Record.{Ready}
 use Rattle.lines.specs.Text.{Wrote}
+use Rattle.lines.specs.Sums.{Few, totals-of}
 
 -- ---- lines of values
 
+-- a text, and under it the total of t and of its lines together
+abbrev pub under : Total.Totals → List ℕ → List ℕ
+under t more = more ++ total-line (plus t (add-up (lines-of more)))
+
+-- the output from line n on, where the lines before have these totals: the records of the lines up to the limit, and the total line
+unfoldable pub output-from : Program → ℕ → Total.Totals → List (List ℕ) → List ℕ
+output-from P n t lines = under t (records P n (take (suc line-limit - n) lines))
+
 -- After these bytes of input and this output: a line that had begun as `seen` became one that has begun as `now-seen`, and the output is what the
 -- definition gives, whatever input follows.
-pub record After (P : Program) (n : ℕ) (seen fed text : List ℕ) (n′ : ℕ) (s′ : Reading) (values′ : List Float) : Type 0 where
+pub record After (P : Program) (n : ℕ) (t : Totals) (seen fed text : List ℕ) (n′ : ℕ) (s′ : Reading) (t′ : Totals) (values′ : List Float) : Type 0 where
   pub now-seen : List ℕ
   pub no-newline : free 10 now-seen ≡ true
   pub read : Reads now-seen s′ values′
-  pub same : (rest : List ℕ) → records P n (lines-of (seen ++ (fed ++ rest))) ≡ text ++ records P n′ (lines-of (now-seen ++ rest))
+  pub few : Few n′ (totals-of t′)
+  pub same : (rest : List ℕ) → output-from P n (totals-of t) (lines-of (seen ++ (fed ++ rest))) ≡ text ++ output-from P n′ (totals-of t′) (lines-of (now-seen ++ rest))
 
-abbrev pub Lists : Program → ℕ → Reading → List Float → List ℕ → List ℕ → ℕ → Reading → List Float → Type 0
-Lists P n s values fed text n′ s′ values′ = (seen : List ℕ) → free 10 seen ≡ true → Reads seen s values → After P n seen fed text n′ s′ values′
+abbrev pub Lists : Program → ℕ → Reading → Totals → List Float → List ℕ → List ℕ → ℕ → Reading → Totals → List Float → Type 0
+Lists P n s t values fed text n′ s′ t′ values′ =
+    (seen : List ℕ) → free 10 seen ≡ true → Reads seen s values → Few n (totals-of t) → After P n t seen fed text n′ s′ t′ values′
+
+-- the lines after the last that is listed are not looked at
+abbrev pub stage-at : ℕ → Reading → Totals → Stage
+stage-at n s t = cond (leb n line-limit) (Values n s t) (Finished t)
 
 -- ---- the name line
 
@@ -80,38 +98,42 @@ pub record Naming (formula : List ℕ) (m : Memory) (k : ℕ) (g : List ℕ → 
   pub seen : List ℕ
   pub no-newline : free 10 seen ≡ true
   pub kept : Keeps seen k (m .names)
-  pub owes : (rest : List ℕ) → g rest ≡ with-input formula (lines-of (seen ++ rest))
+  pub owes : (rest : List ℕ) → g rest ≡ with-total (with-input formula (lines-of (seen ++ rest)))
 
--- line n of the values has begun
-pub record Listing (m : Memory) (n : ℕ) (s : Reading) (g : List ℕ → List ℕ) : Type 0 where
+-- line n of the values has begun; the lines before have these totals, which are small enough for a sum to be exact
+pub record Listing (m : Memory) (n : ℕ) (s : Reading) (t : Totals) (g : List ℕ → List ℕ) : Type 0 where
   pub ready : Ready (m .program) (length (m .values)) (length (m .regs))
   pub seen : List ℕ
   pub no-newline : free 10 seen ≡ true
   pub read : Reads seen s (m .values)
-  pub owes : (rest : List ℕ) → g rest ≡ records (program-at (m .program)) n (lines-of (seen ++ rest))
+  pub within : n ≤ line-limit
+  pub few : Few n (totals-of t)
+  pub owes : (rest : List ℕ) → g rest ≡ output-from (program-at (m .program)) n (totals-of t) (lines-of (seen ++ rest))
 
+-- the total line is owed at the end, whatever input follows
 abbrev pub Owed : List ℕ → Memory → Stage → (List ℕ → List ℕ) → Type 0
 Owed formula m (Names k) g = Naming formula m k g
-Owed formula m (Values n s) g = Listing m n s g
-Owed formula m Finished g = (rest : List ℕ) → g rest ≡ []
+Owed formula m (Values n s t) g = Listing m n s t g
+Owed formula m (Finished t) g = (rest : List ℕ) → g rest ≡ total-line (totals-of t)
 
 -- something is owed: the memory and the stage are as `start` and `advance` leave them
 abbrev pub Stands : List ℕ → Memory → Stage → Type 0
 Stands formula m s = (g : List ℕ → List ℕ) × Owed formula m s g
 
--- the number of the line of values that is being read; 0 before the first and after a refusal
-abbrev pub line-number : Stage → ℕ
-line-number (Names k) = 0
-line-number (Values n s) = n
-line-number Finished = 0
+-- at the end, with these totals
+abbrev pub Ends-with : Total.Totals → Stage → Type 0
+Ends-with u s = (t : Totals) × (s ≡ Finished t) × (totals-of t ≡ u)
 
--- no line after this one can be counted
-abbrev pub last-number : ℕ
-last-number = 18446744073709551615
+-- whether it is at the end
+abbrev pub Tells-finished : Stage → Bool → Type 0
+Tells-finished (Names k) b = b ≡ false
+Tells-finished (Values n s t) b = b ≡ false
+Tells-finished (Finished t) b = b ≡ true
 
--- the bytes of output that every call needs: a header with a refusal's line, or a record, with the longest path
+-- the bytes of output that every call needs: 8,242 for a record with the longest path (a header with a refusal's line has fewer), and 111 for the
+-- total line
 abbrev pub output-room : ℕ
-output-room = 8242
+output-room = 8353
 
 -- what was owed for the input `fed` and any other after it was `text`, and then what is owed now
 abbrev pub Advances : List ℕ → Memory → Stage → List ℕ → Memory → Stage → List ℕ → Type 0
@@ -137,9 +159,9 @@ Begins readable formula s text =
 
 -- the stage after a name line: a refusal's line is written, or the lines of values begin
 abbrev pub Compiles : Compiled → List ℕ → Begun → List ℕ → List ℕ → Type 0
-Compiles (Compile.refused n place) program′ r out out′ = (r .stage ≡ Finished) × Wrote out 0 (refusal-line n place) out′ (r .length)
+Compiles (Compile.refused n place) program′ r out out′ = Ends-with nothing (r .stage) × Wrote out 0 (refusal-line n place) out′ (r .length)
 Compiles (accepted f symbols) program′ r out out′ =
-    (s : Reading) × (r .stage ≡ Values 1 s) × Starts s × (r .length ≡ 0) × Ready program′ 256 1276
+    (s : Reading) × (t : Totals) × (r .stage ≡ Values 1 s t) × Starts s × (totals-of t ≡ nothing) × (r .length ≡ 0) × Ready program′ 256 1276
     × (program-at program′ ≡ program (own-context symbols) (term f))
 
 abbrev pub Compiled-as : List ℕ → List ℕ → List ℕ → List ℕ → List ℕ → Begun → List ℕ → List ℕ → Type 0
@@ -155,4 +177,4 @@ abbrev pub Opens : Bool → List ℕ → Begun → List ℕ → ℕ → List ℕ
 Opens readable formula r out at out′ =
     (text : List ℕ) × Wrote out at text out′ (r .length)
     × ((m : Memory) → Roomy m
-    → (g : List ℕ → List ℕ) × Owed formula m (r .stage) g × ((input : List ℕ) → with-file (file-of readable formula) (lines-of input) ≡ text ++ g input))
+    → (g : List ℕ → List ℕ) × Owed formula m (r .stage) g × ((input : List ℕ) → with-total (with-file (file-of readable formula) (lines-of input)) ≡ text ++ g input))

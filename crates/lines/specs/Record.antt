@@ -11,13 +11,17 @@ use Rattle.formula.specs.Values.{values-of}
 use Rattle.machine.specs.Program.{Program, valid}
 use Rattle.layout.specs.Decode.{input-count, program-at, register-total}
 use Rattle.run.specs.Views.{answer-of}
-use Rattle.listing.specs.Legs.{Line, bad, line-of, printed, run-line, value-record}
+use Rattle.listing.specs.Legs.{Line, bad, line-of, printed, record-text, run-line, value-record}
+use Rattle.listing.specs.Totals.{counted, plus}
 use Rattle.lines.specs.declared.values.Reading.{Reading}
 use Rattle.lines.specs.declared.values.Found.{Found}
 use Rattle.lines.specs.declared.values.Found.the-variants.{Malformed, Values}
 use Rattle.lines.specs.declared.record.Outcome.{Outcome}
+use Rattle.lines.specs.declared.record.Recorded.{Recorded}
+use Rattle.lines.specs.declared.sums.Totals.{Totals}
 use Rattle.lines.specs.Reading.{Reads}
 use Rattle.lines.specs.Text.{Wrote}
+use Rattle.lines.specs.Sums.{totals-of, wrapped}
 
 -- bytes that are a program, with as many places for values and registers as it needs
 pub record Ready (p : List ℕ) (values regs : ℕ) : Type 0 where
@@ -39,7 +43,12 @@ found-line P (Values n) values = cond (ltb (length values) n) (bad invalid-input
 abbrev pub Answers : List ℕ → Found → List Float → Outcome → Type 0
 Answers p found values o = line-of (answer-of p (o .answer)) (o .count) ≡ found-line (program-at p) found values
 
--- the record of a line whose bytes are `seen` stands in the output
-abbrev pub Records : List ℕ → Reading → List Float → ℕ → List ℕ → ℕ → List ℕ → ℕ → Type 0
-Records p s values number out at out′ end =
-    (seen : List ℕ) → Reads seen s values → Wrote out at (printed number (value-record (program-at p) (values-of seen))) out′ end
+-- a record stands in the output, and the totals have what it adds
+pub record Entered (number : ℕ) (l : Line) (t : Totals) (out : List ℕ) (at : ℕ) (out′ : List ℕ) (r : Recorded) : Type 0 where
+  pub wrote : Wrote out at (printed number l) out′ (r .end)
+  pub adds : totals-of (r .totals) ≡ wrapped (plus (totals-of t) (counted (record-text number l)))
+
+-- the record of a line whose bytes are `seen`
+abbrev pub Records : List ℕ → Reading → List Float → ℕ → Totals → List ℕ → ℕ → List ℕ → Recorded → Type 0
+Records p s values number t out at out′ r =
+    (seen : List ℕ) → Reads seen s values → Entered number (value-record (program-at p) (values-of seen)) t out at out′ r

@@ -1,4 +1,6 @@
 // A line of values to its record: the program is run on them, with registers that start as 0.0 and a budget of all its code.
+use crate::sums::Totals;
+use crate::sums::with_line;
 use crate::text::put_line;
 use crate::values::Found;
 use crate::values::Reading;
@@ -78,23 +80,35 @@ fn answer_of(p: &[u8], found: Found, values: &[f64], regs: &mut [f64]) -> Outcom
     }
 }
 
-// Writes the record of a line that ends here.
+// Where a record ends, and the totals with its line.
+pub struct Recorded {
+    pub end: usize,
+    pub totals: Totals,
+}
+
+// Writes the record of a line that ends here, and counts it.
 pub(crate) fn put_record(
     p: &[u8],
     s: Reading,
     values: &mut [f64],
     regs: &mut [f64],
     number: u64,
+    totals: Totals,
     out: &mut [u8],
     at: usize,
-) -> usize
+) -> Recorded
     requires { ⌜ Ready (now p) (length (now values)) (length (now regs)) × (at + 8242 ≤ length (now out)) ⌝ }
-    ensures { λ r. ⌜ Records (now (p .entry)) s (now (values .entry)) number (now (out .entry)) at (now (out .exit)) r ⌝ }
-    ensures beyond { λ r. ⌜ Wrote-some (now (out .entry)) at (now (out .exit)) r ⌝ }
-    ensures room { λ r. ⌜ r ≤ at + 8242 ⌝ }
+    ensures { λ r. ⌜ Records (now (p .entry)) s (now (values .entry)) number totals (now (out .entry)) at (now (out .exit)) r ⌝ }
+    ensures beyond { λ r. ⌜ Wrote-some (now (out .entry)) at (now (out .exit)) (r .end) ⌝ }
+    ensures room { λ r. ⌜ r .end ≤ at + 8242 ⌝ }
 {
     let found = finish(s, values);
     let o = answer_of(p, found, values, regs);
     let answer = o.answer;
-    put_line(p, out, at, number, answer, o.count)
+    let count = o.count;
+    let end = put_line(p, out, at, number, answer, count);
+    Recorded {
+        end: end,
+        totals: with_line(totals, answer, count),
+    }
 }

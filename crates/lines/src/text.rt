@@ -1,5 +1,6 @@
 // The text of an output line: "line number, answer (`value`, `domain`, `ask`, `bad`), detail (bits, path, function number in
 // decimal and bits joined by `:` with 16 for Power, refusal number), instructions completed".
+use crate::sums::Totals;
 use crate::words::write_eight;
 use layout::CODE_AT;
 use layout::HEADER_SIZE;
@@ -12,6 +13,7 @@ use writer::put_decimal;
 use writer::put_long;
 ghost use mathlib.Core.Path.{_≡_};
 ghost use mathlib.Core.Bool.{true};
+ghost use mathlib.Core.List.{_++_};
 ghost use Prim.Native.Nat.{_+_, _≤_, _<_};
 ghost use lib.ListN.{length};
 ghost use Rattle.formula.specs.Path.{text};
@@ -20,7 +22,10 @@ ghost use Rattle.machine.specs.Machine.{asks, gives, outside, refused};
 ghost use Rattle.machine.specs.Program.{valid};
 ghost use Rattle.layout.specs.Decode.{length-at, path-of, path-total, program-at};
 ghost use Rattle.run.specs.Views.{Writable, answer-of};
+ghost use Rattle.formula.specs.Text.{decimal};
 ghost use Rattle.listing.specs.Legs.{bits-text, line-of, printed};
+ghost use Rattle.listing.specs.Totals.{total-line};
+ghost use Rattle.lines.specs.Sums.{totals-of};
 ghost use Rattle.lines.specs.Text.{Steps-of, Wrote, refused-as, shown};
 
 // The 16 digits of a value's bits.
@@ -160,4 +165,28 @@ pub(crate) fn put_refusal(out: &mut [u8], at: usize, n: u8, path: &[u8]) -> usiz
     let place = put_bytes(out, colon, b":");
     let end = put_bytes(out, place, path);
     put_bytes(out, end, b",0\n")
+}
+
+// A number, and the byte after it.
+fn put_count(out: &mut [u8], at: usize, n: u64, after: &[u8]) -> usize
+    requires { ⌜ (at + 21 ≤ length (now out)) × (length (now after) ≤ 1) ⌝ }
+    ensures { λ r. ⌜ Wrote (now (out .entry)) at (decimal n ++ now (after .entry)) (now (out .exit)) r ⌝ }
+    ensures room { λ r. ⌜ r ≤ at + 21 ⌝ }
+{
+    let end = put_decimal(out, at, n);
+    put_bytes(out, end, after)
+}
+
+// "`total,V,D,Q,B,S`"
+pub(crate) fn put_total(out: &mut [u8], at: usize, t: Totals) -> usize
+    requires { ⌜ at + 111 ≤ length (now out) ⌝ }
+    ensures { λ r. ⌜ Wrote (now (out .entry)) at (total-line (totals-of t)) (now (out .exit)) r ⌝ }
+    ensures room { λ r. ⌜ r ≤ at + 111 ⌝ }
+{
+    let values = put_bytes(out, at, b"total,");
+    let domains = put_count(out, values, t.values, b",");
+    let asks = put_count(out, domains, t.domains, b",");
+    let bads = put_count(out, asks, t.asks, b",");
+    let steps = put_count(out, bads, t.bads, b",");
+    put_count(out, steps, t.steps, b"\n")
 }

@@ -1,1 +1,3 @@
 pub mod Answers
+pub mod Fields
+pub mod Sums

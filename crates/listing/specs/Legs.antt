@@ -1,10 +1,11 @@
 -- `legs` reads `formula.bin` and standard input, and prints a line for each line of values: "line number, answer (`value`, `domain`, `ask`, `bad`),
--- detail (bits, path, function number in decimal and bits joined by `:` with 16 for Power, refusal number), instructions completed".
+-- detail (bits, path, function number in decimal and bits joined by `:` with 16 for Power, refusal number), instructions completed". Under these it
+-- prints what they add up to.
 use mathlib.Core.Bool.{Bool, true, false, cond, _&&_}
 use mathlib.Core.List.{List, [], _∷_, _++_, map}
 use mathlib.Core.Option.{Option, none, some}
 use Prim.Native.Nat.{ℕ, suc}
-use lib.ListN.{length, replicate}
+use lib.ListN.{length, replicate, take}
 use lib.Dec.{eqb, ltb}
 use lib.Ieee.{Float, binary64, ofBits, toBits}
 use Rattle.refusals.specs.Numbers.{malformed-line, slice-too-short}
@@ -21,6 +22,7 @@ use Rattle.machine.specs.Lower.{program}
 use Rattle.machine.specs.Machine.{Answer, Reply, asks, gives, outside, refused, run, spent}
 use Rattle.machine.specs.Compile.{Compiled, accepted, compile, own-context, program-room}
 use Rattle.machine.specs.Compile as Compile
+use Rattle.listing.specs.Totals.{with-total}
 
 -- ---- one line of output
 
@@ -35,8 +37,11 @@ comma = ascii ","
 abbrev pub colon : List ℕ
 colon = ascii ":"
 
+abbrev pub record-text : ℕ → Line → List ℕ
+record-text n l = decimal n ++ comma ++ l .answer ++ comma ++ l .detail ++ comma ++ decimal (l .steps)
+
 abbrev pub printed : ℕ → Line → List ℕ
-printed n l = decimal n ++ comma ++ l .answer ++ comma ++ l .detail ++ comma ++ decimal (l .steps) ++ ascii "\n"
+printed n l = record-text n l ++ ascii "\n"
 
 abbrev pub bits-text : Float → List ℕ
 bits-text x = hex (toBits binary64 x)
@@ -89,9 +94,13 @@ place-text (some p) = text p
 abbrev pub refusal-line : ℕ → Option Path → List ℕ
 refusal-line n place = printed 0 (record { answer = ascii "refused"; detail = decimal n ++ colon ++ place-text place; steps = 0 })
 
+-- "`legs` reads at most 1,000,000 value lines"
+unfoldable pub line-limit : ℕ
+line-limit = 1000000
+
 abbrev pub listed : List (List ℕ) → Compiled → List ℕ
 listed value-lines (Compile.refused n place) = refusal-line n place
-listed value-lines (accepted f symbols) = records (program (own-context symbols) (term f)) 1 value-lines
+listed value-lines (accepted f symbols) = records (program (own-context symbols) (term f)) 1 (take line-limit value-lines)
 
 -- "`legs` takes a `formula.bin` of at most 4,096 bytes"
 abbrev pub formula-room : ℕ
@@ -110,7 +119,8 @@ abbrev pub with-file : Option (List ℕ) → List (List ℕ) → List ℕ
 with-file none lines = refusal-line slice-too-short none
 with-file (some formula) lines = cond (ltb formula-room (length formula)) (refusal-line slice-too-short none) (with-input formula lines)
 
--- the output for a formula file, where there is one that can be read, and standard input
+-- the output for a formula file, where there is one that can be read, and standard input. "A refused formula prints its total line with zeros": that is
+-- what its one line adds up to.
 unfoldable pub legs : Option (List ℕ) → List ℕ → List ℕ
 unfolding values-of compile
-legs file input = header ++ with-file file (lines-of input)
+legs file input = header ++ with-total (with-file file (lines-of input))

@@ -1,2 +1,3 @@
 -- The whole output of the program `legs`.
+pub mod Totals
 pub mod Legs

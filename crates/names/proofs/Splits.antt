@@ -9,6 +9,7 @@ use lib.ListN.{length, getD}
 use lib.Dec.{eqb}
 use borrow.Author.Tests.{eqb-false, ne-eqb, eq-eqb}
 use Rattle.formula.specs.Text.{glue, parted, split, joined}
+use Rattle.formula.specs.Values.{ended, last-line, lines-of}
 use Rattle.names.specs.Lines.{first-of, first-piece, free, prefixed}
 pub use Rattle.formula.proofs.Tests.{no-true, and-first, and-second, and-both}
 
@@ -57,6 +58,24 @@ pub free-from : (c : ℕ) (xs : List ℕ) → ((i : ℕ) → i < length xs → g
 free-from c [] h = refl
 free-from c (x ∷ xs) h =
     and-both (not (eqb x c)) (free c xs) (ap not (ne-eqb x c (h 0 (omega arith)))) (free-from c xs (λ i l. h (suc i) (omega arith)))
+
+pub free-append : (c : ℕ) (xs ys : List ℕ) → free c xs ≡ true → free c ys ≡ true → free c (xs ++ ys) ≡ true
+free-append c [] ys f g = g
+free-append c (y ∷ xs) ys f g =
+    and-both (not (eqb y c)) (free c (xs ++ ys)) (and-first (not (eqb y c)) (free c xs) f) (free-append c xs ys (and-second (not (eqb y c)) (free c xs) f) g)
+
+-- ---- lines
+
+-- "A line ends at a newline byte"
+pub lines-next : (l rest : List ℕ) → free 10 l ≡ true → lines-of (l ++ (10 ∷ rest)) ≡ l ∷ lines-of rest
+lines-next l rest f =
+    ap ended (split-next 10 l rest f)
+    ∙ ap (λ (ps : List (List ℕ)). ended (l ∷ ps)) (pieces 10 rest)
+    ∙ ap (λ (ps : List (List ℕ)). l ∷ ended ps) (sym (pieces 10 rest))
+
+-- "or at the end of the file; nothing after a last newline is no line"
+pub lines-last : (l : List ℕ) → free 10 l ≡ true → lines-of l ≡ last-line l
+lines-last l f = ap ended (split-end 10 l f)
 
 -- ---- every one of them, or none
 

@@ -32,8 +32,8 @@ enum-known-stage-2 c = search needs
 advance-values-requires : tie.Need-advance-values-requires
 advance-values-requires c κs = omega (arith, c .before .before .before .before .before .before .before .if1 .left)
 
-enum-told : tie.Need-enum-told
-enum-told c = search needs
+enum-known-stage-3 : tie.Need-enum-known-stage-3
+enum-known-stage-3 c = search needs
 
 same-length : tie.Need-same-length
 same-length c = search needs
@@ -72,15 +72,16 @@ returns-3 c =
     let a = c .before .before .before .before .before .before .before .before .before .before .before .before .before .before .before .before .before .before .before .before .before .before .before .args in
     let v = c .before .before .before .before .before .before .advance-values in
     subst (λ (s : Stage). Advancing (a .formula .now) (a .input .now) (memory (a .names .now) (a .path .now) (a .program .now) (a .values .now) (a .regs .now)) s
-    (a .out .now) (v .result) (memory (a .names .now) (a .path .now) (a .program .now) (v .last .1 .1 .1 .1 .0) (v .last .1 .1 .1 .1 .1 .0))
-    (v .last .1 .1 .1 .1 .1 .1 .0)) (sym (c .before .before .before .before .before .before .before .before .before .before .before .before .stage2 .given .1)) (v .ensures (a .formula .now) (a .names .now) (a .path .now))
+    (a .out .now) (v .result) (memory (a .names .now) (a .path .now) (a .program .now) (v .last .1 .1 .1 .1 .1 .0) (v .last .1 .1 .1 .1 .1 .1 .0))
+    (v .last .1 .1 .1 .1 .1 .1 .1 .0)) (sym (c .before .before .before .before .before .before .before .before .before .before .before .before .stage2 .given .1)) (v .ensures (a .formula .now) (a .names .now) (a .path .now))
 
 returns-4 : tie.Need-returns-4
 returns-4 c =
-    let a = c .before .before .before .before .before .before .before .before .before .before .before .args in
-    let m = memory (a .names .now) (a .path .now) (a .program .now) (a .values .now) (a .regs .now) in subst (λ (s : Stage). Advancing (a .formula .now) (a .input .now) m s
-    (a .out .now) (record { stage = Variants.Finished; used = length (a .input .now); length = 0 }) m (a .out .now)) (sym (c .enum-told .given .1)) (advance-finished
-    (a .formula .now) (a .input .now) m (a .out .now) (omega (arith, c .before .before .if1 .left)))
+    let a = c .before .before .before .before .before .before .before .before .before .before .before .before .args in
+    let t = c .before .stage3 in
+    let m = memory (a .names .now) (a .path .now) (a .program .now) (a .values .now) (a .regs .now) in
+    subst (λ (s : Stage). Advancing (a .formula .now) (a .input .now) m s (a .out .now) (record { stage = Variants.Finished (t .given .0 .0); used = length (a .input .now); length = 0 }) m (a .out .now)) (sym (t .given .1))
+    (advance-finished (a .formula .now) (a .input .now) m (t .given .0 .0) (a .out .now) (omega (arith, c .before .before .before .if1 .left)))
 
 pub advance-spec : {M : Type 1} → statement M
 advance-spec =
@@ -92,7 +93,7 @@ advance-spec =
     advance-names-requires
     enum-known-stage-2
     advance-values-requires
-    enum-told
+    enum-known-stage-3
     same-length
     same-length-2
     same-length-3

@@ -18,6 +18,9 @@ enum-told c = search needs
 fresh-requires : tie.Need-fresh-requires
 fresh-requires c κs = search needs
 
+no-lines-requires : tie.Need-no-lines-requires
+no-lines-requires c κs = search needs
+
 enum-known-a : tie.Need-enum-known-a
 enum-known-a c = search needs
 
@@ -35,6 +38,9 @@ put-refusal-requires c κs =
     let at-text-length = c .before .before .text-length in
     (c .before .before .before .before .before .before .before .before .before .before .before .before .before .before .before .before .before .before .before .pre, omega (arith, length-take-le (at-text-length .result) (c .before .before .before .before .before .before .before .before .before .before .before .compile .last .1 .1 .0) (at-text-length .ensures .0), at-text-length .ensures .1))
 
+no-lines-requires-2 : tie.Need-no-lines-requires-2
+no-lines-requires-2 c κs = search needs
+
 same-length : tie.Need-same-length
 same-length c = search needs
 
@@ -43,15 +49,14 @@ same-length-2 c = search needs
 
 returns : tie.Need-returns
 returns c =
-    let a = c .before .before .before .before .before .before .before .before .before .before .before .before .before .before .before .args in
-    let shared-slice-known = c .before .before .before .before .before .before .before .before .before .before .before .before .before .before .shared-slice-known in
-    let k = c .before .before .before .before .before .before .before .compile in
+    let a = c .before .before .before .before .before .before .before .before .before .before .before .before .before .before .before .before .args in
+    let shared-slice-known = c .before .before .before .before .before .before .before .before .before .before .before .before .before .before .before .shared-slice-known in
+    let k = c .before .before .before .before .before .before .before .before .compile in
     record {
       built =
           begins-accepted (a .formula .now) (a .names .now) (a .path .now) (a .program .now) (k .last .1 .1 .0) (k .last .1 .1 .1 .0) (a .out .now)
-          (a .out .now) _ (k .result) (k .ensures .0) (c .before .enum-told .given .1) (λ i. omega (arith, shared-slice-known .given i)) (k .ensures .2)
-          (c .fresh .result) (c .fresh .ensures) refl;
-      numbered = omega arith;
+          (a .out .now) _ (k .result) (k .ensures .0) (c .no-lines .result) (c .no-lines .ensures) (c .before .before .enum-told .given .1) (λ i. omega (arith, shared-slice-known .given i)) (k .ensures .2)
+          (c .before .fresh .result) (c .before .fresh .ensures) refl;
       room = omega arith;
       beyond = refl;
       path-is = k .ensures .1;
@@ -69,20 +74,19 @@ same-length-5 c = search needs
 
 returns-2 : tie.Need-returns-2
 returns-2 c =
-    let a = c .before .before .before .before .before .before .before .before .before .before .before .before .before .before .before .before .before .before .before .before .before .before .args in
-    let pre = c .before .before .before .before .before .before .before .before .before .before .before .before .before .before .before .before .before .before .before .before .before .before .pre in
-    let k = c .before .before .before .before .before .before .before .before .before .before .before .before .before .before .compile in
-    let a′ = c .before .before .before .before .before .before .before .before .a in
-    let text-length = c .before .before .before .before .before .text-length in
-    let w = c .before .before .put-refusal in
+    let a = c .before .before .before .before .before .before .before .before .before .before .before .before .before .before .before .before .before .before .before .before .before .before .before .args in
+    let pre = c .before .before .before .before .before .before .before .before .before .before .before .before .before .before .before .before .before .before .before .before .before .before .before .pre in
+    let k = c .before .before .before .before .before .before .before .before .before .before .before .before .before .before .before .compile in
+    let a′ = c .before .before .before .before .before .before .before .before .before .a in
+    let text-length = c .before .before .before .before .before .before .text-length in
+    let w = c .before .before .before .put-refusal in
     let h : w .result ≤ length (a .out .now) = omega (arith, w .ensures .1, pre) in
     record {
       built =
           begins-refused (a .formula .now) (a .names .now) (a .path .now) (a .program .now) (k .last .1 .1 .0) (k .last .1 .1 .1 .0) (a .out .now) (w .last .0)
-          _ (k .result) (k .ensures .0) (a′ .given .0 .0) (text-length .result) (w .result) (a′ .given .1) (k .ensures .1) (k .kept .1 .1 .0)
+          _ (k .result) (k .ensures .0) (c .no-lines2 .result) (c .no-lines2 .ensures) (a′ .given .0 .0) (text-length .result) (w .result) (a′ .given .1) (k .ensures .1) (k .kept .1 .1 .0)
           (text-length .ensures) (w .ensures .0) refl;
-      numbered = omega arith;
-      room = h;
+      room = w .ensures .1;
       beyond = drop-wrote (a .out .now) 0 _ (w .last .0) (w .result) (w .ensures .0) h;
       path-is = k .ensures .1;
       program-is = k .ensures .2;
@@ -95,11 +99,13 @@ begin-spec =
     compile-requires
     enum-told
     fresh-requires
+    no-lines-requires
     enum-known-a
     text-length-requires
     slice-reshare-prefix-put-refusal
     slice-aggregate-put-refusal
     put-refusal-requires
+    no-lines-requires-2
     same-length
     same-length-2
     returns

@@ -3,6 +3,7 @@ use Rattle.lines.specs.Calls.{Finishing}
 use Rattle.lines.specs.Owed.{memory}
 use Rattle.lines.specs.declared.Stage.{Stage}
 use mathlib.Core.Path.{sym, subst}
+use native.Mathlib.Omega.{arith}
 use borrow.Author.Needs.{needs}
 use Rattle.lines.proofs.finish.Statement.{statement}
 use Rattle.lines.proofs.finish.Tie as tie
@@ -22,8 +23,11 @@ enum-known-stage-2 c = search needs
 finish-values-requires : tie.Need-finish-values-requires
 finish-values-requires c κs = c .before .before .before .before .before .before .before .if1 .left
 
-enum-told : tie.Need-enum-told
-enum-told c = search needs
+enum-known-stage-3 : tie.Need-enum-known-stage-3
+enum-known-stage-3 c = search needs
+
+put-total-requires : tie.Need-put-total-requires
+put-total-requires c κs = omega (arith, c .before .before .before .before .if1 .left)
 
 same-length : tie.Need-same-length
 same-length c = search needs
@@ -59,14 +63,19 @@ returns-3 c =
     let a = c .before .before .before .before .before .before .before .before .before .before .before .before .before .before .before .before .before .before .before .before .before .before .args in
     let v = c .before .before .before .before .before .before .finish-values in
     subst (λ (s : Stage). Finishing (a .formula .now) (memory (a .names .now) (a .path .now) (a .program .now) (a .values .now) (a .regs .now)) s (a .out .now) (v .result)
-    (memory (a .names .now) (a .path .now) (a .program .now) (v .last .1 .1 .1 .0) (v .last .1 .1 .1 .1 .0)) (v .last .1 .1 .1 .1 .1 .0)) (sym (c .before .before .before .before .before .before .before .before .before .before .before .before .stage2 .given .1))
+    (memory (a .names .now) (a .path .now) (a .program .now) (v .last .1 .1 .1 .1 .0) (v .last .1 .1 .1 .1 .1 .0)) (v .last .1 .1 .1 .1 .1 .1 .0)) (sym (c .before .before .before .before .before .before .before .before .before .before .before .before .stage2 .given .1))
     (v .ensures (a .formula .now) (a .names .now) (a .path .now))
+
+same-length-8 : tie.Need-same-length-8
+same-length-8 c = search needs
 
 returns-4 : tie.Need-returns-4
 returns-4 c =
-    let a = c .before .before .before .before .before .before .before .before .before .before .args in
-    let m = memory (a .names .now) (a .path .now) (a .program .now) (a .values .now) (a .regs .now) in subst (λ (s : Stage). Finishing (a .formula .now) m s (a .out .now) 0 m
-    (a .out .now)) (sym (c .enum-told .given .1)) (finish-finished (a .formula .now) m (a .out .now) (c .before .before .if1 .left))
+    let a = c .before .before .before .before .before .before .before .before .before .before .before .before .before .before .before .args in
+    let w = c .before .before .put-total in
+    let m = memory (a .names .now) (a .path .now) (a .program .now) (a .values .now) (a .regs .now) in
+    subst (λ (s : Stage). Finishing (a .formula .now) m s (a .out .now) (w .result) m (w .last .0)) (sym (c .before .before .before .before .before .stage3 .given .1))
+    (finish-finished (a .formula .now) m _ (a .out .now) (w .last .0) (w .result) (omega (arith, c .before .before .before .before .before .before .before .if1 .left)) (w .ensures .0) (w .ensures .1))
 
 pub finish-spec : {M : Type 1} → statement M
 finish-spec =
@@ -77,7 +86,8 @@ finish-spec =
     finish-names-requires
     enum-known-stage-2
     finish-values-requires
-    enum-told
+    enum-known-stage-3
+    put-total-requires
     same-length
     same-length-2
     same-length-3
@@ -87,4 +97,5 @@ finish-spec =
     same-length-6
     same-length-7
     returns-3
+    same-length-8
     returns-4)

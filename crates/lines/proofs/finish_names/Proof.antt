@@ -17,6 +17,12 @@ slice-aggregate-begin c = sym (length-take-le (c .before .before .before .before
 begin-requires : tie.Need-begin-requires
 begin-requires c κs = omega (arith, c .before .before .before .before .before .before .before .before .before .before .pre)
 
+no-lines-requires : tie.Need-no-lines-requires
+no-lines-requires c κs = search needs
+
+put-total-requires : tie.Need-put-total-requires
+put-total-requires c κs = omega (arith, c .before .before .before .before .before .before .before .before .before .before .before .before .before .before .before .before .before .before .before .pre, c .before .before .before .before .before .before .before .before .begin .ensures .room, c .before .before .before .before .before .before .before .before .begin .kept .1 .1 .1 .1 .0)
+
 same-length : tie.Need-same-length
 same-length c = search needs
 
@@ -28,10 +34,12 @@ same-length-3 c = search needs
 
 returns-2 : tie.Need-returns-2
 returns-2 c =
-    let a = c .before .before .before .before .before .before .before .before .before .before .before .before .before .before .before .before .before .args in
-    let b = c .before .before .before .before .before .before .begin in
-    λ values regs. names-last (a .formula .now) (a .k) (a .names .now) (a .path .now) (a .program .now) (a .out .now) (c .before .before .before .before .before .before .before .before .before .before .before .before .before .before .before .before .before .pre) values regs (c .before .before .before .before .before .before .before .before .before .before .before .if1 .left) (b .last .1 .1 .0)
-    (b .last .1 .1 .1 .0) (b .last .1 .1 .1 .1 .0) (b .result) (b .ensures)
+    let a = c .before .before .before .before .before .before .before .before .before .before .before .before .before .before .before .before .before .before .before .before .before .before .args in
+    let b = c .before .before .before .before .before .before .before .before .before .before .before .begin in
+    let n = c .before .before .before .no-lines in
+    let w = c .before .before .put-total in
+    λ values regs. names-last (a .formula .now) (a .k) (a .names .now) (a .path .now) (a .program .now) (a .out .now) (c .before .before .before .before .before .before .before .before .before .before .before .before .before .before .before .before .before .before .before .before .before .before .pre) values regs (c .before .before .before .before .before .before .before .before .before .before .before .before .before .before .before .before .if1 .left) (b .last .1 .1 .0)
+    (b .last .1 .1 .1 .0) (b .last .1 .1 .1 .1 .0) (b .result) (b .ensures) (b .kept .1 .1 .1 .1 .0) (n .result) (n .ensures) (w .last .0) (w .result) (w .ensures .0) (w .ensures .1)
 
 pub finish-names-spec : {M : Type 1} → statement M
 finish-names-spec =
@@ -40,6 +48,8 @@ finish-names-spec =
     returns
     slice-aggregate-begin
     begin-requires
+    no-lines-requires
+    put-total-requires
     same-length
     same-length-2
     same-length-3

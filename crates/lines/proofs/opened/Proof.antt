@@ -1,6 +1,4 @@
 use Rattle.lines.proofs.Stages.{opens-long, opens-names, opens-none}
-use Rattle.lines.specs.Owed.{line-number}
-use mathlib.Core.Path.{refl, ap}
 use native.Mathlib.Omega.{arith}
 use borrow.Author.Needs.{needs}
 use Rattle.lines.proofs.opened.Statement.{statement}
@@ -9,7 +7,7 @@ use Rattle.lines.proofs.opened.Tie as tie
 returns : tie.Need-returns
 returns c =
     let at-args = c .before .before .before .before .args in
-    (opens-names (at-args .readable) (at-args .formula .now) (at-args .out .now) (at-args .at) (c .before .if1 .taken) (c .if2 .taken), (omega (arith, c .before .before .before .before .pre), refl))
+    (opens-names (at-args .readable) (at-args .formula .now) (at-args .out .now) (at-args .at) (c .before .if1 .taken) (c .if2 .taken), omega (arith, c .before .before .before .before .pre))
 
 put-missing-requires : tie.Need-put-missing-requires
 put-missing-requires c κs = search needs
@@ -23,7 +21,7 @@ returns-2 c =
     let at-put-missing = c .before .before .put-missing in (
       opens-long (at-args .readable) (at-args .formula .now) (c .before .before .before .before .before .if1 .taken) (c .before .before .before .before .if2 .left) (at-put-missing .result) (at-args .out .now) (at-args .at) (at-put-missing .last .0)
           (at-put-missing .ensures .0),
-      (at-put-missing .ensures .1, ap line-number (at-put-missing .ensures .0 .0)),
+      at-put-missing .ensures .1,
     )
 
 put-missing-requires-2 : tie.Need-put-missing-requires-2
@@ -38,7 +36,7 @@ returns-3 c =
     let at-put-missing2 = c .before .before .put-missing2 in (
       opens-none (at-args .readable) (at-args .formula .now) (c .before .before .before .before .if1 .left) (at-put-missing2 .result) (at-args .out .now) (at-args .at) (at-put-missing2 .last .0)
           (at-put-missing2 .ensures .0),
-      (at-put-missing2 .ensures .1, ap line-number (at-put-missing2 .ensures .0 .0)),
+      at-put-missing2 .ensures .1,
     )
 
 pub opened-spec : {M : Type 1} → statement M

@@ -11,6 +11,9 @@ use std::path::Path;
 /// Bytes that are read of a table.
 const TABLE: u64 = 1 << 30;
 
+/// Lines of values that `legs` lists at most.
+const LISTED: usize = 1_000_000;
+
 /// `check FILE`: the formula compiles, or why not.
 pub fn check(file: &str) -> Result<Output, Failure> {
     let loaded = load(file)?;
@@ -111,5 +114,6 @@ pub fn pack(file: &str, values: &str, folder: &str) -> Result<Output, Failure> {
     write(&folder.join("counts.txt"), format!("{}\n", loaded.formula.counts).as_bytes())?;
     let lines = counted(rows.len(), "line");
     let text = format!("{}: formula.bin ({} bytes), input ({lines} of values), counts.txt\n", folder.display(), loaded.bytes.len());
-    Ok(Output { text, ..Output::default() })
+    let errors = if rows.len() > LISTED { format!("{}: legs lists the first {LISTED} lines only\n", folder.display()) } else { String::new() };
+    Ok(Output { text, errors, ..Output::default() })
 }

@@ -1,5 +1,6 @@
 //! `show FOLDER`: what an operator sent, as text, with decimals beside the bits.
 use crate::bytes::{self, Malformed};
+use crate::commands::counted;
 use crate::explain;
 use crate::files::{read, Failure, Output, LARGEST, REFUSED};
 use crate::names::Names;
@@ -110,9 +111,12 @@ fn answers(lines: &[Vec<u8>], tree: &Tree, names: &Names) -> String {
     if out.is_empty() { out } else { format!("\n# output of legs\n{out}") }
 }
 
-/// What a line of the output says: the value in decimals, the part without a value, the question, or the refusal.
+/// What a line of the output says: the value in decimals, the part without a value, the question, the refusal, or the total.
 fn said(line: &str, tree: &Tree, names: &Names) -> String {
     let cells: Vec<&str> = line.split(',').collect();
+    if let ["total", counts @ ..] = cells.as_slice() {
+        return total(counts).unwrap_or_default();
+    }
     let [_, answer, detail, _] = cells.as_slice() else {
         return String::new();
     };
@@ -126,6 +130,14 @@ fn said(line: &str, tree: &Tree, names: &Names) -> String {
         "refused" => detail.split_once(':').map_or(String::new(), |(_, path)| part(path)),
         _ => String::new(),
     }
+}
+
+/// The counts of the total line in words. An older build of `legs` printed no such line.
+fn total(counts: &[&str]) -> Option<String> {
+    let counts = counts.iter().map(|count| count.parse().ok()).collect::<Option<Vec<usize>>>()?;
+    let [values, domains, asks, bad, steps] = counts.try_into().ok()?;
+    let (values, without, asks) = (counted(values, "value"), counted(domains, "line"), counted(asks, "question"));
+    Some(format!("{values}, {without} without one, {asks}, {}, {}", counted(bad, "bad line"), counted(steps, "step")))
 }
 
 /// A question, `16:BITS:BITS` or `F:BITS`, with its arguments in decimals.

@@ -218,7 +218,7 @@ fn random_files() {
         ("values.csv", b"a,b\n1,2\n-3,4e5\n0,0\n"),
         ("formula.bin", &encode(&tree(&mut Random::new(6), 5))),
         ("input", b"a:p,b:i\n3ff0000000000000,4000000000000000\n"),
-        ("output", b"no,answer,detail,steps\n1,value,4085900000000000,9\n2,domain,root.arguments[1],7\n3,ask,16:4069000000000000:4000000000000000,1\n"),
+        ("output", b"no,answer,detail,steps\n1,value,4085900000000000,9\n2,domain,root.arguments[1],7\n3,ask,16:4069000000000000:4000000000000000,1\ntotal,1,1,1,0,17\n"),
     ];
     let mut random = Random::new(7);
     for _ in 0..3_000 {
