@@ -11,7 +11,7 @@ use Rattle.arithmetic.specs.Round.{floor, ceil}
 use Rattle.arithmetic.specs.Root.{sqrt-at}
 use Rattle.arithmetic.specs.Extremum.{hold}
 use Rattle.formula.specs.Text.{ascii, half-at, word-at, long-at}
-use Rattle.formula.specs.Operator.{Operation, unary, binary, compare, call, Binary, Add, Multiply, Divide, Power, Modulo, Lt, Hill, Sqrt, Ceil}
+use Rattle.formula.specs.Operator.{Operation, unary, binary, compare, call, Binary, Add, Multiply, Divide, Power, Modulo, Lt, Exp, Hill, Sqrt, Ceil}
 use Rattle.formula.specs.Formula.{Formula, Formulas, Head, node, last, next, number, symbol, operation, conditional, size, of-list}
 use Rattle.formula.specs.Node.{encode, formula-of, tree-in, head-at, head-of, fields-at, node-bytes}
 use Rattle.formula.specs.Names.{Symbol, symbols-of}
@@ -129,3 +129,26 @@ pub flights :
     × (closed (node (operation (call Ceil)) (of-list (lit 0xbfe0000000000000 ∷ []))) ≡ (gives (float 0x8000000000000000), 2))
 unfolding add sub mul div rem neg lt le eq ne ofBits toBits round whole absolute floor ceil sqrt-at hold half-at word-at long-at encode formula-of tree-in head-at head-of fields-at node-bytes symbols-of values-of hill-work density-work compile less-one derive line-limit legs
 flights = (refl, refl, refl, refl, refl, refl, refl, refl, refl, refl, refl, refl, refl)
+
+-- ---- the total line
+
+-- Conditional(a < 1, 1 / a, Exp(a))
+abbrev choosing : Formula
+choosing =
+    node conditional
+    (of-list (node (operation (compare Lt)) (of-list (sym 0 ∷ lit 1e0 ∷ [])) ∷ of2 Divide (lit 1e0) (sym 0) ∷ node (operation (call Exp)) (of-list (sym 0 ∷ [])) ∷ []))
+
+abbrev listing-of : Formula → List ℕ → List ℕ
+listing-of f lines = legs (some (encode f)) lines
+
+-- "decimal counts of the value, domain, ask and bad lines and the sum of their steps .. with the empty list giving five zeros. A refused formula prints its
+-- total line with zeros."
+pub totals :
+    (listing-of choosing (ascii "a:p\nbff0000000000000\n0000000000000000\n4000000000000000\nx\n\n")
+    ≡ ascii "no,answer,detail,steps\n1,value,bff0000000000000,9\n2,domain,root.then,6\n3,ask,0:4000000000000000,5\n4,bad,3,0\n5,bad,5,0\ntotal,1,1,1,2,20\n")
+    × (listing-of (lit 1e0) (ascii "\n\n\n") ≡ ascii "no,answer,detail,steps\n1,value,3ff0000000000000,1\n2,value,3ff0000000000000,1\ntotal,2,0,0,0,2\n")
+    × (listing-of (lit 1e0) [] ≡ ascii "no,answer,detail,steps\ntotal,0,0,0,0,0\n")
+    × (listing-of (sym 0) (ascii "\n") ≡ ascii "no,answer,detail,steps\n0,refused,6:root,0\ntotal,0,0,0,0,0\n")
+    × (legs none (ascii "a:p\n") ≡ ascii "no,answer,detail,steps\n0,refused,1:,0\ntotal,0,0,0,0,0\n")
+unfolding add sub mul div rem neg lt le eq ne ofBits toBits round whole absolute half-at word-at long-at encode formula-of tree-in head-at head-of fields-at node-bytes symbols-of values-of compile line-limit legs
+totals = (refl, refl, refl, refl, refl)

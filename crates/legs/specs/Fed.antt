@@ -1,10 +1,10 @@
 -- What the functions of `legs` ask of the memory that they are lent, and what comes of the input that they hand on.
 use mathlib.Core.Path.{_≡_}
 use mathlib.Core.List.{List}
-use Prim.Native.Nat.{ℕ, _+_, _≤_}
+use Prim.Native.Nat.{ℕ, _≤_}
 use lib.ListN.{length}
 use Rattle.lines.specs.declared.Stage.{Stage}
-use Rattle.lines.specs.Owed.{Advances, Memory, Roomy, Stands, line-number, output-room}
+use Rattle.lines.specs.Owed.{Advances, Memory, Roomy, Stands, output-room}
 use Rattle.legs.specs.declared.Fed.{Fed}
 use Rattle.legs.specs.declared.Fed.the-variants.{Closed, On, TooLong}
 
@@ -15,21 +15,18 @@ pub record Lent (block : List ℕ) (m : Memory) (out : List ℕ) : Type 0 where
   pub roomy : Roomy m
   pub room : output-room ≤ length out
   pub some : 1 ≤ length block
-  pub small : length block ≤ 65536
 
--- the same with a stage that stands, before any line of values
+-- the same with a stage that stands
 pub record Feedable-all (formula block : List ℕ) (m : Memory) (s : Stage) (out : List ℕ) : Type 0 where
   pub stands : Stands formula m s
-  pub unnumbered : line-number s ≡ 0
   pub room : output-room ≤ length out
   pub some : 1 ≤ length block
-  pub small : length block ≤ 65536
 
 -- ---- what comes of it
 
 -- All of a block was used, in parts, and some text came of it. Otherwise a write failed; what it wrote no contract can say.
 abbrev pub Feeds : List ℕ → Memory → Stage → List ℕ → Memory → Fed → Type 0
-Feeds formula m s input m′ (On s′) = (text : List ℕ) × Advances formula m s input m′ s′ text × (line-number s′ ≤ line-number s + length input)
+Feeds formula m s input m′ (On s′) = (text : List ℕ) × Advances formula m s input m′ s′ text
 Feeds formula m s input m′ Closed = Unit {0}
 Feeds formula m s input m′ TooLong = ⊥
 

@@ -77,7 +77,7 @@ fn feed(
     regs: &mut [f64],
     out: &mut [u8],
 ) -> Fed
-    requires { ⌜ Feedable (now formula) (now input) (memory (now names) (now path) (now program) (now values) (now regs)) start (now out) ⌝ }
+    requires { ⌜ Feedable (now formula) (memory (now names) (now path) (now program) (now values) (now regs)) start (now out) ⌝ }
     ensures { λ r. ⌜ Feeds (now (formula .entry)) (memory (now (names .entry)) (now (path .entry)) (now (program .entry)) (now (values .entry)) (now (regs .entry))) start (now (input .entry)) (memory (now (names .exit)) (now (path .exit)) (now (program .exit)) (now (values .exit)) (now (regs .exit))) r ⌝ }
 {
     let mut stage = start;

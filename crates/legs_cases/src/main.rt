@@ -68,7 +68,7 @@ fn feed(
     all: &mut [u8],
     from: usize,
 ) -> Fed
-    requires { ⌜ Feedable (now formula) (now input) (memory (now names) (now path) (now program) (now values) (now regs)) start (now out) × (from ≤ length (now all)) ⌝ }
+    requires { ⌜ Feedable (now formula) (memory (now names) (now path) (now program) (now values) (now regs)) start (now out) × (from ≤ length (now all)) ⌝ }
     ensures { λ r. ⌜ Feeds-all (now (formula .entry)) (memory (now (names .entry)) (now (path .entry)) (now (program .entry)) (now (values .entry)) (now (regs .entry))) start (now (input .entry)) (memory (now (names .exit)) (now (path .exit)) (now (program .exit)) (now (values .exit)) (now (regs .exit))) (now (all .entry)) from r (now (all .exit)) ⌝ }
 {
     let mut stage = start;
@@ -112,7 +112,7 @@ fn list_in(
     out: &mut [u8],
     all: &mut [u8],
 ) -> Listing
-    requires { ⌜ Roomy (memory (now names) (now path) (now program) (now values) (now regs)) × (8242 ≤ length (now out)) ⌝ }
+    requires { ⌜ Roomy (memory (now names) (now path) (now program) (now values) (now regs)) × (8353 ≤ length (now out)) ⌝ }
     ensures { λ r. ⌜ Lists readable (now (formula .entry)) (now (input .entry)) (now (all .entry)) r (now (all .exit)) ⌝ }
 {
     let b = lines::start(readable, formula, out);

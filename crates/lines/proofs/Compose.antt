@@ -3,6 +3,8 @@ use mathlib.Core.Path.{_≡_, refl, sym, ap, _∙_}
 use mathlib.Core.List.{List, [], _++_, append-assoc, append-nil}
 use Prim.Native.Nat.{ℕ}
 use Rattle.lines.specs.declared.Stage.{Stage}
+use Rattle.lines.specs.declared.Stage.the-variants.{Finished}
+use Rattle.lines.specs.declared.sums.Totals.{Totals}
 use Rattle.lines.specs.Owed.{Advances, Begins, Ends, Memory, Roomy, Stands, file-of}
 use Rattle.listing.specs.Legs.{legs}
 use mathlib.Core.Bool.{Bool}
@@ -40,3 +42,11 @@ whole-output readable formula m m′ s s′ input first middle last roomy b a e 
     x .2 input
     ∙ ap (λ (xs : List ℕ). first ++ x .0 xs) (sym (append-nil input))
     ∙ ap (λ (xs : List ℕ). first ++ xs) (y .2 [] ∙ ap (λ (xs : List ℕ). middle ++ xs) (e (y .0) (y .1)))
+
+-- At the end the output is the same whatever input follows, so that a caller need not read on.
+pub whole-early : (readable : Bool) (formula : List ℕ) (m m′ : Memory) (s : Stage) (t : Totals) (input first middle last : List ℕ) → Roomy m → Begins readable formula s first
+    → Advances formula m s input m′ (Finished t) middle → Ends formula m′ (Finished t) last → (more : List ℕ) → legs (file-of readable formula) (input ++ more) ≡ first ++ (middle ++ last)
+whole-early readable formula m m′ s t input first middle last roomy b a e more =
+    let x = b m roomy in
+    let y = a (x .0) (x .1) in
+    x .2 (input ++ more) ∙ ap (λ (xs : List ℕ). first ++ xs) (y .2 more ∙ ap (λ (xs : List ℕ). middle ++ xs) (y .1 more ∙ sym (y .1 []) ∙ e (y .0) (y .1)))

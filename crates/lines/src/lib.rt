@@ -31,6 +31,7 @@ const LINE_LIMIT: u64 = 1000000;
 
 // The bytes of output that every call needs: those of the longest record, and 111 for the total line.
 const OUTPUT_ROOM: usize = 8353;
+
 const RECORD_ROOM: usize = 8242;
 
 // Where a listing stands: in the name line, of which so many bytes are kept; in the line of values with this number, as far
@@ -372,7 +373,16 @@ pub fn advance(
     }
     match stage {
         Stage::Names(k) => advance_names(formula, input, k, names, path, program, out),
-        Stage::Values(number, s, t) => advance_values(input, number, s, t, program, values, regs, out),
+        Stage::Values(number, s, t) => advance_values(
+            input,
+            number,
+            s,
+            t,
+            program,
+            values,
+            regs,
+            out,
+        ),
         Stage::Finished(t) => Advanced {
             stage: Stage::Finished(t),
             used: input.len(),

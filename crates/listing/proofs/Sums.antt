@@ -1,4 +1,4 @@
--- What the records of a listing add up to: each is in exactly one column, and the total of two texts of whole lines is the sum of theirs.
+-- What texts add up to: whole lines before others, a record before others, a refusal, and the records of a listing, of which each is in exactly one column.
 use mathlib.Core.Path.{_≡_, refl, sym, ap, _∙_}
 use mathlib.Core.Bool.{cond}
 use mathlib.Core.List.{List, [], _∷_, _++_, append-nil, map}
@@ -11,7 +11,7 @@ use lib.Seq.{take-take}
 use lib.Dec.{ltb}
 use lib.Ieee.{Float, binary64, ofBits}
 use Rattle.refusals.specs.Numbers.{malformed-line, slice-too-short}
-use Rattle.formula.specs.Text.{ascii, decimal}
+use Rattle.formula.specs.Text.{ascii, decimal, split}
 use Rattle.formula.specs.Values.{lines-of, values-of}
 use Rattle.formula.specs.Path.{Path, path-room}
 use Rattle.formula.specs.Term.{term}
@@ -22,7 +22,8 @@ use Rattle.machine.specs.Compile as Compile
 use Rattle.machine.specs.Lower.{program}
 use Rattle.machine.proofs.Progress.{run-lawful}
 use Rattle.listing.specs.Legs.{Line, colon, compiled, formula-room, header, legs, line-limit, line-of, listed, place-text, printed, records, refusal-line, value-record, with-file, with-input, zero-registers}
-use Rattle.listing.specs.Totals.{Totals, add-up, nothing, plus, total-line, with-total}
+use Rattle.names.proofs.Splits.{lines-parted}
+use Rattle.listing.specs.Totals.{Totals, add-up, counted, nothing, plus, total-line, with-total}
 use Rattle.listing.proofs.Answers.{Known, value-known}
 use Rattle.listing.proofs.Fields.{Plain, counted-is, line-plain, of-line, plain-append, plain-decimal, plain-place, record-line}
 
@@ -48,6 +49,17 @@ nothing-plus a = same-totals (plus nothing a) a (omega arith) (omega arith) (ome
 
 pub plus-nothing : (a : Totals) → plus a nothing ≡ a
 plus-nothing a = same-totals (plus a nothing) a (omega arith) (omega arith) (omega arith) (omega arith) (omega arith)
+
+add-append : (ls ms : List (List ℕ)) → add-up (ls ++ ms) ≡ plus (add-up ls) (add-up ms)
+add-append [] ms = sym (nothing-plus (add-up ms))
+add-append (l ∷ ls) ms = ap (plus (counted l)) (add-append ls ms) ∙ sym (plus-assoc (counted l) (add-up ls) (add-up ms))
+
+-- adding up is additive over whole lines
+pub whole-lines : (a b : List ℕ) → add-up (lines-of (a ++ (10 ∷ b))) ≡ plus (add-up (lines-of (a ++ (10 ∷ [])))) (add-up (lines-of b))
+whole-lines a b =
+    ap add-up (lines-parted a b)
+    ∙ add-append (split 10 a) (lines-of b)
+    ∙ ap (λ (ls : List (List ℕ)). plus (add-up ls) (add-up (lines-of b))) (sym (lines-parted a [] ∙ append-nil (split 10 a)))
 
 -- ---- a record before others
 

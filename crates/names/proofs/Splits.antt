@@ -73,6 +73,30 @@ lines-next l rest f =
     ∙ ap (λ (ps : List (List ℕ)). ended (l ∷ ps)) (pieces 10 rest)
     ∙ ap (λ (ps : List (List ℕ)). l ∷ ended ps) (sym (pieces 10 rest))
 
+parted-append : (t : Bool) (x : ℕ) (p : List ℕ) (ps qs : List (List ℕ)) → parted t x (p ∷ ps ++ qs) ≡ parted t x (p ∷ ps) ++ qs
+parted-append true x p ps qs = refl
+parted-append false x p ps qs = refl
+
+split-append : (c : ℕ) (xs ys : List ℕ) → split c (xs ++ (c ∷ ys)) ≡ split c xs ++ split c ys
+split-append c [] ys = ap (λ (t : Bool). parted t c (split c ys)) (eq-eqb c c refl)
+split-append c (x ∷ xs) ys =
+    let e = pieces c xs in
+    ap (parted (eqb x c) x) (split-append c xs ys ∙ ap (λ (ps : List (List ℕ)). ps ++ split c ys) e)
+    ∙ parted-append (eqb x c) x (first-piece c xs) (later-pieces c xs) (split c ys)
+    ∙ ap (λ (ps : List (List ℕ)). parted (eqb x c) x ps ++ split c ys) (sym e)
+
+ended-append : (ps : List (List ℕ)) (q : List ℕ) (qs : List (List ℕ)) → ended (ps ++ (q ∷ qs)) ≡ ps ++ ended (q ∷ qs)
+ended-append [] q qs = refl
+ended-append (p ∷ []) q qs = refl
+ended-append (p ∷ p′ ∷ ps) q qs = ap (λ (ls : List (List ℕ)). p ∷ ls) (ended-append (p′ ∷ ps) q qs)
+
+-- the lines up to a newline, and those after it
+pub lines-parted : (a b : List ℕ) → lines-of (a ++ (10 ∷ b)) ≡ split 10 a ++ lines-of b
+lines-parted a b =
+    ap ended (split-append 10 a b ∙ ap (λ (ps : List (List ℕ)). split 10 a ++ ps) (pieces 10 b))
+    ∙ ended-append (split 10 a) (first-piece 10 b) (later-pieces 10 b)
+    ∙ ap (λ (ps : List (List ℕ)). split 10 a ++ ended ps) (sym (pieces 10 b))
+
 -- "or at the end of the file; nothing after a last newline is no line"
 pub lines-last : (l : List ℕ) → free 10 l ≡ true → lines-of l ≡ last-line l
 lines-last l f = ap ended (split-end 10 l f)

@@ -36,11 +36,9 @@ feed-all-requires c κs =
     let m = memory (a .names .now) (a .path .now) (a .program .now) (a .values .now) (a .regs .now) in record {
       stands = stands-first (a .readable) (a .formula .now) m
           (b .result .stage) (take (b .result .length) (b .last .1 .1 .0)) (p .roomy) (b .ensures .begins (p .room));
-      unnumbered = b .ensures .unnumbered;
       room = omega
           (arith, b .kept .1 .1 .0, p .room);
       some = p .some;
-      small = p .small;
     }
 
 enum-known-fed : tie.Need-enum-known-fed

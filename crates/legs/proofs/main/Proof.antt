@@ -47,7 +47,7 @@ slice-aggregate-list-8 : tie.Need-slice-aggregate-list-8
 slice-aggregate-list-8 c = search needs
 
 list-requires : tie.Need-list-requires
-list-requires c κs = record { roomy = record { names = omega arith; path = refl; program = refl; values = omega arith; regs = omega arith }; room = omega arith; some = omega arith; small = omega arith }
+list-requires c κs = record { roomy = record { names = omega arith; path = refl; program = refl; values = omega arith; regs = omega arith }; room = omega arith; some = omega arith }
 
 enum-told : tie.Need-enum-told
 enum-told c = search needs
@@ -80,7 +80,7 @@ slice-aggregate-list-16 : tie.Need-slice-aggregate-list-16
 slice-aggregate-list-16 c = search needs
 
 list-requires-2 : tie.Need-list-requires-2
-list-requires-2 c κs = record { roomy = record { names = omega arith; path = refl; program = refl; values = omega arith; regs = omega arith }; room = omega arith; some = omega arith; small = omega arith }
+list-requires-2 c κs = record { roomy = record { names = omega arith; path = refl; program = refl; values = omega arith; regs = omega arith }; room = omega arith; some = omega arith }
 
 returns : tie.Need-returns
 returns c = search needs

@@ -43,7 +43,6 @@ returns c =
 feed-requires : tie.Need-feed-requires
 feed-requires c κs =
     let a = c .before .before .before .before .before .before .before .before .before .before .before .before .before .before .before .before .before .before .before .before .before .before .before .before .before .before .before .before .args in
-    let good = c .before .before .before .before .before .before .before .before .before .before .before .before .before .before .before .before .before .before .before .before .before .before .before .before .before .before .before .before .good in
     let pre = c .before .before .before .before .before .before .before .before .before .before .before .before .before .before .before .before .before .before .before .before .before .before .before .before .before .before .before .before .pre in
     let b = c .before .before .before .before .before .before .before .before .before .before .before .before .before .before .before .before .before .start in
     let add = c .before .before .before .before .before .before .before .before .before .before .before .before .add in
@@ -52,7 +51,6 @@ feed-requires c κs =
       record {
         stands = stands-first (a .readable) (a .formula .now) m (b .result .stage) (take (b .result .length) (b .last .1 .1 .0)) (pre .0) (b .ensures .begins (pre .1));
         room = omega (arith, b .kept .1 .1 .0, pre .1);
-        numbers = omega (arith, b .ensures .unnumbered, good .1 .1 .0 .0);
       },
       omega (
         arith,
