@@ -28,7 +28,7 @@ use Rattle.compile.specs.Entry.{answer}
 use Rattle.compile.specs.declared.Answer.{Answer}
 use Rattle.compile.specs.declared.Answer.the-variants as Answer
 use Rattle.compile.proofs.Back.{accepted-parts, reads-back}
-use Rattle.listing.specs.Legs.{compiled, place-text, printed}
+use Rattle.listing.specs.Legs.{compiled, place-text, printed, refused-as}
 use Rattle.listing.specs.Totals.{nothing}
 use Rattle.lines.specs.declared.Begun.{Begun}
 use Rattle.lines.specs.declared.Stage.{Stage}
@@ -37,7 +37,7 @@ use Rattle.lines.specs.declared.sums.Totals.{Totals}
 use Rattle.lines.specs.declared.values.Reading.{Reading}
 use Rattle.lines.specs.Reading.{Starts}
 use Rattle.lines.specs.Record.{Ready}
-use Rattle.lines.specs.Text.{Wrote, refused-as}
+use Rattle.lines.specs.Text.{Wrote}
 use Rattle.lines.specs.Sums.{totals-of}
 use Rattle.lines.specs.Owed.{Compiled-as, Compiles, Text-length}
 use Rattle.lines.proofs.Places.{free-place, place-stands, place-taken}

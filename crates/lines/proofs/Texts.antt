@@ -16,9 +16,9 @@ use Rattle.machine.specs.Machine.{Answer, asks, gives, outside, refused, spent}
 use Rattle.writer.specs.Over.{over}
 use Rattle.writer.proofs.Over.{next-over, over-length, over-over}
 use Rattle.writer.proofs.Decimal.{decimal-length-le}
-use Rattle.listing.specs.Legs.{Line, bits-text, colon, comma, line-of, printed}
+use Rattle.listing.specs.Legs.{Line, bits-text, colon, comma, line-of, printed, refused-as}
 use Rattle.listing.specs.Totals.{Totals, total-line}
-use Rattle.lines.specs.Text.{Wrote, refused-as, shown}
+use Rattle.lines.specs.Text.{Wrote, shown}
 use Rattle.lines.proofs.Eights.{hex-halves}
 
 -- ---- lengths

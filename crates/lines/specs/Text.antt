@@ -3,11 +3,10 @@ use mathlib.Core.Path.{_≡_}
 use mathlib.Core.List.{List, _++_}
 use Prim.Native.Nat.{ℕ, _+_, _≤_}
 use lib.ListN.{length, drop}
-use Rattle.formula.specs.Text.{ascii, decimal}
 use Rattle.writer.specs.Over.{over}
 use Rattle.run.specs.declared.Answer.{Answer}
 use Rattle.run.specs.Views.{answer-of}
-use Rattle.listing.specs.Legs.{Line, colon, comma, line-of}
+use Rattle.listing.specs.Legs.{Line, comma, line-of}
 
 -- a text stands over a part of the slice, whose other bytes are as they were; the end is given
 pub record Wrote (out : List ℕ) (at : ℕ) (xs out′ : List ℕ) (end : ℕ) : Type 0 where
@@ -22,10 +21,6 @@ pub record Wrote-some (out : List ℕ) (at : ℕ) (out′ : List ℕ) (end : ℕ
 -- the answer and its detail
 abbrev pub shown : Line → List ℕ
 shown l = l .answer ++ comma ++ l .detail
-
--- the line of a refusal whose place has this text
-abbrev pub refused-as : ℕ → List ℕ → Line
-refused-as n place = record { answer = ascii "refused"; detail = decimal n ++ colon ++ place; steps = 0 }
 
 -- the instructions that a line shows
 abbrev pub Steps-of : Answer → ℕ → ℕ → Type 0

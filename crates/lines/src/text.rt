@@ -23,10 +23,10 @@ ghost use Rattle.machine.specs.Program.{valid};
 ghost use Rattle.layout.specs.Decode.{length-at, path-of, path-total, program-at};
 ghost use Rattle.run.specs.Views.{Writable, answer-of};
 ghost use Rattle.formula.specs.Text.{decimal};
-ghost use Rattle.listing.specs.Legs.{bits-text, line-of, printed};
+ghost use Rattle.listing.specs.Legs.{bits-text, line-of, printed, refused-as};
 ghost use Rattle.listing.specs.Totals.{total-line};
 ghost use Rattle.lines.specs.Sums.{totals-of};
-ghost use Rattle.lines.specs.Text.{Steps-of, Wrote, refused-as, shown};
+ghost use Rattle.lines.specs.Text.{Steps-of, Wrote, shown};
 
 // The 16 digits of a value's bits.
 fn put_bits(out: &mut [u8], at: usize, x: f64) -> usize

@@ -9,16 +9,16 @@ use lib.ListN.{getD}
 use lib.Dec.{eqb, ltb}
 use lib.Ieee.{binary64, toBits}
 use borrow.Author.Tests.{lt-ltb, ltb-false, ltb-true, ne-eqb}
-use Rattle.formula.specs.Text.{all, ascii, decimal, decimal-in, same-bytes, split}
-use Rattle.formula.specs.Values.{digits-in, hex, hex-digits, lines-of}
+use Rattle.formula.specs.Text.{all, ascii, decimal, decimal-in, split}
+use Rattle.formula.specs.Values.{digits-in, hex-digits, lines-of}
 use Rattle.formula.specs.Path.{Path, Step, _▸_, argument, condition, else-arm, root, step-text, text, then-arm}
 use Rattle.formula.proofs.Tests.{passes}
 use Rattle.meaning.specs.Work.{Question, elementary, power}
 use Rattle.machine.specs.Machine.{Answer, asks, gives, outside, refused, spent}
 use Rattle.names.specs.Lines.{free}
 use Rattle.names.proofs.Splits.{and-both, and-first, and-second, free-append, lines-next, split-end, split-next}
-use Rattle.listing.specs.Legs.{Line, bad, bits-text, colon, comma, line-of, place-text, printed, question-text, record-text}
-use Rattle.listing.specs.Totals.{Totals, counted, decimal-after, of-decimal, one-if}
+use Rattle.listing.specs.Legs.{Line, bits-text, colon, comma, line-of, place-text, printed, question-text, record-text}
+use Rattle.listing.specs.Totals.{Totals, counted, decimal-after, of-decimal, one-line}
 
 -- ---- texts without commas and newlines: every byte is above the comma's
 
@@ -141,30 +141,9 @@ module _ (n : ℕ) (l : Line) (f : Plain l) where
 
 -- ---- what a record adds
 
--- one in the column of its answer, and its steps
 abbrev pub of-line : Line → Totals
-of-line l =
-    record {
-      values = one-if (same-bytes (l .answer) (ascii "value"));
-      domains = one-if (same-bytes (l .answer) (ascii "domain"));
-      asks = one-if (same-bytes (l .answer) (ascii "ask"));
-      bads = one-if (same-bytes (l .answer) (ascii "bad"));
-      steps = l .steps;
-    }
-
-by-fields : List (List ℕ) → Totals
-by-fields ps =
-    record {
-      values = one-if (same-bytes (getD ps 1 []) (ascii "value"));
-      domains = one-if (same-bytes (getD ps 1 []) (ascii "domain"));
-      asks = one-if (same-bytes (getD ps 1 []) (ascii "ask"));
-      bads = one-if (same-bytes (getD ps 1 []) (ascii "bad"));
-      steps = of-decimal (getD ps 3 []);
-    }
-
-with-steps : Line → ℕ → Totals
-with-steps l n = of-line (record { answer = l .answer; detail = l .detail; steps = n })
+of-line l = one-line (l .answer) (l .steps)
 
 pub counted-is : (n : ℕ) (l : Line) → Plain l → counted (record-text n l) ≡ of-line l
-unfolding by-fields with-steps
-counted-is n l f = ap by-fields (fields-are n l f) ∙ ap (with-steps l) (decimal-back (l .steps))
+counted-is n l f =
+    ap (λ (ps : List (List ℕ)). one-line (getD ps 1 []) (of-decimal (getD ps 3 []))) (fields-are n l f) ∙ ap (one-line (l .answer)) (decimal-back (l .steps))

@@ -11,7 +11,7 @@ use lib.Seq.{take-take}
 use lib.Dec.{ltb}
 use lib.Ieee.{Float, binary64, ofBits}
 use Rattle.refusals.specs.Numbers.{malformed-line, slice-too-short}
-use Rattle.formula.specs.Text.{ascii, decimal, split}
+use Rattle.formula.specs.Text.{decimal, split}
 use Rattle.formula.specs.Values.{lines-of, values-of}
 use Rattle.formula.specs.Path.{Path, path-room}
 use Rattle.formula.specs.Term.{term}
@@ -21,9 +21,9 @@ use Rattle.machine.specs.Compile.{Compiled, accepted, own-context}
 use Rattle.machine.specs.Compile as Compile
 use Rattle.machine.specs.Lower.{program}
 use Rattle.machine.proofs.Progress.{run-lawful}
-use Rattle.listing.specs.Legs.{Line, colon, compiled, formula-room, header, legs, line-limit, line-of, listed, place-text, printed, records, refusal-line, value-record, with-file, with-input, zero-registers}
+use Rattle.listing.specs.Legs.{Line, colon, compiled, formula-room, header, legs, line-limit, line-of, listed, place-text, printed, records, refusal-line, refused-as, value-record, with-file, with-input, zero-registers}
 use Rattle.names.proofs.Splits.{lines-parted}
-use Rattle.listing.specs.Totals.{Totals, add-up, counted, nothing, plus, total-line, with-total}
+use Rattle.listing.specs.Totals.{Totals, add-up, counted, nothing, one-line, plus, total-line, with-total}
 use Rattle.listing.proofs.Answers.{Known, value-known}
 use Rattle.listing.proofs.Fields.{Plain, counted-is, line-plain, of-line, plain-append, plain-decimal, plain-place, record-line}
 
@@ -84,7 +84,7 @@ record-adds n l f rest = ap add-up (record-line n l f rest) ∙ ap (λ (t : Tota
 -- "A refused formula prints its total line with zeros."
 pub refusal-nothing : (n : ℕ) (place : Option Path) → add-up (lines-of (refusal-line n place)) ≡ nothing
 refusal-nothing n place =
-    let l : Line = record { answer = ascii "refused"; detail = decimal n ++ colon ++ place-text place; steps = 0 } in
+    let l = refused-as n (place-text place) in
     let f : Plain l =
     record { answer = refl; detail = plain-append (decimal n ++ colon) (place-text place) (plain-append (decimal n) colon (plain-decimal n) refl) (plain-place place) } in
     ap (λ (xs : List ℕ). add-up (lines-of xs)) (sym (append-nil (printed 0 l))) ∙ record-adds 0 l f []
@@ -97,14 +97,11 @@ refused-total n place = ap (λ (t : Totals). refusal-line n place ++ total-line 
 abbrev pub lines-in : Totals → ℕ
 lines-in t = t .values + t .domains + t .asks + t .bads
 
-abbrev column-of : List ℕ → Totals
-column-of a = of-line (record { answer = a; detail = []; steps = 0 })
-
-known-column : (a : List ℕ) → Known a → lines-in (column-of a) ≡ 1
-known-column a (inl e) = ap (λ (xs : List ℕ). lines-in (column-of xs)) e
-known-column a (inr (inl e)) = ap (λ (xs : List ℕ). lines-in (column-of xs)) e
-known-column a (inr (inr (inl e))) = ap (λ (xs : List ℕ). lines-in (column-of xs)) e
-known-column a (inr (inr (inr e))) = ap (λ (xs : List ℕ). lines-in (column-of xs)) e
+known-column : (a : List ℕ) → Known a → lines-in (one-line a 0) ≡ 1
+known-column a (inl e) = ap (λ (xs : List ℕ). lines-in (one-line xs 0)) e
+known-column a (inr (inl e)) = ap (λ (xs : List ℕ). lines-in (one-line xs 0)) e
+known-column a (inr (inr (inl e))) = ap (λ (xs : List ℕ). lines-in (one-line xs 0)) e
+known-column a (inr (inr (inr e))) = ap (λ (xs : List ℕ). lines-in (one-line xs 0)) e
 
 pub one-column : (P : Program) (line : Option (List ℕ)) → lines-in (of-line (value-record P line)) ≡ 1
 one-column P line = known-column (value-record P line .answer) (value-known P line)

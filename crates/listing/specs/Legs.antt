@@ -91,8 +91,11 @@ place-text none = []
 place-text (some p) = text p
 
 -- "A formula refused in compiling gives, after the header, only `0,refused,N:PATH,0`, the path empty without a place."
+abbrev pub refused-as : ℕ → List ℕ → Line
+refused-as n place = record { answer = ascii "refused"; detail = decimal n ++ colon ++ place; steps = 0 }
+
 abbrev pub refusal-line : ℕ → Option Path → List ℕ
-refusal-line n place = printed 0 (record { answer = ascii "refused"; detail = decimal n ++ colon ++ place-text place; steps = 0 })
+refusal-line n place = printed 0 (refused-as n (place-text place))
 
 -- "`legs` reads at most 1,000,000 value lines"
 unfoldable pub line-limit : ℕ

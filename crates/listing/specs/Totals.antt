@@ -29,6 +29,21 @@ plus a b =
       steps = a .steps + b .steps;
     }
 
+-- what one line adds: one in the column of its answer, and its steps
+abbrev pub one-if : Bool → ℕ
+one-if true = 1
+one-if false = 0
+
+abbrev pub one-line : List ℕ → ℕ → Totals
+one-line answer steps =
+    record {
+      values = one-if (same-bytes answer (ascii "value"));
+      domains = one-if (same-bytes answer (ascii "domain"));
+      asks = one-if (same-bytes answer (ascii "ask"));
+      bads = one-if (same-bytes answer (ascii "bad"));
+      steps = steps;
+    }
+
 -- ---- a line of text
 
 -- what stands between two commas, from 0 on
@@ -43,20 +58,9 @@ decimal-after n (d ∷ ds) = decimal-after (10 * n + (d - 48)) ds
 abbrev pub of-decimal : List ℕ → ℕ
 of-decimal digits = decimal-after 0 digits
 
-abbrev pub one-if : Bool → ℕ
-one-if true = 1
-one-if false = 0
-
--- what a line adds: its second field is the answer, its fourth the steps. A refusal's line has another answer, and 0 steps.
+-- the second field is the answer, the fourth the steps. A refusal's line has another answer, and 0 steps.
 abbrev pub counted : List ℕ → Totals
-counted line =
-    record {
-      values = one-if (same-bytes (field 1 line) (ascii "value"));
-      domains = one-if (same-bytes (field 1 line) (ascii "domain"));
-      asks = one-if (same-bytes (field 1 line) (ascii "ask"));
-      bads = one-if (same-bytes (field 1 line) (ascii "bad"));
-      steps = of-decimal (field 3 line);
-    }
+counted line = one-line (field 1 line) (of-decimal (field 3 line))
 
 abbrev pub add-up : List (List ℕ) → Totals
 add-up [] = nothing
