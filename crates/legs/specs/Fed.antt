@@ -1,5 +1,4 @@
 -- What the functions of `legs` ask of the memory that they are lent, and what comes of the input that they hand on.
-use mathlib.Core.Path.{_≡_}
 use mathlib.Core.List.{List}
 use Prim.Native.Nat.{ℕ, _≤_}
 use lib.ListN.{length}

@@ -8,7 +8,7 @@ use lib.ListN.{length, getD, take}
 use lib.Seq.{length-take-le}
 use lib.Ieee.{Float}
 use Rattle.layout.specs.Decode.{program-at}
-use Rattle.listing.specs.Legs.{header, line-limit}
+use Rattle.listing.specs.Legs.{header}
 use Rattle.listing.specs.Totals.{nothing, total-line}
 use Rattle.names.specs.Lines.{first-piece, free}
 use Rattle.writer.specs.Over.{over}
@@ -25,7 +25,7 @@ use Rattle.lines.specs.Record.{Ready, Records}
 use Rattle.lines.specs.Reading.{Tells-empty}
 use Rattle.lines.specs.Text.{Wrote, Wrote-some}
 use Rattle.lines.specs.Sums.{totals-of}
-use Rattle.lines.specs.Owed.{Ends-with, Keeps-on, Memory, Opens, memory, output-room, stage-at}
+use Rattle.lines.specs.Owed.{Keeps-on, Memory, Opens, memory, output-room, stage-at}
 use Rattle.lines.specs.Calls.{Advancing, Beginning, Compiled-over, Finishing, Listing-block, Starting, kept-bytes}
 use Rattle.lines.proofs.Keeping.{Holds}
 use Rattle.lines.proofs.Newlines.{drop-later, drop-wrote, first-is, take-wrote}

@@ -1,7 +1,7 @@
 -- The text of a refusal's place, with zeros after it.
 use mathlib.Core.Path.{_≡_, refl, sym, ap, _∙_}
 use mathlib.Core.Bool.{Bool, true, false}
-use mathlib.Core.List.{List, [], _∷_, _++_}
+use mathlib.Core.List.{List, _++_}
 use mathlib.Core.Option.{Option, none, some}
 use Prim.Native.Nat.{ℕ, zero, _+_, _-_, _≤_, _<_}
 use native.Mathlib.Omega.{arith}

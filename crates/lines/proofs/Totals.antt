@@ -3,7 +3,7 @@ use mathlib.Core.Path.{_≡_, refl, sym, ap, _∙_, subst}
 use mathlib.Core.Bool.{Bool, cond}
 use mathlib.Core.List.{List, [], _∷_, _++_, append-assoc}
 use mathlib.Core.Option.{Option}
-use Prim.Native.Nat.{ℕ, zero, suc, _+_, _-_, _*_, _≤_, _<_}
+use Prim.Native.Nat.{ℕ, zero, suc, _+_, _-_, _≤_, _<_}
 use native.Mathlib.Omega.{arith}
 use lib.ListN.{length, take}
 use borrow.Author.Tests.{le-leb, lt-leb}
@@ -11,7 +11,7 @@ use Rattle.formula.specs.Values.{lines-of, values-of}
 use Rattle.machine.specs.Program.{Program}
 use Rattle.run.specs.declared.Answer.{Answer}
 use Rattle.run.specs.Views.{answer-of}
-use Rattle.listing.specs.Legs.{Line, line-limit, line-of, printed, record-text, records, value-record}
+use Rattle.listing.specs.Legs.{Line, line-limit, line-of, printed, records, value-record}
 use Rattle.listing.specs.Totals.{Totals, add-up, counted, nothing, plus, total-line, with-total}
 use Rattle.listing.proofs.Fields.{Plain, counted-is, line-plain, of-line}
 use Rattle.listing.proofs.Sums.{few-steps, lines-in, nothing-plus, one-column, plus-assoc, plus-nothing, record-adds, same-totals, value-plain}

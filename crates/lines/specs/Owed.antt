@@ -1,7 +1,7 @@
 -- Where a listing stands between two blocks of input, and what is still to be written for the input that is left.
 use mathlib.Core.Path.{_≡_}
 use mathlib.Core.Bool.{Bool, true, false, cond}
-use mathlib.Core.List.{List, [], _∷_, _++_}
+use mathlib.Core.List.{List, [], _++_}
 use mathlib.Core.Option.{Option, none, some}
 use Prim.Native.Nat.{ℕ, suc, _+_, _-_, _≤_, min}
 use lib.ListN.{length, take}
@@ -19,7 +19,6 @@ use Rattle.listing.specs.Legs.{compiled, legs, line-limit, records, refusal-lin
 use Rattle.listing.specs.Totals as Total
 use Rattle.listing.specs.Totals.{add-up, nothing, plus, total-line, with-total}
 use Rattle.names.specs.Lines.{free}
-use Rattle.lines.specs.declared.Advanced.{Advanced}
 use Rattle.lines.specs.declared.Begun.{Begun}
 use Rattle.lines.specs.declared.Stage.{Stage}
 use Rattle.lines.specs.declared.Stage.the-variants.{Finished, Names, Values}

@@ -29,10 +29,11 @@ use values::Reading;
 // "`legs` reads at most 1,000,000 value lines"
 const LINE_LIMIT: u64 = 1000000;
 
-// The bytes of output that every call needs: those of the longest record, and 111 for the total line.
-const OUTPUT_ROOM: usize = 8353;
-
+// The bytes of the longest record.
 const RECORD_ROOM: usize = 8242;
+
+// The bytes of output that every call needs: a record's, and 111 for the total line.
+const OUTPUT_ROOM: usize = 8353;
 
 // Where a listing stands: in the name line, of which so many bytes are kept; in the line of values with this number, as far
 // as it was read, with the totals of the lines before it; or at its end, after a refusal or the last line that is listed, where

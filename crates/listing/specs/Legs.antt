@@ -1,25 +1,23 @@
 -- `legs` reads `formula.bin` and standard input, and prints a line for each line of values: "line number, answer (`value`, `domain`, `ask`, `bad`),
 -- detail (bits, path, function number in decimal and bits joined by `:` with 16 for Power, refusal number), instructions completed". Under these it
 -- prints what they add up to.
-use mathlib.Core.Bool.{Bool, true, false, cond, _&&_}
+use mathlib.Core.Bool.{cond}
 use mathlib.Core.List.{List, [], _∷_, _++_, map}
 use mathlib.Core.Option.{Option, none, some}
 use Prim.Native.Nat.{ℕ, suc}
 use lib.ListN.{length, replicate, take}
-use lib.Dec.{eqb, ltb}
+use lib.Dec.{ltb}
 use lib.Ieee.{Float, binary64, ofBits, toBits}
 use Rattle.refusals.specs.Numbers.{malformed-line, slice-too-short}
 use Rattle.arithmetic.specs.Value.{0f, finite}
 use Rattle.formula.specs.Text.{all, ascii, decimal}
-use Rattle.formula.specs.Formula.{Formula}
-use Rattle.formula.specs.Names.{Symbol}
 use Rattle.formula.specs.Values.{hex, lines-of, values-of}
 use Rattle.formula.specs.Path.{Path, path-room, text}
 use Rattle.formula.specs.Term.{term}
 use Rattle.meaning.specs.Work.{Question, elementary, power}
 use Rattle.machine.specs.Program.{Program}
 use Rattle.machine.specs.Lower.{program}
-use Rattle.machine.specs.Machine.{Answer, Reply, asks, gives, outside, refused, run, spent}
+use Rattle.machine.specs.Machine.{Answer, asks, gives, outside, refused, run, spent}
 use Rattle.machine.specs.Compile.{Compiled, accepted, compile, own-context, program-room}
 use Rattle.machine.specs.Compile as Compile
 use Rattle.listing.specs.Totals.{with-total}
