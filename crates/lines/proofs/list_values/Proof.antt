@@ -68,7 +68,10 @@ so-far-requires-3 : tie.Need-so-far-requires-3 Inv-loop μ-loop
 so-far-requires-3 c κs = tt
 
 same-length-7 : tie.Need-same-length-7 Inv-loop μ-loop
-same-length-7 c = c .before .before .before .before .before .before .read-part .kept .1 .1 .1 .0 ∙ c .before .before .before .before .before .before .before .before .before .before .loop .inv .same-values
+same-length-7 c =
+    let loop = c .before .before .before .before .before .before .before .before .before .before .loop in
+    let read-part = c .before .before .before .before .before .before .read-part in
+    read-part .kept .1 .1 .1 .0 ∙ loop .inv .same-values
 
 same-length-8 : tie.Need-same-length-8 Inv-loop μ-loop
 same-length-8 c = c .before .before .before .before .before .before .before .before .before .before .loop .inv .same-regs
@@ -89,42 +92,55 @@ returns-3 c =
 put-record-requires : tie.Need-put-record-requires Inv-loop μ-loop
 put-record-requires c κs =
     let a = c .before .before .before .before .before .before .before .before .before .before .before .before .before .before .before .before .before .before .args in
+    let pre = c .before .before .before .before .before .before .before .before .before .before .before .before .before .before .before .before .before .before .pre in
     let l = c .before .before .before .before .before .before .before .before .before .before .before .before .loop in
-    let r = c .before .before .before .before .before .before .before .before .read-part in (
+    let r = c .before .before .before .before .before .before .before .before .read-part in
+    let if3 = c .before .before .before .if3 in (
       ready-same (a .p .now) (length (a .values .now)) (length (a .regs .now)) (length (r .last .1 .1 .1 .0)) (length (l .regs))
-          (r .kept .1 .1 .1 .0 ∙ l .inv .same-values) (l .inv .same-regs) (c .before .before .before .before .before .before .before .before .before .before .before .before .before .before .before .before .before .before .pre),
-      omega (arith, c .before .before .before .if3 .left, l .inv .short),
+          (r .kept .1 .1 .1 .0 ∙ l .inv .same-values) (l .inv .same-regs) pre,
+      omega (arith, if3 .left, l .inv .short),
     )
 
 fresh-requires : tie.Need-fresh-requires Inv-loop μ-loop
 fresh-requires c κs = tt
 
 add-n : tie.Need-add-n Inv-loop μ-loop
-add-n c = record { fits = omega (arith, c .before .before .before .before .before .before .before .before .before .before .before .before .before .before .before .before .before .before .before .if1 .left) }
+add-n c =
+    let if1 = c .before .before .before .before .before .before .before .before .before .before .before .before .before .before .before .before .before .before .before .if1 in
+    record { fits = omega (arith, if1 .left) }
 
 add-at : tie.Need-add-at Inv-loop μ-loop
 add-at c =
     let g = c .before .before .before .before .before .before .before .before .before .before .before .before .before .before .before .before .before .before .before .before .before .before .before .before .before .before .before .good in
     let r = c .before .before .before .before .before .before .before .before .before .before .before .before .before .before .before .before .before .read-part in
-    record { fits = omega (arith, r .ensures .0 .1, c .before .before .before .before .before .before .before .before .before .before .before .before .before .if2 .left, g .1 .0 .0) }
+    let if2 = c .before .before .before .before .before .before .before .before .before .before .before .before .before .if2 in
+    record { fits = omega (arith, r .ensures .0 .1, if2 .left, g .1 .0 .0) }
 
 loop-less : tie.Need-loop-less Inv-loop μ-loop
-loop-less c = omega (arith, c .before .before .before .before .before .before .before .before .before .before .before .before .before .before .before .before .before .read-part .ensures .0 .0, c .before .before .before .before .before .before .before .before .before .before .before .before .before .before .before .before .before .before .before .before .loop-test .taken)
+loop-less c =
+    let loop-test = c .before .before .before .before .before .before .before .before .before .before .before .before .before .before .before .before .before .before .before .before .loop-test in
+    let read-part = c .before .before .before .before .before .before .before .before .before .before .before .before .before .before .before .before .before .read-part in
+    omega (arith, read-part .ensures .0 .0, loop-test .taken)
 
 loop-again : tie.Need-loop-again Inv-loop μ-loop
 loop-again c =
     let a = c .before .before .before .before .before .before .before .before .before .before .before .before .before .before .before .before .before .before .before .before .before .before .before .before .before .before .before .args in
+    let pre = c .before .before .before .before .before .before .before .before .before .before .before .before .before .before .before .before .before .before .before .before .before .before .before .before .before .before .before .pre in
+    let p = c .before .before .before .before .before .before .before .before .before .before .before .before .before .before .before .before .before .before .before .before .before .before .before .before .before .before .shared-slice-known in
     let l = c .before .before .before .before .before .before .before .before .before .before .before .before .before .before .before .before .before .before .before .before .before .loop in
+    let if1 = c .before .before .before .before .before .before .before .before .before .before .before .before .before .before .before .before .before .before .before .if1 in
     let r = c .before .before .before .before .before .before .before .before .before .before .before .before .before .before .before .before .before .read-part in
+    let if2 = c .before .before .before .before .before .before .before .before .before .before .before .before .before .if2 in
+    let if3 = c .before .before .before .before .before .before .before .before .before .before .before .before .if3 in
     let w = c .before .before .before .before .before .before .before .before .put-record in
     let f = c .fresh in
-    let p = c .before .before .before .before .before .before .before .before .before .before .before .before .before .before .before .before .before .before .before .before .before .before .before .before .before .before .shared-slice-known in
-    let h = lt-of (r .result .end) (length (a .input .now)) (r .ensures .0 .1) (c .before .before .before .before .before .before .before .before .before .before .before .before .before .if2 .left) in
-    on-line (a .p .now) (a .input .now) (a .number) (a .s) (a .before) (a .values .now)
-    (a .regs .now) (a .out .now) (l .values) (l .regs) (l .out) (l .at) (l .length) (l .n) (l .reading) (l .totals) (l .inv) (r .result .end) (r .result .reading)
-    (r .last .1 .1 .1 .0) (r .ensures .0 .0) (r .ensures .0 .2) (r .ensures .1) (code-short (a .p .now) (c .before .before .before .before .before .before .before .before .before .before .before .before .before .before .before .before .before .before .before .before .before .before .before .before .before .before .before .pre .sound) (λ i. omega (arith, p .given i))) (c .before .before .before .before .before .before .before .before .before .before .before .before .before .before .before .before .before .before .before .if1 .left) h (r .ensures .0 .3 h) (r .kept .1 .1 .1 .0)
-    (w .last .1 .1 .0) (w .last .1 .1 .1 .0) (w .last .1 .1 .1 .1 .1 .1 .0) (w .result) (l .n + 1) (f .result) refl (w .kept .1 .1 .0) (w .kept .1 .1 .1 .0) (w .ensures .0) (w .ensures .1 .0)
-    (w .kept .1 .1 .1 .1 .1 .1 .0) (omega (arith, w .ensures .1 .1, c .before .before .before .before .before .before .before .before .before .before .before .before .if3 .left, l .inv .short)) (f .ensures)
+    let h = lt-of (r .result .end) (length (a .input .now)) (r .ensures .0 .1) (if2 .left) in
+    on-line (a .p .now) (a .input .now) (a .number) (a .s) (a .before) (a .values .now) (a .regs .now) (a .out .now) (l .values) (l .regs) (l .out)
+    (l .at) (l .length) (l .n) (l .reading) (l .totals) (l .inv) (r .result .end) (r .result .reading) (r .last .1 .1 .1 .0) (r .ensures .0 .0)
+    (r .ensures .0 .2) (r .ensures .1) (code-short (a .p .now) (pre .sound) (λ i. omega (arith, p .given i))) (if1 .left) h (r .ensures .0 .3 h)
+    (r .kept .1 .1 .1 .0) (w .last .1 .1 .0) (w .last .1 .1 .1 .0) (w .last .1 .1 .1 .1 .1 .1 .0) (w .result) (l .n + 1) (f .result) refl
+    (w .kept .1 .1 .0) (w .kept .1 .1 .1 .0) (w .ensures .0) (w .ensures .1 .0) (w .kept .1 .1 .1 .1 .1 .1 .0)
+    (omega (arith, w .ensures .1 .1, if3 .left, l .inv .short)) (f .ensures)
 
 so-far-requires-4 : tie.Need-so-far-requires-4 Inv-loop μ-loop
 so-far-requires-4 c κs = tt
