@@ -7,7 +7,8 @@
 
 enum { FORMULA = 16 * VEBROSTIN_FORMULA_NODES, TREE = 1024, PROGRAM = VEBROSTIN_PROGRAM_PER_NODE * TREE, REGISTERS = 5 * TREE };
 
-static uint8_t formula[FORMULA], names[65536], path[VEBROSTIN_PATH_LENGTH], tree[16 * TREE], program[PROGRAM];
+/* one byte more than the longest formula, to see that a file has more */
+static uint8_t formula[FORMULA + 1], names[65536], path[VEBROSTIN_PATH_LENGTH], tree[16 * TREE], program[PROGRAM];
 static double inputs[256], registers[REGISTERS];
 static uint64_t report[VEBROSTIN_REPORT_LENGTH];
 static size_t input_count;
@@ -34,7 +35,10 @@ static double answer(const uint64_t *state) {
 }
 
 static void refused(const char *what, size_t number) {
-    fprintf(stderr, "%s: refusal %zu at '%.*s'\n", what, number, VEBROSTIN_PATH_LENGTH, (const char *)path);
+    if (number == VEBROSTIN_WRONG_FIELD || number == VEBROSTIN_ENDED_EARLY || number == VEBROSTIN_LEFT_OVER)
+        fprintf(stderr, "%s: refusal %zu at node %llu\n", what, number, (unsigned long long)report[VEBROSTIN_NODE]);
+    else
+        fprintf(stderr, "%s: refusal %zu at '%.*s'\n", what, number, VEBROSTIN_PATH_LENGTH, (const char *)path);
     exit(1);
 }
 
@@ -70,6 +74,10 @@ int main(int count, char **words) {
         return 2;
     }
     size_t n = load(words[1], "formula.bin", formula, sizeof formula), m = load(words[1], "input", names, sizeof names);
+    if (n > FORMULA) {
+        fprintf(stderr, "%s/formula.bin: longer than %d bytes\n", words[1], FORMULA);
+        return 1;
+    }
     const uint8_t *end = memchr(names, '\n', m);
     if (end)
         m = (size_t)(end - names);

@@ -20,7 +20,8 @@ extern "C" {
 #endif
 
 /* What the functions answer. "At" a place: the path slice then holds its text, as root.arguments[1], and zeros after it.
- * Without a place the path slice isn't written. */
+ * Without a place the path slice isn't written. "At" a node, from 0: the report has its number. 2, 12 and 13 come after 1 and before 3,
+ * and of them the first fault in byte order counts. */
 enum {
     /* done: a program, a derivative, a value */
     VEBROSTIN_OK = 0,
@@ -28,8 +29,8 @@ enum {
      * (of the derivative tree, for a derivative); the tree slice below 16 bytes for each node; the state below 16 numbers;
      * the report below 8, which is looked at before anything else */
     VEBROSTIN_SLICE_TOO_SHORT = 1,
-    /* the bytes are no formula */
-    VEBROSTIN_FORMULA = 2,
+    /* compile and derive, at the node: one of its fields is wrong */
+    VEBROSTIN_WRONG_FIELD = 2,
     /* the name line is not well formed, or has more than 256 names or one twice */
     VEBROSTIN_NAMES = 3,
     /* at root: the formula has more than 256 nodes or 32 levels, or its derivative more than 16,384 nodes or 128 levels */
@@ -51,6 +52,10 @@ enum {
     VEBROSTIN_PROGRAM = 10,
     /* resume and answer: the run is at its end, the state doesn't fit the program, or a value was given while no question pends */
     VEBROSTIN_STATE = 11,
+    /* compile and derive, at the node that is missing or not all there: the bytes end before the formula does */
+    VEBROSTIN_ENDED_EARLY = 12,
+    /* compile and derive, at the number of the formula's nodes: bytes follow its last node */
+    VEBROSTIN_LEFT_OVER = 13,
     /* run: a question pends; the state has it. Give its value to vebrostin_answer */
     VEBROSTIN_ASK = 100,
     /* run: the whole budget was completed and code remains. Go on with vebrostin_resume */
@@ -79,8 +84,11 @@ enum {
     VEBROSTIN_VALUE = 15      /* the value where that call answered 0, else 0 */
 };
 
-/* A report has the numbers that a call hands out beside its answer and its state: a place for each, 0 where there is none. An enum
- * names the places as functions come to fill them. None is filled yet, and every call leaves the report as it was. */
+/* Places in a report's numbers, which a call hands out beside its answer and its state. Compile and derive write the node; every other
+ * place, and the whole report of the other calls, is left as it was. A report of fewer than 8 numbers is not written at all. */
+enum {
+    VEBROSTIN_NODE = 0 /* the node of a refusal 2, 12 or 13, else 0 */
+};
 
 /* Functions that a run asks its host for. */
 enum {
@@ -94,13 +102,15 @@ enum {
     VEBROSTIN_POWER = 16
 };
 
-/* Compiles a formula. 0 and a program, zeros after it; or 1 to 9. 1 to 4 leave the program slice as it was, 5 to 9 all zero. */
+/* Compiles a formula. 0 and a program, zeros after it; or 1 to 9, 12 or 13. 1 to 4, 12 and 13 leave the program slice as it was, 5 to 9
+ * all zero. */
 size_t vebrostin_compile(const uint8_t *formula, size_t formula_length, const uint8_t *names, size_t names_length,
                          uint8_t *path, size_t path_length, uint8_t *program, size_t program_length,
                          uint64_t *report, size_t report_length);
 
 /* The derivative of a formula by a symbol's number (from 0). 0, its tree as formula bytes and the tree's program, zeros after each; or
- * 1 to 9. A refusal of the formula itself leaves the tree slice as it was, a later one all zero; both leave the program slice. */
+ * 1 to 9, 12 or 13. A refusal of the formula itself, as 2, 12 and 13 are, leaves the tree slice as it was, a later one all zero; both
+ * leave the program slice. */
 size_t vebrostin_derive(const uint8_t *formula, size_t formula_length, const uint8_t *names, size_t names_length, uint32_t symbol,
                         uint8_t *path, size_t path_length, uint8_t *tree, size_t tree_length, uint8_t *program, size_t program_length,
                         uint64_t *report, size_t report_length);

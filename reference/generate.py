@@ -7,7 +7,7 @@ import struct
 import sys
 
 sys.path.insert(0, os.path.join(os.path.dirname(os.path.abspath(__file__)), "..", "tools", "shared"))
-from nodes import NODE_SIZE, node  # noqa: E402
+from nodes import NODE_SIZE, head, node  # noqa: E402
 from nodes import NUMBER, TRUTH, SYMBOL, UNARY, BINARY, COMPARE, BOOLEAN, CALL, CONDITIONAL  # noqa: E402
 
 MODULO, NOT = 5, 2
@@ -183,6 +183,16 @@ class Generator(random.Random):
             formula + formula[start:],
             formula + bytes(self.choice([1, NODE_SIZE - 1, NODE_SIZE, NODE_SIZE + 1])),
         ])
+
+    def faulty(self, formula):
+        """The formula damaged up to three times; one in four under lists that claim to have up to 65,535 parts."""
+        if self.chance(0.25):
+            count = self.choice([2, 3, 255, 256, 65535, self.randrange(65536)])
+            kind, operator = self.choice([(CALL, MIN), (CALL, MAX), (BOOLEAN, 0), (BOOLEAN, 1)])
+            formula = head(kind, operator, count) * self.choice([1, 1, 2, 10]) + formula * self.choice([1, 2, 3])
+        for _ in range(self.choice([1, 1, 2, 3])):
+            formula = self.damaged(formula) if formula else formula
+        return formula
 
     def large(self):
         """A formula near the limits of nodes or depth, or one with a large derivative."""

@@ -24,40 +24,44 @@ def is_node(b):
     return operator < OPERATORS[kind] and children == COUNTS.get(kind, children) and symbol == value == 0
 
 
-def depth_of(b):
-    """The depth, or None where the bytes are no formula."""
+def marks(b):
+    """Whether a formula is within a formula's and a derivative's limits, or the number and node of the first fault."""
     at, open_counts, deepest = 0, [1], 0
     while open_counts:
         if open_counts[-1] == 0:
             open_counts.pop()
             continue
-        if at + 16 > len(b) or not is_node(b[at:at + 16]):
-            return None
+        if at + 16 > len(b):
+            return "12:%d" % (at // 16)
+        if not is_node(b[at:at + 16]):
+            return "2:%d" % (at // 16)
         open_counts[-1] -= 1
         deepest = max(deepest, len(open_counts))
         open_counts.append(struct.unpack("<H", b[at + 2:at + 4])[0])
         at += 16
-    return deepest if at == len(b) else None
-
-
-def marks(b):
-    d = depth_of(b)
-    if d is None:
-        return "0--"
-    n = len(b) // 16
-    return "1" + "01"[n <= 256 and d <= 32] + "01"[n <= 16384 and d <= 128]
+    if at < len(b):
+        return "13:%d" % (at // 16)
+    n = at // 16
+    return "1" + "01"[n <= 256 and deepest <= 32] + "01"[n <= 16384 and deepest <= 128]
 
 
 lines = []
 
 
-def formula(b):
+def formula(b, told=None):
+    """A case of its own; where its number and node are told, they have to be those found here."""
+    assert told in (None, marks(b)), (b.hex(), told)
     lines.append("f%s %s" % (marks(b), b.hex()))
 
 
-def repeated(b, first, last):
+def repeated(b, first, last, told=None):
     whole = b[:16] * first + b[16:-16] + b[-16:] * last
+    assert told in (None, marks(whole)), (b.hex(), first, last, told)
     lines.append("g%s %d %d %s" % (marks(whole), first, last, b.hex()))
+
+
+def changed(b, at, new):
+    return b[:at] + new + b[at + len(new):]
 
 
 def kinds_of(line):
@@ -113,8 +117,39 @@ for kind in range(11):
 # cut at every byte, and bytes left over
 for n in range(len(flights) + 1):
     formula(flights[:n])
-for extra in (b"\0", leaf[:15], leaf):
-    formula(flights + extra)
+for extra in (b"\0", leaf[:15], leaf, leaf + b"\0", node(9), b"\x09"):
+    formula(flights + extra, "13:9")
+repeated(flights + symbol, 1, 1, "13:9")
+repeated(flights + symbol, 1, 5, "13:9")
+# the same cut and changed, with number and node
+kind_9 = changed(flights, 48, b"\x09")
+for b, told in [(b"", "12:0"), (flights[:5], "12:0"), (flights[:16], "12:1"), (flights[:40], "12:2"), (flights[:128], "12:8"),
+                (flights[:143], "12:8"), (kind_9, "2:3"), (kind_9[:70], "2:3"), (kind_9[:50], "12:3"),
+                (changed(flights, 2, b"\x03"), "2:0")]:
+    formula(b, told)
+# a count that may be anything is never wrong by itself; size and depth come later
+most, three = node(7, 11, 65535), symbol * 3
+for b, told in [(node(7, 11, 2) + three, "13:3"), (node(7, 11, 4) + three, "12:4"), (most + three, "12:4"),
+                (most + symbol * 2 + node(9) + symbol, "2:3"), (node(6, 0, 65535) + three, "12:4"), (most * 256 + b"\0", "12:256"),
+                ((node(3, 1, 1) * 200 + symbol)[:-1], "12:200"), (node(3, 1, 1) * 200 + symbol + b"\0", "13:201")]:
+    formula(b, told)
+repeated(most * 2, 255, 1, "12:256")
+repeated(most + node(9), 255, 1, "2:255")
+repeated(most + node(9), 16391, 1, "2:16391")
+repeated(most + symbol, 16391, 1, "12:16392")
+repeated(most + node(9) + symbol, 1, 16390, "2:1")
+# a wrong field in each node, alone and with a cut or a second wrong node
+for k in range(9):
+    at, kind = 16 * k, flights[16 * k]
+    wrong = [(0, 9), (1, OPERATORS.get(kind, 1)), (2, COUNTS.get(kind, 0) + 1), (3, 1), (8, 1), (15, 128)]
+    for place, byte in wrong + ([(4, 1), (7, 128)] if kind != 2 else []):
+        b = changed(flights, at + place, bytes([byte]))
+        formula(b, "2:%d" % k)
+        formula(b[:at + 16], "2:%d" % k)
+        formula(b[:at + 15], "12:%d" % k)
+    both = changed(changed(flights, at, b"\x09"), 128, b"\xff")
+    formula(both, "2:%d" % k)
+    formula(both + leaf, "2:%d" % k)
 # the limits at their edges
 unary = node(3, 1, 1)
 for levels in (1, 2, 31, 32, 33, 127, 128, 129, 255, 256, 257, 16383, 16384, 16385, 16392):
@@ -145,6 +180,15 @@ for _ in range(150):
     formula(b)
     i = rng.randrange(len(b))
     formula(b[:i] + bytes([rng.choice([0, 1, 2, 3, 255, rng.randrange(256)])]) + b[i + 1:])
+
+# the same damaged once or more: a byte changed, cut, lengthened, a list that claims more
+for _ in range(120):
+    b = some_formula(rng.randrange(3))[:300]
+    for _ in range(rng.choice([1, 2, 2, 3])):
+        i = rng.randrange(len(b) + 1)
+        b = rng.choice([changed(b, i, bytes([rng.choice([0, 1, 9, rng.randrange(256)])])), b[:i], b + b[:i], b + bytes(i % 33),
+                         node(rng.choice([6, 7]), 0, rng.choice([1, 2, 65535, rng.randrange(65536)])) + b])
+    formula(b[:640])
 
 # name lines
 for line in ["", "a:p", "a:s", "a:t", "a:i", "climb:p,burn:p,distance:i,tas:i,wind:i", "_:t", "_9:t", "a_b:s,ab_:s", "a:x", "a:P", "a", "a:",

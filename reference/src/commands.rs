@@ -83,8 +83,8 @@ fn with_formula(
     work: impl FnOnce(&Expr, &[Symbol]) -> Answer,
 ) -> Answer {
     let (formula, line) = (bytes(formula)?, bytes(names)?);
-    if !nodes::well_formed(&formula) {
-        return Err("refused 2 -".into());
+    if let Some((number, node)) = nodes::fault(&formula) {
+        return Err(format!("refused {number} @{node}"));
     }
     let Some(symbols) = names::read(&line) else {
         return Err("refused 3 -".into());

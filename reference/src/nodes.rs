@@ -68,20 +68,27 @@ impl Node {
     }
 }
 
-/// Document 01's form of a formula, size and depth apart.
-pub fn well_formed(bytes: &[u8]) -> bool {
-    let mut owed = 1u64;
-    for chunk in bytes.chunks(SIZE) {
-        if chunk.len() < SIZE || owed == 0 {
-            return false;
-        }
+/// Refusals of bytes that are no formula: a wrong field in a node, an early end, bytes left over.
+const WRONG_FIELD: usize = 2;
+const ENDED_EARLY: usize = 12;
+const LEFT_OVER: usize = 13;
+
+/// The refusal of bytes that are no formula, and the node from 0 of their first fault in byte order;
+/// nothing for a formula, of any size and depth.
+pub fn fault(bytes: &[u8]) -> Option<(usize, usize)> {
+    let (mut owed, mut read) = (1u64, 0);
+    while owed > 0 {
+        let Some(chunk) = bytes.get(SIZE * read..SIZE * (read + 1)) else {
+            return Some((ENDED_EARLY, read));
+        };
         let node = Node::from_bytes(chunk);
         if !node.allowed() {
-            return false;
+            return Some((WRONG_FIELD, read));
         }
         owed = owed - 1 + u64::from(node.count);
+        read += 1;
     }
-    owed == 0
+    (SIZE * read < bytes.len()).then_some((LEFT_OVER, read))
 }
 
 /// The expression of well-formed bytes. Reads backwards with a stack, so that depth doesn't matter.

@@ -1,4 +1,4 @@
-//! The eleven refusals, with what each means and where.
+//! The thirteen refusals, with what each means and where.
 use std::fmt;
 
 /// A refusal by its number.
@@ -6,7 +6,7 @@ use std::fmt;
 #[repr(u8)]
 pub enum Refusal {
     SliceTooShort = 1,
-    Formula = 2,
+    WrongField = 2,
     Names = 3,
     TooLarge = 4,
     InvalidInput = 5,
@@ -16,6 +16,8 @@ pub enum Refusal {
     Domain = 9,
     Program = 10,
     State = 11,
+    EndedEarly = 12,
+    LeftOver = 13,
 }
 
 /// What was being done when a refusal came.
@@ -26,22 +28,30 @@ pub enum Action {
     Run,
 }
 
-/// A refusal, what was being done, and the place in the formula where there is one.
+/// A refusal, what was being done, and where: the place in the formula, or the node of its bytes, where there is one.
 #[derive(Clone, Debug, PartialEq, Eq)]
 pub struct Error {
     pub refusal: Refusal,
     pub action: Action,
     pub place: Option<String>,
+    /// The node from 0 of a wrong field, of an early end, or after the formula's last node.
+    pub node: Option<u64>,
 }
 
 impl Refusal {
-    /// The refusal of a number from 1 to 11.
+    /// The refusal of a number from 1 to 13.
     pub fn from_number(number: usize) -> Option<Self> {
         use Refusal::*;
         let all = [
-            SliceTooShort, Formula, Names, TooLarge, InvalidInput, UnknownSymbol, Type, Unsupported, Domain, Program, State,
+            SliceTooShort, WrongField, Names, TooLarge, InvalidInput, UnknownSymbol, Type, Unsupported, Domain, Program, State,
+            EndedEarly, LeftOver,
         ];
         all.get(number.checked_sub(1)?).copied()
+    }
+
+    /// Whether it is at a node of the formula's bytes.
+    pub fn has_node(self) -> bool {
+        matches!(self, Refusal::WrongField | Refusal::EndedEarly | Refusal::LeftOver)
     }
 
     pub fn number(self) -> u8 {
@@ -52,7 +62,9 @@ impl Refusal {
     pub fn meaning(self, action: Action) -> &'static str {
         match (self, action) {
             (Refusal::SliceTooShort, _) => "a slice is too short",
-            (Refusal::Formula, _) => "the bytes are no formula",
+            (Refusal::WrongField, _) => "a field of the node is wrong",
+            (Refusal::EndedEarly, _) => "the bytes end before the formula does",
+            (Refusal::LeftOver, _) => "bytes follow the formula's last node",
             (Refusal::Names, _) => "the name line is not well formed",
             (Refusal::TooLarge, Action::Derive) => "the formula or its derivative has too many nodes or is too deep",
             (Refusal::TooLarge, _) => "the formula has more than 256 nodes or more than 32 levels",
@@ -78,6 +90,9 @@ impl fmt::Display for Error {
         write!(f, "refusal {}", self.refusal.number())?;
         if let Some(place) = &self.place {
             write!(f, " at {place}")?;
+        }
+        if let Some(node) = self.node {
+            write!(f, " at node {node}")?;
         }
         write!(f, ": {}", self.refusal.meaning(self.action))
     }

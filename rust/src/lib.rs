@@ -6,7 +6,7 @@ mod raw;
 pub mod slices;
 
 pub use error::{Action, Error, Refusal};
-use slices::{ASK, COUNT, FIRST, NODE, NODE_ROOM, PATH, QUESTION, REPORT, SECOND, SPENT, STATE, VALUE};
+use slices::{ASK, COUNT, FIRST, NODE, NODE_AT, NODE_ROOM, PATH, QUESTION, REPORT, SECOND, SPENT, STATE, VALUE};
 
 /// Nodes that a derivative tree has at most.
 const LARGEST_TREE: usize = 16384;
@@ -23,43 +23,45 @@ pub struct Derivative {
     pub program: Program,
 }
 
-fn refused(number: usize, action: Action, path: &[u8]) -> Error {
-    let refusal = Refusal::from_number(number).expect("the library's refusals are 1 to 11");
+/// A refusal with what the path slice and the report's node hold where it has a place or a node.
+fn refused(number: usize, action: Action, path: &[u8], node: u64) -> Error {
+    let refusal = Refusal::from_number(number).expect("the library's refusals are 1 to 13");
     let place = matches!(number, 4..=9).then(|| slices::text(path));
-    Error { refusal, action, place }
+    let node = refusal.has_node().then_some(node);
+    Error { refusal, action, place, node }
 }
 
 impl Program {
     /// Compiles formula bytes with a name line.
     pub fn compile(formula: &[u8], names: &[u8]) -> Result<Self, Error> {
-        let mut path = [0; PATH];
+        let (mut path, mut report) = ([0; PATH], [0; REPORT]);
         let mut program = vec![0; slices::program_room(formula.len())];
-        match slices::compile(formula, names, &mut path, &mut program, &mut [0; REPORT]) {
+        match slices::compile(formula, names, &mut path, &mut program, &mut report) {
             0 => Ok(Self(program)),
-            number => Err(refused(number, Action::Compile, &path)),
+            number => Err(refused(number, Action::Compile, &path, report[NODE_AT])),
         }
     }
 
     /// The derivative of a formula by a symbol's number. The slices grow until the tree has room.
     pub fn derive(formula: &[u8], names: &[u8], symbol: u32) -> Result<Derivative, Error> {
-        let mut path = [0; PATH];
+        let (mut path, mut report) = ([0; PATH], [0; REPORT]);
         let mut nodes = formula.len().div_ceil(NODE).max(64);
         loop {
             let (mut tree, mut program) = (vec![0; NODE * nodes], vec![0; NODE_ROOM * nodes]);
-            match slices::derive(formula, names, symbol, &mut path, &mut tree, &mut program, &mut [0; REPORT]) {
+            match slices::derive(formula, names, symbol, &mut path, &mut tree, &mut program, &mut report) {
                 0 => {
                     tree.truncate(NODE * tree_nodes(&tree));
                     return Ok(Derivative { tree, program: Self(program) });
                 }
                 1 if nodes < LARGEST_TREE => nodes = (4 * nodes).min(LARGEST_TREE),
-                number => return Err(refused(number, Action::Derive, &path)),
+                number => return Err(refused(number, Action::Derive, &path, report[NODE_AT])),
             }
         }
     }
 
     /// A program from bytes that `bytes` gave, or refusal 10 where they are none.
     pub fn from_bytes(bytes: Vec<u8>) -> Result<Self, Error> {
-        if slices::is_program(&bytes) { Ok(Self(bytes)) } else { Err(refused(10, Action::Run, &[])) }
+        if slices::is_program(&bytes) { Ok(Self(bytes)) } else { Err(refused(10, Action::Run, &[], 0)) }
     }
 
     pub fn bytes(&self) -> &[u8] {
@@ -190,7 +192,7 @@ impl<'a> Run<'a> {
             0 => Ok(Answer::Value(f64::from_bits(self.state[VALUE]))),
             ASK => Ok(Answer::Ask(self.question())),
             SPENT => Ok(Answer::Spent),
-            number => Err(refused(number, Action::Run, &self.path)),
+            number => Err(refused(number, Action::Run, &self.path, 0)),
         }
     }
 

@@ -1,6 +1,6 @@
 //! The library's functions on slices of the caller's: the answer is a number, and nothing is allocated.
 //!
-//! 0 is success, 1 to 11 are refusals (`Refusal`), `ASK` and `SPENT` are a run's other answers.
+//! 0 is success, 1 to 13 are refusals (`Refusal`), `ASK` and `SPENT` are a run's other answers.
 use crate::raw;
 
 /// A path slice has this many bytes or more.
@@ -10,8 +10,11 @@ pub const NODE: usize = 16;
 pub const NODE_ROOM: usize = 240;
 /// Numbers of a run's state and outcome.
 pub const STATE: usize = 16;
-/// Numbers of a report, in which a call hands out what it has beside its answer; none yet, so that it stays as it was.
+/// Numbers of a report, in which a call hands out what it has beside its answer. A report of fewer is refused, and not written.
 pub const REPORT: usize = 8;
+/// The place in a report's numbers of the node of a refusal 2, 12 or 13. `compile` and `derive` write it, 0 where there is none; all else
+/// in a report stays as it was.
+pub const NODE_AT: usize = 0;
 /// A run's answer: a question pends.
 pub const ASK: usize = 100;
 /// A run's answer: the whole budget was completed and code remains.
@@ -35,7 +38,7 @@ pub fn program_room(formula_length: usize) -> usize {
     formula_length.div_ceil(NODE) * NODE_ROOM
 }
 
-/// 0 and a program, or a refusal.
+/// 0 and a program, or a refusal; its node is in the report.
 pub fn compile(formula: &[u8], names: &[u8], path: &mut [u8], program: &mut [u8], report: &mut [u64]) -> usize {
     // SAFETY: each pointer has its slice's length after it, and the library stays within both.
     unsafe {
@@ -46,7 +49,7 @@ pub fn compile(formula: &[u8], names: &[u8], path: &mut [u8], program: &mut [u8]
     }
 }
 
-/// 0, a derivative tree and its program, or a refusal.
+/// 0, a derivative tree and its program, or a refusal; its node is in the report.
 pub fn derive(
     formula: &[u8], names: &[u8], symbol: u32, path: &mut [u8], tree: &mut [u8], program: &mut [u8], report: &mut [u64],
 ) -> usize {

@@ -94,7 +94,9 @@ fn budgets() {
 #[test]
 fn refusals() {
     let refused = |formula: &[u8], names: &[u8]| Program::compile(formula, names).unwrap_err().to_string();
-    assert_eq!(refused(&[0; 15], b""), "refusal 2: the bytes are no formula");
+    assert_eq!(refused(&[9; 16], b""), "refusal 2 at node 0: a field of the node is wrong");
+    assert_eq!(refused(&[0; 15], b""), "refusal 12 at node 0: the bytes end before the formula does");
+    assert_eq!(refused(&[0; 17], b""), "refusal 13 at node 1: bytes follow the formula's last node");
     assert_eq!(refused(&number(1.0), b"9a:p"), "refusal 3: the name line is not well formed");
     assert_eq!(refused(&call(11, &vec![number(1.0); 256]), b""), "refusal 4 at root: the formula has more than 256 nodes or more than 32 levels");
     let one = refused(&call(0, &[]), b"");
@@ -103,7 +105,69 @@ fn refusals() {
     assert_eq!(unknown, "refusal 6 at root.arguments[1]: the symbol's number is not in the name line");
     let derived = Program::derive(&node(1, 0, 0, 1, &[]), b"a:p", 0).unwrap_err();
     assert_eq!((derived.refusal, derived.place.as_deref()), (Refusal::Type, Some("root")));
-    assert_eq!((1..=12).filter_map(Refusal::from_number).map(Refusal::number).collect::<Vec<_>>(), (1..=11).collect::<Vec<_>>());
+    assert_eq!((0..=14).filter_map(Refusal::from_number).map(Refusal::number).collect::<Vec<_>>(), (1..=13).collect::<Vec<_>>());
+}
+
+/// The refusal and its node by compile and by derive, which are the same.
+fn fault(formula: &[u8], names: &[u8]) -> (Refusal, Option<u64>) {
+    let compiled = Program::compile(formula, names).unwrap_err();
+    let derived = Program::derive(formula, names, 0).unwrap_err();
+    assert_eq!((compiled.refusal, compiled.node), (derived.refusal, derived.node));
+    assert_eq!(compiled.place, None);
+    (compiled.refusal, compiled.node)
+}
+
+#[test]
+fn faults() {
+    use Refusal::{EndedEarly, LeftOver, Names, WrongField};
+    let formula = flight();
+    for cut in 0..formula.len() {
+        assert_eq!(fault(&formula[..cut], NAMES), (EndedEarly, Some(cut as u64 / 16)));
+    }
+    assert_eq!(fault(&formula[..40], b"a:p,"), (EndedEarly, Some(2)));
+    assert_eq!(fault(&formula, b"a:p,"), (Names, None));
+    for more in [vec![0], vec![9; 15], symbol(0), vec![9; 17]] {
+        assert_eq!(fault(&[formula.clone(), more].concat(), NAMES), (LeftOver, Some(9)));
+    }
+    for node in 0..9 {
+        let mut wrong = formula.clone();
+        wrong[16 * node] = 9;
+        assert_eq!(fault(&wrong, NAMES), (WrongField, Some(node as u64)));
+        assert_eq!(fault(&wrong[..16 * node + 16], NAMES), (WrongField, Some(node as u64)));
+        assert_eq!(fault(&wrong[..16 * node + 15], NAMES), (EndedEarly, Some(node as u64)));
+    }
+    let most = [7, 11, 255, 255, 0, 0, 0, 0, 0, 0, 0, 0, 0, 0, 0, 0];
+    assert_eq!(fault(&most.repeat(1000), NAMES), (EndedEarly, Some(1000)));
+    assert_eq!(fault(&[most.repeat(1000), vec![9; 16], symbol(0)].concat(), NAMES), (WrongField, Some(1000)));
+    assert_eq!(fault(&[most.to_vec(), symbol(0).repeat(65536)].concat(), NAMES), (LeftOver, Some(65536)));
+}
+
+/// Compile and derive write the node's place of the report, 0 where there is none, and no other; runs leave the whole report.
+#[test]
+fn reports() {
+    let node = |number: usize, node: u64| ((number, number), [node, 7, 7, 7, 7, 7, 7, 7], [node, 7, 7, 7, 7, 7, 7, 7]);
+    let both = |formula: &[u8], names: &[u8], room: usize| {
+        let (mut path, mut tree, mut program) = ([7; PATH], [7; 1600], vec![7; room]);
+        let (mut compiled, mut derived) = ([7; REPORT], [7; REPORT]);
+        let number = slices::compile(formula, names, &mut path, &mut program, &mut compiled);
+        ((number, slices::derive(formula, names, 2, &mut path, &mut tree, &mut program, &mut derived)), compiled, derived)
+    };
+    let formula = flight();
+    assert_eq!(both(&formula, NAMES, 24_000), node(0, 0));
+    assert_eq!(both(&formula[..140], NAMES, 24_000), node(12, 8));
+    assert_eq!(both(&formula[..140], NAMES, 8 * 240), node(1, 0));
+    assert_eq!(both(&[&formula[..], &[0]].concat(), NAMES, 24_000), node(13, 9));
+    assert_eq!(both(&[0, 1].repeat(8), NAMES, 24_000), node(2, 0));
+    assert_eq!(both(&formula, b"A", 24_000), node(3, 0));
+    assert_eq!(both(&formula, b"a:p", 24_000), node(6, 0));
+    let program = Program::compile(&formula, NAMES).unwrap();
+    let (mut registers, mut path, mut cells, mut report) = ([7.0; 9], [7; PATH], [7; STATE], [7; REPORT]);
+    for inputs in [&[90.0, 300.0, 400.0, 200.0, 0.0][..], &[]] {
+        slices::run(program.bytes(), inputs, &mut registers, &mut path, 2, &mut cells, &mut report);
+        slices::resume(program.bytes(), inputs, &mut registers, &mut path, 2, &mut cells, &mut report, None);
+        slices::resume(program.bytes(), inputs, &mut registers, &mut path, 2, &mut cells, &mut report, Some(1.0));
+    }
+    assert_eq!(report, [7; REPORT]);
 }
 
 #[test]

@@ -77,8 +77,8 @@ pub fn case(random: &mut Random) -> Case {
     maker.formula();
     let symbol = maker.symbol();
     let mut formula = maker.out;
-    if random.chance(0.05) {
-        formula = damaged(random, formula);
+    if random.chance(0.1) {
+        formula = faulty(random, formula);
     }
     if random.chance(0.02) {
         names = damaged_line(random, names);
@@ -124,20 +124,44 @@ fn damaged_line(random: &mut Random, mut line: Vec<u8>) -> Vec<u8> {
     line
 }
 
-/// The formula with a field changed, cut, or followed by something.
+/// The formula damaged up to three times; one in four under lists that claim to have up to 65,535 parts.
+fn faulty(random: &mut Random, mut formula: Vec<u8>) -> Vec<u8> {
+    if random.chance(0.25) {
+        let any = random.below(1 << 16);
+        let count = random.choice(&[2, 3, 255, 256, 65535, any]);
+        let (kind, operator) = random.choice(&[(CALL, MIN), (CALL, MAX), (BOOLEAN, 0), (BOOLEAN, 1)]);
+        let mut lists = Vec::new();
+        (0..random.choice(&[1, 1, 2, 10, 300])).for_each(|_| node(&mut lists, kind, operator, count, 0, 0));
+        lists.extend(formula.repeat(random.choice(&[1, 2, 3])));
+        formula = lists;
+    }
+    for _ in 0..random.choice(&[1, 1, 2, 3]) {
+        if !formula.is_empty() {
+            formula = damaged(random, formula);
+        }
+    }
+    formula
+}
+
+/// The formula with a field changed, cut, cut in or after a node that is none, or followed by something.
 fn damaged(random: &mut Random, mut formula: Vec<u8>) -> Vec<u8> {
     let at = random.below(formula.len());
     let start = at / NODE_SIZE * NODE_SIZE;
     let (from, to) = random.choice(&[(0, 1), (1, 2), (2, 4), (4, 8), (8, NODE_SIZE)]);
-    match random.below(7) {
+    match random.below(9) {
         0..=2 => {
             let wild = random.bits();
             let new = random.choice(&[0, 1, 2, 3, wild]).to_le_bytes();
-            formula[start + from..start + to].copy_from_slice(&new[..to - from]);
+            formula.iter_mut().skip(start + from).zip(&new[..to - from]).for_each(|(byte, new)| *byte = *new);
         }
         3 => formula[at] ^= 1 << random.below(8),
         4 => formula.truncate(random.choice(&[at, start])),
         5 => formula.extend_from_within(start..),
+        6 => formula[start] = 9,
+        7 => {
+            formula[start] = 9;
+            formula.truncate(start + 1 + random.below(NODE_SIZE));
+        }
         _ => formula.extend(vec![0; random.choice(&[1, NODE_SIZE - 1, NODE_SIZE, NODE_SIZE + 1])]),
     }
     formula

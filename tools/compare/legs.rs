@@ -7,7 +7,7 @@ use crate::machine::bits;
 use crate::node::NODE_SIZE;
 use crate::random::Random;
 use crate::values::values;
-use crate::{names, nodes, refusal, steps};
+use crate::{nodes, read, refusal, steps, Refused};
 use std::fmt::Write;
 use std::fs::{self, File};
 use std::panic::{catch_unwind, AssertUnwindSafe};
@@ -71,19 +71,17 @@ fn expected(formula: &[u8], input: &[u8]) -> String {
     let mut out = String::new();
     let lines = lines(input);
     let (line, values) = lines.split_first().map_or((&b""[..], &[][..]), |(line, values)| (*line, values));
-    let program = match (formula.len() <= LARGEST, nodes::well_formed(formula), names::read(line)) {
-        (false, ..) => Err((1, None)),
-        (_, false, _) => Err((2, None)),
-        (.., None) => Err((3, None)),
-        (.., Some(symbols)) => {
-            let expr = nodes::read(formula, &symbols);
-            let program = Program::compile(&expr, &symbols).map_err(refusal);
-            nodes::dismantle(expr);
-            program
-        }
-    };
+    let read = if formula.len() <= LARGEST { read(formula, line) } else { Err(Refused::plain(1)) };
+    let program = read.and_then(|(expr, symbols)| {
+        let program = Program::compile(&expr, &symbols).map_err(refusal);
+        nodes::dismantle(expr);
+        program
+    });
     match program {
-        Err((number, place)) => writeln!(out, "0,refused,{number}:{},0", place.unwrap_or_default()).expect("a string takes all"),
+        Err(Refused { number, place, node }) => {
+            let detail = node.map_or(place.unwrap_or_default(), |node| node.to_string());
+            writeln!(out, "0,refused,{number}:{detail},0").expect("a string takes all");
+        }
         Ok(program) => {
             for (number, line) in (1..).zip(values.iter().take(LINES)) {
                 write!(out, "{number},").expect("a string takes all");

@@ -1,7 +1,7 @@
 //! Compares the library with the Rust reference on random and damaged formulas: compare SEED COUNT [LEGS], or
 //! compare SEED COUNT record FOLDER, which also writes a sample of the answers to FOLDER/library_cases and FOLDER/demand_cases.
 //!
-//! For each formula: compile and derive (refusal, path, every instruction, the tree's bytes, what each slice holds after), runs
+//! For each formula: compile and derive (refusal, path or node, every instruction, the tree's bytes, what each slice holds after), runs
 //! of both programs (values, questions, Domains, counts, registers), cut by budgets, with refused calls and forged states. With
 //! LEGS, the path of the program `legs`, its output on files of lines too.
 include!("../../reference/src/modules.rs");
@@ -30,7 +30,8 @@ use node::NODE_SIZE;
 use random::Random;
 use record::{Made, Recorder};
 use runs::Played;
-use vebrostin::slices::{self, PATH, REPORT};
+use std::collections::BTreeMap;
+use vebrostin::slices::{self, NODE_AT, PATH, REPORT};
 
 const FILL: u8 = 170;
 /// Nodes of a derivative at most.
@@ -41,9 +42,9 @@ const LARGEST: usize = 16384;
 struct Tally {
     formulas: u64,
     /// By compile's answer, 0 for a program.
-    compiled: [u64; 12],
+    compiled: BTreeMap<usize, u64>,
     /// By derive's answer, 0 for a tree.
-    derived: [u64; 12],
+    derived: BTreeMap<usize, u64>,
     /// Derivatives that the reference was not asked for, as it would build too much.
     unasked: u64,
     nodes: u64,
@@ -57,14 +58,26 @@ struct Tally {
     differences: u64,
 }
 
-/// A refusal: its number and its place.
-type Refused = (usize, Option<String>);
+/// A refusal: its number, and its place or the node of the bytes where it has one.
+#[derive(Clone, Debug)]
+struct Refused {
+    number: usize,
+    place: Option<String>,
+    node: Option<usize>,
+}
+
+impl Refused {
+    /// One that is nowhere.
+    fn plain(number: usize) -> Self {
+        Self { number, place: None, node: None }
+    }
+}
 
 fn refusal(error: Error) -> Refused {
     let Some(number) = refusals::number(&error.code) else {
         unreachable!("the reference's compiler says {:?}", error.code);
     };
-    (number, error.expression)
+    Refused { number, place: error.expression, node: None }
 }
 
 /// Whether a path slice holds a text and zeros, or, without a text, what it was filled with.
@@ -75,9 +88,18 @@ fn is_path(slice: &[u8], text: Option<&str>) -> bool {
     }
 }
 
-/// No call writes to its report yet.
+/// Runs leave their reports, which were filled with 7.
 fn unreported(report: &[u64]) -> Result<(), String> {
     if report.iter().all(|number| *number == 7) { Ok(()) } else { Err(format!("the report is {report:?}")) }
+}
+
+/// Compile and derive write the node of a refusal that has one, else 0, and leave the rest of the report; one that is too short they
+/// leave as it was.
+fn reported(number: usize, report: &[u64], wanted: Option<&Refused>) -> Result<(), String> {
+    let node = wanted.and_then(|refused| refused.node).unwrap_or(0) as u64;
+    let written = |at: usize| at == NODE_AT && report.len() >= REPORT;
+    let same = report.iter().enumerate().all(|(at, told)| *told == if written(at) { node } else { 7 });
+    if same { Ok(()) } else { Err(format!("{number} with the report {report:?} here, {wanted:?} in Rust")) }
 }
 
 fn all(slice: &[u8], byte: u8) -> bool {
@@ -88,13 +110,13 @@ fn has_extremum(expr: &Expr) -> bool {
     matches!(expr, Expr::Call { name: Function::Min | Function::Max, .. }) || expr.children().iter().any(has_extremum)
 }
 
-/// Formula and names as the reference has them, or refusal 2 or 3.
-fn read(case: &Case) -> Result<(Expr, Vec<compile::Symbol>), Refused> {
-    if !nodes::well_formed(&case.formula) {
-        return Err((2, None));
+/// Formula and names as the reference has them, or refusal 2, 12, 13 or 3.
+fn read(formula: &[u8], names: &[u8]) -> Result<(Expr, Vec<compile::Symbol>), Refused> {
+    if let Some((number, node)) = nodes::fault(formula) {
+        return Err(Refused { number, place: None, node: Some(node) });
     }
-    let symbols = names::read(&case.names).ok_or((3, None))?;
-    Ok((nodes::read(&case.formula, &symbols), symbols))
+    let symbols = names::read(names).ok_or(Refused::plain(3))?;
+    Ok((nodes::read(formula, &symbols), symbols))
 }
 
 struct Comparison {
@@ -130,8 +152,14 @@ impl Comparison {
         if self.random.chance(0.01) { self.random.choice(&[0, 4, PATH - 1]) } else { PATH + 8 * self.random.below(2) }
     }
 
+    /// A report filled with 7: as long as it has to be or a little longer, seldom too short.
+    fn report(&mut self) -> Vec<u64> {
+        let length = if self.random.chance(0.01) { self.random.below(REPORT) } else { REPORT + self.random.below(3) };
+        vec![7; length]
+    }
+
     fn case(&mut self, case: &Case) -> Result<(), String> {
-        let read = read(case);
+        let read = read(&case.formula, &case.names);
         let outcome = self.both(case, &read);
         if let Ok((expr, _)) = read {
             nodes::dismantle(expr);
@@ -149,15 +177,15 @@ impl Comparison {
 
     fn compile(&mut self, case: &Case, expected: Result<Program, Refused>, loose: bool) -> Result<(), String> {
         let room = slices::program_room(case.formula.len());
-        let (path_length, length) = (self.path_length(), self.length(room));
+        let (path_length, length, mut report) = (self.path_length(), self.length(room), self.report());
         let (path, program) = (filled(&mut self.path, path_length), filled(&mut self.program, length));
-        let mut report = [7; REPORT];
         let number = slices::compile(&case.formula, &case.names, path, program, &mut report);
-        unreported(&report)?;
-        self.tally.compiled[number.min(11)] += 1;
-        let short = path_length < PATH || length < room;
-        let expected = if short { Err((1, None)) } else { expected };
-        let made = Made { lengths: [path_length, 0, length], answer: number, ..Made::default() };
+        *self.tally.compiled.entry(number).or_default() += 1;
+        let no_report = report.len() < REPORT;
+        let short = no_report || path_length < PATH || length < room;
+        let expected = if short { Err(Refused::plain(1)) } else { expected };
+        reported(number, &report, expected.as_ref().err())?;
+        let made = Made { lengths: [path_length, 0, length], answer: number, no_report, ..Made::default() };
         match expected {
             Ok(wanted) if number == 0 && all(path, FILL) => {
                 self.tally.instructions += wanted.instruction_count() as u64;
@@ -167,15 +195,15 @@ impl Comparison {
                 Ok(())
             }
             Ok(_) => Err(format!("{number} at {} here, a program in Rust", slices::text(path))),
-            Err((wanted, place)) => {
+            Err(Refused { number: wanted, place, node }) => {
                 if number != wanted || !is_path(path, place.as_deref()) {
                     return Err(format!("{number} at {} here, {wanted} at {place:?} in Rust", slices::text(path)));
                 }
-                let zero = wanted >= 5;
+                let zero = matches!(wanted, 5..=9);
                 if !all(program, if zero { 0 } else { FILL }) {
                     return Err("the program slice is not as a refusal leaves it".into());
                 }
-                let made = Made { text: place.as_deref().unwrap_or_default(), program_zero: zero, ..made };
+                let made = Made { text: place.as_deref().unwrap_or_default(), node, program_zero: zero, ..made };
                 record(&mut self.recorder, case, made, &Played::default());
                 Ok(())
             }
@@ -209,8 +237,8 @@ impl Comparison {
             (self.path_length(), self.length(tree_need), self.length(program_need.max(own_room)));
         let early = path_length < PATH || program_length < own_room;
         let expected = match derived {
-            _ if early => Err((1, None)),
-            Ok(_) if tree_length < tree_need || program_length < program_need => Err((1, None)),
+            _ if early => Err(Refused::plain(1)),
+            Ok(_) if tree_length < tree_need || program_length < program_need => Err(Refused::plain(1)),
             other => other,
         };
         let from_compile = early || from_fault;
@@ -221,14 +249,16 @@ impl Comparison {
     fn derive_with(
         &mut self, case: &Case, expected: Result<(Vec<u8>, Program), Refused>, lengths: [usize; 3], from_compile: bool, loose: bool,
     ) -> Result<(), String> {
+        let mut report = self.report();
         let path = filled(&mut self.path, lengths[0]);
         let tree = filled(&mut self.tree, lengths[1]);
         let program = filled(&mut self.program, lengths[2]);
-        let mut report = [7; REPORT];
         let number = slices::derive(&case.formula, &case.names, case.symbol, path, tree, program, &mut report);
-        unreported(&report)?;
-        self.tally.derived[number.min(11)] += 1;
-        let made = Made { symbol: u64::from(case.symbol), lengths, answer: number, ..Made::default() };
+        *self.tally.derived.entry(number).or_default() += 1;
+        let no_report = report.len() < REPORT;
+        let expected = if no_report { Err(Refused::plain(1)) } else { expected };
+        reported(number, &report, expected.as_ref().err())?;
+        let made = Made { symbol: u64::from(case.symbol), lengths, answer: number, no_report, ..Made::default() };
         match expected {
             Ok((bytes, wanted)) if number == 0 && all(path, FILL) => {
                 self.tally.nodes += (bytes.len() / NODE_SIZE) as u64;
@@ -242,15 +272,15 @@ impl Comparison {
                 Ok(())
             }
             Ok(_) => Err(format!("{number} at {} here, a tree in Rust", slices::text(path))),
-            Err((wanted, place)) => {
+            Err(Refused { number: wanted, place, node }) => {
                 if number != wanted || !is_path(path, place.as_deref()) {
                     return Err(format!("{number} at {} here, {wanted} at {place:?} in Rust", slices::text(path)));
                 }
-                let left = if from_compile { FILL } else { 0 };
+                let left = if from_compile || no_report { FILL } else { 0 };
                 if !all(program, FILL) || !all(tree, left) {
                     return Err("a slice is not as a refusal leaves it".into());
                 }
-                let made = Made { text: place.as_deref().unwrap_or_default(), tree_zero: !from_compile, ..made };
+                let made = Made { text: place.as_deref().unwrap_or_default(), node, tree_zero: !from_compile, ..made };
                 record(&mut self.recorder, case, made, &Played::default());
                 Ok(())
             }
@@ -270,13 +300,15 @@ fn hex(bytes: &[u8]) -> String {
 }
 
 fn report(tally: &Tally) {
-    let by_answer = |counts: &[u64; 12]| {
-        let refused = (1..12).filter(|n| counts[*n] > 0).map(|n| format!(", {} refused {n}", counts[n]));
+    let good = |counts: &BTreeMap<usize, u64>| counts.get(&0).copied().unwrap_or(0);
+    let by_answer = |counts: &BTreeMap<usize, u64>| {
+        let refused = counts.iter().filter(|(number, _)| **number > 0).map(|(number, count)| format!(", {count} refused {number}"));
         refused.collect::<String>()
     };
     println!("{} formulas", tally.formulas);
-    println!("compiled: {} programs{}", tally.compiled[0], by_answer(&tally.compiled));
-    println!("derived: {} trees of {} nodes{}, {} too large for the reference", tally.derived[0], tally.nodes, by_answer(&tally.derived), tally.unasked);
+    println!("compiled: {} programs{}", good(&tally.compiled), by_answer(&tally.compiled));
+    let (trees, refused) = (good(&tally.derived), by_answer(&tally.derived));
+    println!("derived: {trees} trees of {} nodes{refused}, {} too large for the reference", tally.nodes, tally.unasked);
     println!("{} instructions compared", tally.instructions);
     for (name, runs) in [("runs", &tally.runs), ("runs of derivatives", &tally.derivative_runs)] {
         println!(

@@ -28,6 +28,8 @@ pub struct Made<'a> {
     pub lengths: [usize; 3],
     pub answer: usize,
     pub text: &'a str,
+    /// The node of a refusal that has one.
+    pub node: Option<usize>,
     pub tree: &'a [u8],
     pub program: &'a [u8],
     pub tree_zero: bool,
@@ -37,6 +39,8 @@ pub struct Made<'a> {
     pub calls: &'a [Call],
     /// Whether a zero of Min or Max has the other sign in Rust.
     pub zeros: bool,
+    /// Whether the report was too short; the gate's are not.
+    pub no_report: bool,
 }
 
 impl Default for Made<'_> {
@@ -46,6 +50,7 @@ impl Default for Made<'_> {
             lengths: [0; 3],
             answer: 0,
             text: "",
+            node: None,
             tree: &[],
             program: &[],
             tree_zero: false,
@@ -54,6 +59,7 @@ impl Default for Made<'_> {
             inputs: &[],
             calls: &[],
             zeros: false,
+            no_report: false,
         }
     }
 }
@@ -101,7 +107,7 @@ impl Recorder {
         let key = (made.symbol < 1 << 32, made.answer, made.tree_zero, made.zeros);
         let wanted = if made.answer == 0 && !made.zeros { ANSWERED } else { OTHERS };
         let taken = self.answers.entry(key).or_default();
-        if !small || !room || !short || !rich || *taken == wanted {
+        if made.no_report || !small || !room || !short || !rich || *taken == wanted {
             return;
         }
         *taken += 1;
@@ -114,7 +120,7 @@ impl Recorder {
         let texts = [made.answer, made.text.len(), made.tree.len(), made.program.len()].map(|n| n as u64);
         self.numbers(texts);
         self.numbers([u64::from(made.tree_zero), u64::from(made.program_zero)]);
-        self.numbers([made.inputs.len(), made.registers, made.calls.len()].map(|n| n as u64));
+        self.numbers([made.inputs.len(), made.registers, made.calls.len(), made.node.unwrap_or(0)].map(|n| n as u64));
         for part in [case.formula.as_slice(), &case.names, made.text.as_bytes(), made.tree, made.program] {
             self.bytes.extend(part);
         }
@@ -139,6 +145,7 @@ impl Recorder {
         let sizes = [case.formula.len(), case.names.len(), made.symbol as usize, path, made.lengths[1], made.lengths[2], made.answer];
         extend(&mut self.lists, sizes.map(|n| n as u64));
         extend(&mut self.lists, [made.inputs.len() as u64, made.registers as u64, held, calls.len() as u64]);
+        extend(&mut self.lists, [made.node.map_or(0, |node| node as u64 + 1)]);
         self.lists.extend(case.formula.iter().chain(&case.names));
         extend(&mut self.lists, made.inputs.iter().map(|x| x.to_bits()));
         extend(&mut self.lists, calls.iter().map(|call| call.numbers[1]));

@@ -11,11 +11,14 @@ import sys
 HERE = os.path.dirname(os.path.abspath(__file__))
 ROOT = os.path.dirname(os.path.dirname(HERE))
 sys.path[:0] = [os.path.join(ROOT, "reference"), os.path.join(ROOT, "tools", "shared")]
+import faults  # noqa: E402
 from generate import Generator  # noqa: E402
 from nodes import NODE_SIZE, bits, node, program_room  # noqa: E402
 from nodes import NUMBER, TRUTH, SYMBOL, UNARY, BINARY, COMPARE, BOOLEAN, CALL, CONDITIONAL  # noqa: E402
 
 PATH_ROOM, FILL = 8192, 170
+# numbers before a case's bytes
+HEAD = struct.Struct("<10I")
 OPCODES = {"unary": 5, "binary": 8, "compare": 14, "call": 20}
 STEPS = {"condition": 0, "then": 1, "else": 2}
 
@@ -83,9 +86,9 @@ def image_of(answer):
 
 # Cases
 
-def record(formula, names, rooms, number, text, program, rest):
+def record(formula, names, rooms, number, text, program, rest, node_and_one=0):
     path_rest = 0 if text else FILL
-    head = struct.pack("<9I", len(formula), len(names), rooms[0], rooms[1], number, len(text), path_rest, len(program), rest)
+    head = HEAD.pack(len(formula), len(names), rooms[0], rooms[1], number, len(text), path_rest, len(program), rest, node_and_one)
     return head + formula + names + text + program
 
 
@@ -96,9 +99,12 @@ def case_of(formula, names, answer, more):
         return 0, record(formula, names, rooms, 0, b"", image_of(answer), 0)
     word, number, path = answer.split(" ")
     assert word == "refused", answer
-    number, text = int(number), b"" if path == "-" else path.encode()
-    assert (number < 4) == (text == b"")
-    return number, record(formula, names, rooms, number, text, b"", 0 if number > 4 else FILL)
+    number, fault = int(number), faults.first_fault(formula)
+    node_and_one = int(path[1:]) + 1 if path[0] == "@" else 0
+    assert fault == ("%d:%d" % (number, node_and_one - 1) if node_and_one else None), answer
+    text = path.encode() if path.startswith("root") else b""
+    assert (number in (2, 3, 12, 13)) == (text == b"")
+    return number, record(formula, names, rooms, number, text, b"", 0 if 5 <= number <= 9 else FILL, node_and_one)
 
 
 def short_cases():
@@ -144,11 +150,28 @@ def made():
     return [(formula, names) for formula in out]
 
 
+def faulty():
+    """Formulas with a fault in their bytes, of the cuts those around the ends of nodes; one is longer than any file that legs takes."""
+    cuts = [case for c, case in enumerate(faults.cuts()) if c % NODE_SIZE in (0, 1, NODE_SIZE - 1)]
+    spoilt = [case for case in faults.spoilt(faults.FLIGHT) if not case[0].startswith("high")]
+    longer = "256 Mins of 65,535 and a byte", faults.MOST * 256 + b"\0", faults.NAMES, "12:256"
+    return [*faults.table(), *faults.counts(), *cuts, *spoilt, *faults.doubled(), longer]
+
+
 def random_cases(count):
     generator, out = Generator(16), []
     for _ in range(count):
         words = generator.command(False).split()
         out.append((unhex(words[1]), unhex(words[2])))
+    return out
+
+
+def random_faults(count):
+    """Random formulas damaged once or more, with their name lines."""
+    generator, out = Generator(17), []
+    for _ in range(count):
+        generator.symbols, generator.used, generator.still, generator.faults = generator.names(), [], False, 0.0
+        out.append((generator.faulty(generator.formula(0.12)), generator.name_line(generator.symbols)))
     return out
 
 
@@ -159,26 +182,39 @@ def ask(oracle, cases):
     return answers
 
 
+def told(refusal):
+    """The reference's answer of a refusal that is written as legs shows it."""
+    number, place = refusal.split(":")
+    return "refused %s %s" % (number, "@" + place if place.isdecimal() else place or "-")
+
+
+def fixed_cases(oracle):
+    """All worked, made and faulty ones."""
+    own, wrong = worked() + made(), faulty()
+    cases = own + [(formula, names) for _, formula, names, _ in wrong]
+    answers = ask(oracle, cases)
+    for (_, formula, names, refusal), answer in zip(wrong, answers[len(own):]):
+        assert answer == told(refusal), (formula.hex(), answer, refusal)
+    return [case_of(*case, answer, i % 3 * 17)[1] for i, (case, answer) in enumerate(zip(cases, answers))]
+
+
 def chosen(oracle):
-    """All worked and made cases; of the random ones 180 programs and up to 20 of each refusal, the long ones left out."""
-    kept, counts = short_cases(), {0: 0}
-    fixed = worked() + made()
-    for i, ((formula, names), answer) in enumerate(zip(fixed, ask(oracle, fixed))):
-        kept.append(case_of(formula, names, answer, i % 3 * 17)[1])
-    cases = random_cases(20000)
+    """All fixed cases; of the random ones 130 programs and up to 16 of each refusal, the long ones left out."""
+    kept, counts = short_cases() + fixed_cases(oracle), {0: 0}
+    cases = random_faults(300) + random_cases(20000)
     for i, ((formula, names), answer) in enumerate(zip(cases, ask(oracle, cases))):
         if len(formula) > 272 * NODE_SIZE or len(names) > 1000:
             continue
         number, case = case_of(formula, names, answer, i % 3 * 17)
-        if counts.get(number, 0) < (180 if number == 0 else 20) and len(case) < 1600:
+        if counts.get(number, 0) < (130 if number == 0 else 16) and len(case) < 1600:
             counts[number] = counts.get(number, 0) + 1
             kept.append(case)
     return kept, counts
 
 
 def opcodes_in(case):
-    lengths = struct.unpack_from("<9I", case)
-    program = case[36 + lengths[0] + lengths[1] + lengths[5]:]
+    lengths = HEAD.unpack_from(case)
+    program = case[HEAD.size + lengths[0] + lengths[1] + lengths[5]:]
     return {program[at] for at in range(32, 32 + 24 * struct.unpack_from("<I", program, 4)[0], 24)} if program else set()
 
 

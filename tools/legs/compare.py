@@ -5,8 +5,9 @@ are compared as numbers, as Rust leaves their sign open; the fixed tables of zer
 Usage: compare.py LEGS ORACLE [SEED [CASES]]
 
 LEGS is the built program, ORACLE the reference (reference/build.sh). What the reference has no part in, lines, digits, counts, totals
-and the form of the output, is written out here from docs/REFERENCE.md. In some cases the input is cut into blocks at random places:
-a block is written to the pipe when the program has read all of the one before.
+and the form of the output, is written out here from docs/REFERENCE.md. The first fault of a formula's bytes is looked for by
+tools/shared/faults.py, which has to find the reference's. In some cases the input is cut into blocks at random places: a block is
+written to the pipe when the program has read all of the one before.
 """
 import array
 import bisect
@@ -27,6 +28,7 @@ import time
 
 HERE = os.path.dirname(os.path.abspath(__file__))
 sys.path[:0] = [os.path.join(HERE, "..", "..", "reference"), os.path.join(HERE, "..", "shared")]
+import faults  # noqa: E402
 from generate import Generator, is_finite  # noqa: E402
 from nodes import bits, node, number, symbol  # noqa: E402
 
@@ -61,11 +63,22 @@ def whole(above):
     return HEADER + above + b"total,%d,%d,%d,%d,%d\n" % (*columns, steps)
 
 
-def refusal(number, path=""):
-    return whole(b"0,refused,%d:%s,0\n" % (number, path.encode()))
+def refusal(detail):
+    """The output of a refusal: its number, a colon, and its path or node where it has one."""
+    return whole(b"0,refused,%s,0\n" % detail.encode())
 
 
-def fault(line, count):
+def refused(formula, words):
+    """The detail of a refusal that the reference answers, nothing for a program; a fault of the bytes has to be the one found here."""
+    detail = "%s:%s" % (words[1], words[2].lstrip("@-")) if words[0] == "refused" else None
+    told = detail if detail and words[2].startswith("@") else None
+    found = faults.first_fault(formula)
+    if told != found:
+        raise SystemExit("%s: fault %s here, %s by the reference" % (formula.hex(), found, told))
+    return detail
+
+
+def bad(line, count):
     """3 or 5 for a bad line, 0 for a good one."""
     if line and not VALUES.fullmatch(line):
         return 3
@@ -82,22 +95,22 @@ def answer(words):
 def answers(oracle, words, count, lines):
     """Answer, detail and steps of each line. Lines that are the same have the same ones, so each line is asked once, however often it
     stands there: a million empty lines are one question."""
-    faults = {line: fault(line, count) for line in dict.fromkeys(lines)}
-    good = [line for line in faults if not faults[line]]
+    numbers = {line: bad(line, count) for line in dict.fromkeys(lines)}
+    good = [line for line in numbers if not numbers[line]]
     told = ask(oracle, ["run %s %s -" % (words, line.decode() or "-") for line in good]) if good else []
-    found = {line: "bad,%d,0" % number for line, number in faults.items()}
+    found = {line: "bad,%d,0" % number for line, number in numbers.items()}
     found.update(zip(good, (answer(text.split()) for text in told), strict=True))
     return [found[line] for line in lines]
 
 
 def expected(oracle, formula, data):
     if formula is None or len(formula) > 4096:
-        return refusal(1)
+        return refusal("1:")
     names, *values = lines_of(data)[:1 + LIMIT] or [b""]
     words = "%s %s" % (formula.hex() or "-", names.hex() or "-")
-    first = ask(oracle, ["compile " + words])[0].split()
-    if first[0] == "refused":
-        return refusal(int(first[1]), "" if first[2] == "-" else first[2])
+    detail = refused(formula, ask(oracle, ["compile " + words])[0].split())
+    if detail:
+        return refusal(detail)
     count = names.count(b",") + 1 if names else 0
     records = enumerate(answers(oracle, words, count, values), 1)
     return whole("".join("%d,%s\n" % record for record in records).encode())
@@ -205,8 +218,8 @@ def random_case(r):
     r.faults = 0.04 if r.chance(0.1) else 0.0
     formula = r.large() if r.chance(0.02) else r.formula(0.12)
     names = r.name_line(r.symbols)
-    if r.chance(0.04):
-        formula = r.damaged(formula)
+    if r.chance(0.1):
+        formula = r.faulty(formula)
     if r.chance(0.04):
         names = r.damaged_line(names)
     count = len(r.symbols)
@@ -279,16 +292,22 @@ FIVE_RECORDS = b"1,value,bff0000000000000,9\n2,domain,root.then,6\n3,ask,0:40000
 def worked_outputs():
     """Formula, input and the whole output."""
     one = number(1.0)
-    flight = node(4, 0, [symbol(0), node(4, 3, [node(4, 2, [symbol(1), symbol(2)]), node(4, 0, [symbol(3), symbol(4)])])])
     values = b"4056800000000000,4072c00000000000,4079000000000000,4069000000000000,"
     flights = b"climb:p,burn:p,distance:i,tas:i,wind:i\n" + values + b"0000000000000000\n" + values + b"c069000000000000\n"
-    yield "the worked flights", flight, flights, \
+    yield "the worked flights", faults.FLIGHT, flights, \
         HEADER + b"1,value,4085900000000000,9\n2,domain,root.arguments[1],7\ntotal,1,1,0,0,16\n"
     yield "each answer", EACH, FIVE, HEADER + FIVE_RECORDS + b"total,1,1,1,2,20\n"
     yield "two empty lines", one, b"\n\n\n", HEADER + b"1,value,3ff0000000000000,1\n2,value,3ff0000000000000,1\ntotal,2,0,0,0,2\n"
     yield "an empty name line", one, b"\n", HEADER + b"total,0,0,0,0,0\n"
     yield "an empty input", one, b"", HEADER + b"total,0,0,0,0,0\n"
     yield "no file", None, FIVE, HEADER + b"0,refused,1:,0\ntotal,0,0,0,0,0\n"
+
+
+def faulty_outputs():
+    """The same of formula files with a fault in their bytes."""
+    longer = "256 Mins of 65,535 and a byte", faults.MOST * 256 + b"\0", faults.NAMES, "1:"
+    for name, formula, names, detail in itertools.chain(faults.formulas(), [longer]):
+        yield name, formula, names + b"\n", HEADER + b"0,refused,%s,0\ntotal,0,0,0,0,0\n" % detail.encode()
 
 
 # ---- the zeros of Min and Max: -0 below +0, in every order
@@ -374,7 +393,7 @@ def try_fixed(tally, legs, oracle):
 
 
 def try_written(tally, legs, oracle):
-    for name, formula, data, want in itertools.chain(worked_outputs(), zero_tables()):
+    for name, formula, data, want in itertools.chain(worked_outputs(), faulty_outputs(), zero_tables()):
         tally.count(want)
         got, rust = run(legs, formula, data), expected(oracle, formula, data)
         tally.hold(got == want, name, got, want)

@@ -8,7 +8,7 @@ import os
 import struct
 import sys
 
-from compare import expected, fixed_cases, random_case, run, same, worked_outputs, zero_tables
+from compare import expected, faulty_outputs, fixed_cases, random_case, run, same, worked_outputs, zero_tables
 from generate import Generator
 
 ROOM = 327680
@@ -39,7 +39,7 @@ def main():
     for name, formula, data in fixed_cases():
         if len(data) < 25000:
             cases.append(case(r, formula, data, wanted(legs, oracle, formula, data)))
-    for name, formula, data, want in itertools.chain(worked_outputs(), zero_tables()):
+    for name, formula, data, want in itertools.chain(worked_outputs(), faulty_outputs(), zero_tables()):
         cases.append(case(r, formula, data, want))
     while True:
         total = 4 + sum(map(len, cases))

@@ -14,6 +14,7 @@ use Rattle.formula.specs.Formula.{Formula, Formulas, count, depth, formula-limi
 use Rattle.formula.specs.Formula as Tree
 use Rattle.formula.specs.Names.{Symbol, kinds, symbols-of}
 use Rattle.formula.specs.Node.{formula-of}
+use Rattle.formula.specs.Transfer.{Transfer, ended-early, left-over, transfer-of, whole, wrong-field}
 use Rattle.formula.specs.Term.{term}
 use Rattle.machine.specs.Check.{Fault, fault}
 use Rattle.machine.specs.Compile.{Compiled, accepted, compile, lowered-or, own-context, program-room, read, sized}
@@ -29,7 +30,7 @@ use Rattle.reader.specs.Writable.{all-writable, writable, writable-head}
 use Rattle.reader.proofs.Bytes.{Bytes}
 use Rattle.reader.proofs.Encode.{writable-tree}
 use Rattle.reader.proofs.Heads.{and-first, and-second}
-use Rattle.reader.proofs.Scan.{formula-in}
+use Rattle.reader.proofs.Scan.{formula-in, whole-formula}
 use Rattle.names.proofs.Told.{kinds-length, names-few}
 
 -- ---- what was accepted
@@ -39,19 +40,22 @@ sized-parts true none g f ts ss e = (cc, cc)
 sized-parts true (some x) g f ts ss e = absurd (let z : _≡_ {A = ℕ} 0 1 = cc in omega arith)
 sized-parts false o g f ts ss e = absurd (let z : _≡_ {A = ℕ} 0 1 = cc in omega arith)
 
-read-parts : (o : Option Formula) (s : Option (List Symbol)) (f : Formula) (ss : List Symbol) → read sized o s ≡ accepted f ss → (o ≡ some f) × (s ≡ some ss)
-read-parts none s f ss e = absurd (let z : _≡_ {A = ℕ} 0 1 = cc in omega arith)
-read-parts (some g) none f ss e = absurd (let z : _≡_ {A = ℕ} 0 1 = cc in omega arith)
-read-parts (some g) (some ts) f ss e =
-    let x = sized-parts (formula-limit g) (fault (own-context ts) (term g) root) g f ts ss e in (ap (λ (y : Formula). some y) (x .0), ap (λ (y : List Symbol). some y) (x .1))
+read-parts : (o : Transfer) (s : Option (List Symbol)) (f : Formula) (ss : List Symbol) → read sized o s ≡ accepted f ss → (o ≡ whole f) × (s ≡ some ss)
+read-parts (ended-early k) s f ss e = absurd (let z : _≡_ {A = ℕ} 0 1 = cc in omega arith)
+read-parts (wrong-field k) s f ss e = absurd (let z : _≡_ {A = ℕ} 0 1 = cc in omega arith)
+read-parts (left-over k) s f ss e = absurd (let z : _≡_ {A = ℕ} 0 1 = cc in omega arith)
+read-parts (whole g) none f ss e = absurd (let z : _≡_ {A = ℕ} 0 1 = cc in omega arith)
+read-parts (whole g) (some ts) f ss e =
+    let x = sized-parts (formula-limit g) (fault (own-context ts) (term g) root) g f ts ss e in (ap (λ (y : Formula). whole y) (x .0), ap (λ (y : List Symbol). some y) (x .1))
 
-long-parts : (b : Bool) (o : Option Formula) (s : Option (List Symbol)) (f : Formula) (ss : List Symbol) → cond b (Compile.refused 1 none) (read sized o s) ≡ accepted f ss → (o ≡ some f) × (s ≡ some ss)
+long-parts : (b : Bool) (o : Transfer) (s : Option (List Symbol)) (f : Formula) (ss : List Symbol) → cond b (Compile.refused 1 none) (read sized o s) ≡ accepted f ss → (o ≡ whole f) × (s ≡ some ss)
 long-parts true o s f ss e = absurd (let z : _≡_ {A = ℕ} 0 1 = cc in omega arith)
 long-parts false o s f ss e = read-parts o s f ss e
 
 pub accepted-parts : (b l : List ℕ) (p q : ℕ) (f : Formula) (ss : List Symbol) → compile b l p q ≡ accepted f ss → (formula-of b ≡ some f) × (symbols-of l ≡ some ss)
 unfolding compile
-accepted-parts b l p q f ss e = long-parts (ltb p path-room || ltb q (program-room (length b))) (formula-of b) (symbols-of l) f ss e
+accepted-parts b l p q f ss e =
+    let x = long-parts (ltb p path-room || ltb q (program-room (length b))) (transfer-of b) (symbols-of l) f ss e in (whole-formula b f (x .0), x .1)
 
 -- ---- nodes that can be written have literals of 8 bytes
 

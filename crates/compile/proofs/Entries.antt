@@ -14,16 +14,19 @@ use Rattle.formula.specs.Path.{Path, placed, root}
 use Rattle.formula.specs.Formula.{Formula, depth, size, well-formed, within}
 use Rattle.formula.specs.Names.{Input, Parameter, State, Symbol, SymbolKind, Time, kinds, symbols-of}
 use Rattle.formula.specs.Node.{formula-of, tree-in, node-size}
+use Rattle.formula.specs.Transfer.{Transfer, ended-early, left-over, transfer-of, whole, wrong-field}
 use Rattle.formula.proofs.Tests.{and-first, and-second, no-true, or-none}
 use Rattle.formula.specs.Term.{term, terms}
 use Rattle.machine.specs.Check.{Context, Fault, fault}
-use Rattle.machine.specs.Compile.{Compiled, accepted, compile, lowered-or, own-context, path-after, prepared, program-after, program-room, read, refused, sized}
+use Rattle.machine.specs.Compile.{Compiled, accepted, compile, lowered-or, own-context, path-after, prepared, program-after, program-room, read, refused, refused-at, sized}
 use Rattle.machine.specs.Lower.{instruction-count, instruction-counts}
 use Rattle.machine.specs.Paths.{longest-path}
 use Rattle.machine.proofs.Size.{narrow, path-size}
 use Rattle.layout.specs.Image.{entry-count, entry-counts, image, path-count, path-counts}
-use Rattle.reader.specs.Read.{is-some, limited}
-use Rattle.reader.proofs.Scan.{formula-in}
+use Rattle.reader.specs.Read.{limited, told}
+use Rattle.reader.specs.declared.Received.{Received}
+use Rattle.reader.specs.declared.Received.the-variants.{EndedEarly, LeftOver, Whole, WrongField}
+use Rattle.reader.proofs.Scan.{formula-in, whole-formula}
 use Rattle.names.specs.Lines.{kind-number, names-of}
 use Rattle.names.specs.declared.Names.{Names}
 use Rattle.lower.specs.Piece.{context-of, kids, kind-of}
@@ -35,7 +38,7 @@ use Rattle.compile.specs.declared.Reading.{Reading}
 use Rattle.compile.specs.declared.Reading.the-variants.{Symbols}
 use Rattle.compile.specs.declared.Reading.the-variants as Reads
 use Rattle.compile.specs.declared.Answer.{Answer}
-use Rattle.compile.specs.declared.Answer.the-variants.{Refused}
+use Rattle.compile.specs.declared.Answer.the-variants.{Refused, RefusedAt}
 use Rattle.compile.proofs.Faults.{Near, near}
 
 -- ---- the counts of a whole formula
@@ -56,6 +59,19 @@ after X Y r q q′ p p′ e A = subst (λ (Z : Compiled). After Z r q q′ p p�
 
 -- ---- 1 to 3, and what comes after
 
+-- the refusal of a fault
+abbrev pub number-of : Received → Option ℕ
+number-of Whole = none
+number-of (EndedEarly k) = some 12
+number-of (WrongField k) = some 2
+number-of (LeftOver k) = some 13
+
+abbrev pub node-of : Received → ℕ
+node-of Whole = 0
+node-of (EndedEarly k) = k
+node-of (WrongField k) = k
+node-of (LeftOver k) = k
+
 module _ (b l : List ℕ) (path program : ℕ) where
   pub short-path : path < 8192 → prepared accepted b l path program ≡ refused 1 none
   short-path h = rw (lt-ltb path 8192 h)
@@ -72,36 +88,51 @@ module _ (b l : List ℕ) (path program : ℕ) where
   unprepared-is n r e h = e ∙ ap prepared-as (sym h)
 
   module _ (h : 8192 ≤ path) (k : (length b + 15) / 16 ≤ program / 240) where
-    long-enough : prepared accepted b l path program ≡ read accepted (formula-of b) (symbols-of l)
+    long-enough : prepared accepted b l path program ≡ read accepted (transfer-of b) (symbols-of l)
     long-enough =
         let x : ltb program (program-room (length b)) ≡ false = le-ltb program (program-room (length b)) (omega arith) in
         rw (le-ltb path 8192 h, x)
 
-    unread : (o : Option Formula) (s : Option (List Symbol)) → is-some o ≡ false → read accepted o s ≡ refused 2 none
-    unread none s e = refl
-    unread (some f) s e = absurd (let w : _≡_ {A = ℕ} 0 1 = cc in omega arith)
+    -- what `receive` told
+    module _ (R : Received) (told-is : R ≡ told (transfer-of b)) where
+      faulty-at : (o : Transfer) → R ≡ told o → (n k : ℕ) → number-of R ≡ some n → node-of R ≡ k → read accepted o (symbols-of l) ≡ refused-at n k
+      faulty-at (whole f) e n k i j = absurd (let w : _≡_ {A = ℕ} 0 1 = cc in omega arith)
+      faulty-at (ended-early m) e n k i j = cc
+      faulty-at (wrong-field m) e n k i j = cc
+      faulty-at (left-over m) e n k i j = cc
 
-    pub no-formula : is-some (formula-of b) ≡ false → prepared accepted b l path program ≡ refused 2 none
-    no-formula e = long-enough ∙ unread (formula-of b) (symbols-of l) e
+      -- a fault, as prepare gives it
+      pub faulty-is : (n k : ℕ) (r : Prepared) → number-of R ≡ some n → node-of R ≡ k → r ≡ record { reading = Reads.RefusedAt n k; kinds = zeros 256 }
+          → r ≡ preparation b l path program
+      unfolding preparation
+      faulty-is n k r i j e = e ∙ ap prepared-as (sym (long-enough ∙ faulty-at (transfer-of b) told-is n k i j))
 
-    unnamed : (o : Option Formula) (s : Option (List Symbol)) (t : Names) → is-some o ≡ true → t ≡ names-of s → t .ok ≡ false → read accepted o s ≡ refused 3 none
-    unnamed none s t e n z = absurd (let w : _≡_ {A = ℕ} 0 1 = cc in omega arith)
-    unnamed (some f) none t e n z = refl
-    unnamed (some f) (some ss) t e n z = absurd (let w : _≡_ {A = ℕ} 0 1 = cc in omega arith)
+      whole-at : (o : Transfer) → R ≡ told o → R ≡ Whole → (r : Prepared) → ((f : Formula) → r ≡ prepared-as (read accepted (whole f) (symbols-of l)))
+          → r ≡ prepared-as (read accepted o (symbols-of l))
+      whole-at (whole f) e w r h = h f
+      whole-at (ended-early m) e w r h = absurd (let z : _≡_ {A = ℕ} 0 1 = cc in omega arith)
+      whole-at (wrong-field m) e w r h = absurd (let z : _≡_ {A = ℕ} 0 1 = cc in omega arith)
+      whole-at (left-over m) e w r h = absurd (let z : _≡_ {A = ℕ} 0 1 = cc in omega arith)
 
-    pub no-names : (t : Names) → is-some (formula-of b) ≡ true → t ≡ names-of (symbols-of l) → t .ok ≡ false → prepared accepted b l path program ≡ refused 3 none
-    no-names t e n z = long-enough ∙ unnamed (formula-of b) (symbols-of l) t e n z
+      -- the names of a formula that is whole
+      pub whole-is : R ≡ Whole → (r : Prepared) → ((f : Formula) → r ≡ prepared-as (read accepted (whole f) (symbols-of l))) → r ≡ preparation b l path program
+      unfolding preparation
+      whole-is w r h = whole-at (transfer-of b) told-is w r h ∙ ap prepared-as (sym long-enough)
 
-    listed-at : (o : Option Formula) (s : Option (List Symbol)) (t : Names) → is-some o ≡ true → t ≡ names-of s → t .ok ≡ true
-        → _≡_ {A = Prepared} (record { reading = Symbols (t .count); kinds = t .kinds }) (prepared-as (read accepted o s))
-    listed-at none s t e n z = absurd (let w : _≡_ {A = ℕ} 0 1 = cc in omega arith)
-    listed-at (some f) none t e n z = absurd (let w : _≡_ {A = ℕ} 0 1 = cc in omega arith)
-    listed-at (some f) (some ss) t e n z = ap (λ (u : Names). record { reading = Symbols (u .count); kinds = u .kinds }) n
+-- the name line of a formula
+module _ (f : Formula) where
+  unnamed : (s : Option (List Symbol)) (t : Names) → t ≡ names-of s → t .ok ≡ false → read accepted (whole f) s ≡ refused 3 none
+  unnamed none t n z = refl
+  unnamed (some ss) t n z = absurd (let w : _≡_ {A = ℕ} 0 1 = cc in omega arith)
 
-    pub listed-is : (t : Names) → is-some (formula-of b) ≡ true → t ≡ names-of (symbols-of l) → t .ok ≡ true
-        → _≡_ {A = Prepared} (record { reading = Symbols (t .count); kinds = t .kinds }) (preparation b l path program)
-    unfolding preparation
-    listed-is t e n z = listed-at (formula-of b) (symbols-of l) t e n z ∙ ap prepared-as (sym long-enough)
+  pub no-names : (s : Option (List Symbol)) (t : Names) (r : Prepared) → t ≡ names-of s → t .ok ≡ false → r ≡ record { reading = Reads.Refused 3; kinds = zeros 256 }
+      → r ≡ prepared-as (read accepted (whole f) s)
+  no-names s t r n z e = e ∙ ap prepared-as (sym (unnamed s t n z))
+
+  pub listed-is : (s : Option (List Symbol)) (t : Names) → t ≡ names-of s → t .ok ≡ true
+      → _≡_ {A = Prepared} (record { reading = Symbols (t .count); kinds = t .kinds }) (prepared-as (read accepted (whole f) s))
+  listed-is none t n z = absurd (let w : _≡_ {A = ℕ} 0 1 = cc in omega arith)
+  listed-is (some ss) t n z = ap (λ (u : Names). record { reading = Symbols (u .count); kinds = u .kinds }) n
 
 -- what a caller has of prepare: a formula over n symbols, with slices long enough
 pub record Source (b l : List ℕ) (path program n : ℕ) (K : List ℕ) : Type 0 where
@@ -121,30 +152,47 @@ module _ (b l : List ℕ) (path program : ℕ) (r : Prepared) (is : r ≡ prepar
   reading-is : (X : Compiled) (z : Reading) → r ≡ prepared-as X → r .reading ≡ z → prepared-as X .reading ≡ z
   reading-is X z e h = sym (ap (λ (u : Prepared). u .reading) e) ∙ h
 
-  refusal-at : (x : Bool) (o : Option Formula) (s : Option (List Symbol)) (n : ℕ) → prepared-as (cond x (refused 1 none) (read accepted o s)) .reading ≡ Reads.Refused n
+  refusal-at : (x : Bool) (o : Transfer) (s : Option (List Symbol)) (n : ℕ) → prepared-as (cond x (refused 1 none) (read accepted o s)) .reading ≡ Reads.Refused n
       → (cond x (refused 1 none) (read sized o s) ≡ refused n none) × (n < 5)
   refusal-at true o s n h = let m : 1 ≡ n = cc in (ap (λ (i : ℕ). refused i none) m, omega arith)
-  refusal-at false none s n h = let m : 2 ≡ n = cc in (ap (λ (i : ℕ). refused i none) m, omega arith)
-  refusal-at false (some f) none n h = let m : 3 ≡ n = cc in (ap (λ (i : ℕ). refused i none) m, omega arith)
-  refusal-at false (some f) (some ss) n h = absurd (let w : _≡_ {A = ℕ} 0 1 = cc in omega arith)
+  refusal-at false (ended-early k) s n h = absurd (let w : _≡_ {A = ℕ} 0 1 = cc in omega arith)
+  refusal-at false (wrong-field k) s n h = absurd (let w : _≡_ {A = ℕ} 0 1 = cc in omega arith)
+  refusal-at false (left-over k) s n h = absurd (let w : _≡_ {A = ℕ} 0 1 = cc in omega arith)
+  refusal-at false (whole f) none n h = let m : 3 ≡ n = cc in (ap (λ (i : ℕ). refused i none) m, omega arith)
+  refusal-at false (whole f) (some ss) n h = absurd (let w : _≡_ {A = ℕ} 0 1 = cc in omega arith)
 
   pub refusal-of : (n : ℕ) → r .reading ≡ Reads.Refused n → (compile b l path program ≡ refused n none) × (n < 5)
   unfolding compile preparation
-  refusal-of n h = refusal-at short (formula-of b) (symbols-of l) n (reading-is (prepared accepted b l path program) _ is h)
+  refusal-of n h = refusal-at short (transfer-of b) (symbols-of l) n (reading-is (prepared accepted b l path program) _ is h)
 
-  source-at : (x : Bool) (o : Option Formula) (s : Option (List Symbol)) (n : ℕ) → short ≡ x → formula-of b ≡ o → symbols-of l ≡ s
+  node-refusal-at : (x : Bool) (o : Transfer) (s : Option (List Symbol)) (n k : ℕ) → prepared-as (cond x (refused 1 none) (read accepted o s)) .reading ≡ Reads.RefusedAt n k
+      → cond x (refused 1 none) (read sized o s) ≡ refused-at n k
+  node-refusal-at true o s n k h = absurd (let w : _≡_ {A = ℕ} 0 1 = cc in omega arith)
+  node-refusal-at false (ended-early j) s n k h = cc
+  node-refusal-at false (wrong-field j) s n k h = cc
+  node-refusal-at false (left-over j) s n k h = cc
+  node-refusal-at false (whole f) none n k h = absurd (let w : _≡_ {A = ℕ} 0 1 = cc in omega arith)
+  node-refusal-at false (whole f) (some ss) n k h = absurd (let w : _≡_ {A = ℕ} 0 1 = cc in omega arith)
+
+  pub node-refusal-of : (n k : ℕ) → r .reading ≡ Reads.RefusedAt n k → compile b l path program ≡ refused-at n k
+  unfolding compile preparation
+  node-refusal-of n k h = node-refusal-at short (transfer-of b) (symbols-of l) n k (reading-is (prepared accepted b l path program) _ is h)
+
+  source-at : (x : Bool) (o : Transfer) (s : Option (List Symbol)) (n : ℕ) → short ≡ x → transfer-of b ≡ o → symbols-of l ≡ s
       → r ≡ prepared-as (cond x (refused 1 none) (read accepted o s)) → compile b l path program ≡ cond x (refused 1 none) (read sized o s)
       → prepared-as (cond x (refused 1 none) (read accepted o s)) .reading ≡ Symbols n
       → Source b l path program n (r .kinds)
   source-at true o s n xe oe se e c h = absurd (let w : _≡_ {A = ℕ} 0 1 = cc in omega arith)
-  source-at false none s n xe oe se e c h = absurd (let w : _≡_ {A = ℕ} 0 1 = cc in omega arith)
-  source-at false (some f) none n xe oe se e c h = absurd (let w : _≡_ {A = ℕ} 0 1 = cc in omega arith)
-  source-at false (some f) (some ss) n xe oe se e c h =
+  source-at false (ended-early k) s n xe oe se e c h = absurd (let w : _≡_ {A = ℕ} 0 1 = cc in omega arith)
+  source-at false (wrong-field k) s n xe oe se e c h = absurd (let w : _≡_ {A = ℕ} 0 1 = cc in omega arith)
+  source-at false (left-over k) s n xe oe se e c h = absurd (let w : _≡_ {A = ℕ} 0 1 = cc in omega arith)
+  source-at false (whole f) none n xe oe se e c h = absurd (let w : _≡_ {A = ℕ} 0 1 = cc in omega arith)
+  source-at false (whole f) (some ss) n xe oe se e c h =
       let long = or-none (ltb path 8192) (ltb program (program-room (length b))) xe in
       record {
         f = f;
         symbols = ss;
-        formed = oe;
+        formed = whole-formula b f oe;
         count = let m : length ss ≡ n = cc in sym m;
         kinds-are = ap (λ (u : Prepared). u .kinds) e;
         places = ltb-false path 8192 (long .0);
@@ -152,13 +200,13 @@ module _ (b l : List ℕ) (path program : ℕ) (r : Prepared) (is : r ≡ prepar
         comes-to = c;
       }
 
-  comes : compile b l path program ≡ cond short (refused 1 none) (read sized (formula-of b) (symbols-of l))
+  comes : compile b l path program ≡ cond short (refused 1 none) (read sized (transfer-of b) (symbols-of l))
   unfolding compile
   comes = refl
 
   pub source-of : (n : ℕ) → r .reading ≡ Symbols n → Source b l path program n (r .kinds)
   unfolding preparation
-  source-of n h = source-at short (formula-of b) (symbols-of l) n refl refl refl is comes (reading-is (prepared accepted b l path program) _ is h)
+  source-of n h = source-at short (transfer-of b) (symbols-of l) n refl refl refl is comes (reading-is (prepared accepted b l path program) _ is h)
 
 -- 4, and what comes after
 module _ {b l : List ℕ} {path program n : ℕ} {K : List ℕ} (S : Source b l path program n K) (small : Bool) (is : small ≡ limited 256 32 (formula-of b)) where
@@ -282,3 +330,7 @@ module _ (b : List ℕ) (f : Formula) (is-f : formula-of b ≡ some f) (limits :
 -- a refusal of 1 to 4
 pub early : (X : Compiled) (n : ℕ) (place : Option Path) (q q′ p : List ℕ) → X ≡ refused n place → n < 5 → q′ ≡ placed place q → After X (Refused n) q q′ p p
 early X n place q q′ p e h k = after X (refused n place) (Refused n) q q′ p p e (refl, k, sym (rw (lt-ltb n 5 h)))
+
+-- a refusal at a node
+pub early-at : (X : Compiled) (n k : ℕ) (q p : List ℕ) → X ≡ refused-at n k → After X (RefusedAt n k) q q p p
+early-at X n k q p e = after X (refused-at n k) (RefusedAt n k) q q p p e (refl, refl, refl)

@@ -24,10 +24,18 @@ use Rattle.lower.specs.Piece.{context-of}
 use Rattle.compile.specs.Outcome.{Fits, answer-to, fault-place, lowered-to, slice-after}
 use Rattle.compile.specs.Preparation.{Formed}
 use Rattle.compile.specs.declared.Answer.{Answer}
-use Rattle.compile.specs.declared.Answer.the-variants.{Program, Refused}
+use Rattle.compile.specs.declared.Answer.the-variants.{Program, Refused, RefusedAt}
 use Rattle.compile.specs.declared.Lowered.{Lowered}
 use Rattle.compile.specs.declared.Lowered.the-variants as Lows
 use Rattle.compile.proofs.Entries.{all-fit, answer-is, few, long, place-is, slice-is}
+
+no-node-in : (o : Option Fault) (n k : ℕ) → RefusedAt n k ≡ answer-to o → ⊥
+no-node-in none n k e = let z : _≡_ {A = ℕ} 0 1 = cc in omega arith
+no-node-in (some x) n k e = let z : _≡_ {A = ℕ} 0 1 = cc in omega arith
+
+-- a formula's first fault has a place and no node
+pub no-node : (K b : List ℕ) (n k : ℕ) → RefusedAt n k ≡ answer-to (fault (context-of K false) (term (tree-in 32 b 0)) root) → ⊥
+no-node K b n k e = no-node-in (fault (context-of K false) (term (tree-in 32 b 0)) root) n k e
 
 module _ (b K : List ℕ) (f : Formula) (ss : List Symbol) (F : Formed b K f ss) where
   pub small : 15 * length b ≤ 61440

@@ -9,17 +9,18 @@ use Rattle.formula.specs.Text.{zeros}
 use Rattle.formula.specs.Formula.{Formula, within}
 use Rattle.formula.specs.Names.{Symbol, kinds}
 use Rattle.formula.specs.Node.{formula-of}
-use Rattle.machine.specs.Compile.{Compiled, accepted, prepared, refused}
+use Rattle.machine.specs.Compile.{Compiled, accepted, prepared, refused, refused-at}
 use Rattle.names.specs.Lines.{kind-number, names-of}
 use Rattle.compile.specs.declared.Prepared.{Prepared}
-use Rattle.compile.specs.declared.Reading.the-variants.{Refused, Symbols}
+use Rattle.compile.specs.declared.Reading.the-variants.{Refused, RefusedAt, Symbols}
 
 -- how many symbols there are and their kinds, or a refusal and no kinds
 abbrev pub prepared-as : Compiled → Prepared
 prepared-as (refused n place) = record { reading = Refused n; kinds = zeros 256 }
+prepared-as (refused-at n k) = record { reading = RefusedAt n k; kinds = zeros 256 }
 prepared-as (accepted f symbols) = record { reading = Symbols (length symbols); kinds = names-of (some symbols) .kinds }
 
--- "1, path slice or program slice too short; 2, formula bytes not as above (size and depth apart); 3, name line not as above"
+-- "1, path slice or program slice too short; 2, formula bytes not as above (size and depth apart)", or 12 or 13 in its place; "3, name line not as above"
 unfoldable pub preparation : List ℕ → List ℕ → ℕ → ℕ → Prepared
 preparation formula names path program = prepared-as (prepared accepted formula names path program)
 

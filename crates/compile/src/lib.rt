@@ -19,12 +19,15 @@ use names::read_names;
 use paths::write_path;
 use paths::write_root;
 use reader::NODE_SIZE;
-use reader::is_formula;
+use reader::Received;
 use reader::is_small;
+use reader::receive;
+use refusals::ENDED_EARLY;
 use refusals::EXPRESSION_LIMIT;
+use refusals::LEFT_OVER;
 use refusals::MALFORMED_LINE;
-use refusals::NO_FORMULA;
 use refusals::SLICE_TOO_SHORT;
+use refusals::WRONG_FIELD;
 use tally::count;
 use writer::put_word;
 use writer::zero_from;
@@ -36,12 +39,13 @@ ghost use Prim.Native.Nat.{_*_, _≤_};
 ghost use lib.ListN.{length};
 ghost use Rattle.formula.specs.Text.{little-endian, zeros};
 ghost use Rattle.formula.specs.Formula.{Formula};
-ghost use Rattle.formula.specs.Names.{Symbol};
+ghost use Rattle.formula.specs.Names.{Symbol, symbols-of};
 ghost use Rattle.formula.specs.Path.{placed, root};
 ghost use Rattle.formula.specs.Node.{formula-of, tree-in};
 ghost use Rattle.formula.specs.Term.{term};
 ghost use Rattle.machine.specs.Check.{fault};
-ghost use Rattle.machine.specs.Compile.{compile, own-context, path-after, program-after};
+ghost use Rattle.formula.specs.Transfer.{whole};
+ghost use Rattle.machine.specs.Compile.{accepted, compile, own-context, path-after, program-after, read};
 ghost use Rattle.machine.specs.Lower.{instruction-count};
 ghost use Rattle.layout.specs.Opcode.{kind-number};
 ghost use Rattle.layout.specs.Image.{entry-count, image, magic, path-count};
@@ -49,7 +53,7 @@ ghost use Rattle.writer.specs.Over.{over};
 ghost use Rattle.reader.specs.Read.{is-some, limited};
 ghost use Rattle.lower.specs.Piece.{context-of, kind-if};
 ghost use Rattle.compile.specs.Entry.{answer};
-ghost use Rattle.compile.specs.Preparation.{Formed, preparation};
+ghost use Rattle.compile.specs.Preparation.{Formed, preparation, prepared-as};
 ghost use Rattle.compile.specs.Outcome.{Fits, answer-to, fault-place, lowered-to, slice-after};
 
 // "240 bytes for each 16 bytes of formula, a last part counted as 16"
@@ -59,10 +63,11 @@ const LAST_PART: usize = NODE_SIZE - 1;
 
 const BYTE_ROOM: usize = NODE_ROOM / NODE_SIZE;
 
-// A program stands in its slice, or compile refused by a number.
+// A program stands in its slice, or compile refused by a number, or by a number and the node from 0.
 pub enum Answer {
     Program,
     Refused(u8),
+    RefusedAt(u8, usize),
 }
 
 // The header: eight numbers of 4 bytes.
@@ -161,10 +166,11 @@ pub fn write(
     write_counted(b, p, path, kinds, generated, d, t.code, t.paths, t.entries)
 }
 
-// How many symbols there are, or a refusal.
+// How many symbols there are, or a refusal, or one at a node.
 pub enum Reading {
     Symbols(usize),
     Refused(u8),
+    RefusedAt(u8, usize),
 }
 
 // What is known before the formula is gone into; the kinds of the symbols are all zero in a refusal.
@@ -173,39 +179,48 @@ pub struct Prepared {
     pub kinds: [u8; 256],
 }
 
-fn unprepared(refusal: u8) -> Prepared
-    ensures { λ r. ⌜ r ≡ record { reading = Reading.Refused refusal; kinds = zeros 256 } ⌝ }
+fn unprepared(reading: Reading) -> Prepared
+    ensures { λ r. ⌜ r ≡ record { reading = reading; kinds = zeros 256 } ⌝ }
 {
     let kinds = [0u8; 256];
     Prepared {
-        reading: Reading::Refused(refusal),
+        reading: reading,
         kinds: kinds,
     }
 }
 
-// "In order: 1, path slice or program slice too short; 2, formula bytes not as above (size and depth apart); 3, name line
-// not as above". Path and program slice have so many bytes.
-pub fn prepare(formula: &[u8], names: &[u8], path: usize, program: usize) -> Prepared
-    ensures { λ r. ⌜ r ≡ preparation (now (formula .entry)) (now (names .entry)) path program ⌝ }
+// The names of a formula that is whole: "3, name line not as above".
+fn named(names: &[u8]) -> Prepared
+    ensures { λ r. ⌜ ((f : Formula) → r ≡ prepared-as (read accepted (whole f) (symbols-of (now (names .entry))))) ⌝ }
 {
-    if path < 8192 {
-        return unprepared(SLICE_TOO_SHORT);
-    }
-    if program / NODE_ROOM < (formula.len() + LAST_PART) / NODE_SIZE {
-        return unprepared(SLICE_TOO_SHORT);
-    }
-    let read = is_formula(formula);
-    if !read {
-        return unprepared(NO_FORMULA);
-    }
     let table = read_names(names);
     if !table.ok {
-        return unprepared(MALFORMED_LINE);
+        return unprepared(Reading::Refused(MALFORMED_LINE));
     }
     let kinds = table.kinds;
     Prepared {
         reading: Reading::Symbols(table.count),
         kinds: kinds,
+    }
+}
+
+// "In order: 1, path slice or program slice too short; 2, formula bytes not as above (size and depth apart)", or 12 or 13 in its
+// place; "3, name line not as above". Path and program slice have so many bytes.
+pub fn prepare(formula: &[u8], names: &[u8], path: usize, program: usize) -> Prepared
+    ensures { λ r. ⌜ r ≡ preparation (now (formula .entry)) (now (names .entry)) path program ⌝ }
+{
+    if path < 8192 {
+        return unprepared(Reading::Refused(SLICE_TOO_SHORT));
+    }
+    if program / NODE_ROOM < (formula.len() + LAST_PART) / NODE_SIZE {
+        return unprepared(Reading::Refused(SLICE_TOO_SHORT));
+    }
+    let received = receive(formula);
+    match received {
+        Received::Whole => named(names),
+        Received::EndedEarly(k) => unprepared(Reading::RefusedAt(ENDED_EARLY, k)),
+        Received::WrongField(k) => unprepared(Reading::RefusedAt(WRONG_FIELD, k)),
+        Received::LeftOver(k) => unprepared(Reading::RefusedAt(LEFT_OVER, k)),
     }
 }
 
@@ -231,6 +246,7 @@ pub fn compile(formula: &[u8], names: &[u8], path: &mut [u8], program: &mut [u8]
     let reading = prepared.reading;
     match reading {
         Reading::Refused(n) => Answer::Refused(n),
+        Reading::RefusedAt(n, k) => Answer::RefusedAt(n, k),
         Reading::Symbols(count) => {
             if within(formula, path) {
                 let kinds = prepared.kinds;
@@ -265,6 +281,7 @@ fn lower_into(formula: &[u8], kinds: &[u8], path: &mut [u8], own: &mut [u8]) -> 
     match a {
         Answer::Program => Lowered::Kind(own[KIND_AT] == 1),
         Answer::Refused(n) => Lowered::Refused(n),
+        Answer::RefusedAt(n, k) => Lowered::Refused(n),
     }
 }
 

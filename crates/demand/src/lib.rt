@@ -20,6 +20,7 @@ pub enum Wanted {
 enum Making {
     Written,
     Refused(u8),
+    RefusedAt(u8, usize),
 }
 
 // Writes the program of the formula or of its derivative.
@@ -39,6 +40,7 @@ fn write_program(
             match a {
                 compile::Answer::Program => Making::Written,
                 compile::Answer::Refused(n) => Making::Refused(n),
+                compile::Answer::RefusedAt(n, k) => Making::RefusedAt(n, k),
             }
         }
         Wanted::Derivative(symbol) => {
@@ -46,14 +48,16 @@ fn write_program(
             match a {
                 derive::Answer::Derived(_) => Making::Written,
                 derive::Answer::Refused(n) => Making::Refused(n),
+                derive::Answer::RefusedAt(n, k) => Making::RefusedAt(n, k),
             }
         }
     }
 }
 
-// The refusal of compile or derive, or the reply to the last call.
+// The refusal of compile or derive, with a node where it has one, or the reply to the last call.
 pub enum Played {
     Refused(u8),
+    RefusedAt(u8, usize),
     Replied(Reply),
 }
 
@@ -78,6 +82,7 @@ pub fn make_and_play(
     let made = write_program(formula, names, wanted, path, tree, program);
     match made {
         Making::Refused(n) => Played::Refused(n),
+        Making::RefusedAt(n, k) => Played::RefusedAt(n, k),
         Making::Written => Played::Replied(play(
             program,
             inputs,

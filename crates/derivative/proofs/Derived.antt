@@ -64,6 +64,7 @@ module _ (formula names : List ℕ) (s path-length tree-length program-length : 
   from-continued : (c : Compiled) (ss : List Symbol) (d : Formula) → compile formula names path-length program-length ≡ c
       → continued tree-length program-length s c ≡ derived d ss → (f : Formula) × Derivation formula names s path-length program-length f d ss
   from-continued (Compile.refused n place) ss d h e = absurd (let z : _≡_ {A = ℕ} 0 1 = cc in omega arith)
+  from-continued (Compile.refused-at n k) ss d h e = absurd (let z : _≡_ {A = ℕ} 0 1 = cc in omega arith)
   from-continued (accepted f symbols) ss d h e =
       (f, from-accepted f symbols ss d h (same-kind (kind (term f)) Boolean) refl (ltb s (length symbols)) refl e)
 

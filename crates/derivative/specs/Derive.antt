@@ -20,9 +20,10 @@ use Rattle.machine.specs.Compile.{Compiled, compile, accepted, program-room, fi
 use Rattle.machine.specs.Compile as Compile
 use Rattle.derivative.specs.Differentiate.{derivative}
 
--- compile's refusal of the formula itself; a later one; or the derivative tree
+-- compile's refusal of the formula itself, with a place or a node; a later one; or the derivative tree
 pub data Derived : Type 0 where
   formula-refused : ℕ → Option Path → Derived
+  formula-refused-at : ℕ → ℕ → Derived
   refused : ℕ → Option Path → Derived
   derived : Formula → List Symbol → Derived
 
@@ -45,6 +46,7 @@ fitted tree-length program-length symbols (some d) =
 
 abbrev pub continued : ℕ → ℕ → ℕ → Compiled → Derived
 continued tree-length program-length s (Compile.refused n place) = formula-refused n place
+continued tree-length program-length s (Compile.refused-at n k) = formula-refused-at n k
 continued tree-length program-length s (accepted f symbols) =
     cond (same-kind (kind (term f)) Boolean) (refused wrong-type (some root))
     (cond (ltb s (length symbols)) (fitted tree-length program-length symbols (derivative s (by-state symbols s) f)) (refused unknown-symbol (some root)))
@@ -58,6 +60,7 @@ derive formula names s path-length tree-length program-length =
 
 abbrev pub place-of : Derived → Option Path
 place-of (formula-refused n place) = place
+place-of (formula-refused-at n k) = none
 place-of (refused n place) = place
 place-of (derived d symbols) = none
 
@@ -67,11 +70,13 @@ path-after o slice = placed (place-of o) slice
 -- "Compile's refusals leave the tree slice unchanged; the later ones leave it all zero. On success the tree slice is zero after the tree."
 abbrev pub tree-after : Derived → List ℕ → List ℕ
 tree-after (formula-refused n place) slice = slice
+tree-after (formula-refused-at n k) slice = slice
 tree-after (refused n place) slice = zeros (length slice)
 tree-after (derived d symbols) slice = filled (encode d) slice
 
 -- "Every refusal leaves the program slice unchanged."
 abbrev pub program-after : (Context → Formula → List ℕ) → Derived → List ℕ → List ℕ
 program-after layout (formula-refused n place) slice = slice
+program-after layout (formula-refused-at n k) slice = slice
 program-after layout (refused n place) slice = slice
 program-after layout (derived d symbols) slice = filled (layout (generated-context symbols) d) slice

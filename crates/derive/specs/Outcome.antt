@@ -14,13 +14,14 @@ use Rattle.machine.specs.Check.{fault, kind}
 use Rattle.machine.specs.Compile.{own-context}
 use Rattle.layout.specs.Image.{image}
 use Rattle.derivative.specs.Differentiate.{derivative}
-use Rattle.derivative.specs.Derive.{Derived, by-state, derived, formula-refused, path-after, program-after, refused, tree-after}
+use Rattle.derivative.specs.Derive.{Derived, by-state, derived, formula-refused, formula-refused-at, path-after, program-after, refused, tree-after}
 use Rattle.compile.specs.Preparation.{Formed}
 use Rattle.derive.specs.declared.Answer.{Answer}
 use Rattle.derive.specs.declared.Answer.the-variants as Given
 
 abbrev pub answer : Derived → Answer
 answer (formula-refused n place) = Given.Refused n
+answer (formula-refused-at n k) = Given.RefusedAt n k
 answer (refused n place) = Given.Refused n
 answer (derived d symbols) = Given.Derived (size d)
 

@@ -38,10 +38,11 @@ use survey::survey_formula;
 use survey::with_primal;
 use writer::zero_from;
 
-// A tree of so many nodes and its program stand in their slices, or derive refused by a number.
+// A tree of so many nodes and its program stand in their slices, or derive refused by a number, or by a number and the node from 0.
 pub enum Answer {
     Derived(usize),
     Refused(u8),
+    RefusedAt(u8, usize),
 }
 
 // A refusal at `root` that is not compile's: "the later ones leave it all zero".
@@ -167,6 +168,7 @@ pub fn derive(
     let reading = prepared.reading;
     match reading {
         Reading::Refused(n) => Answer::Refused(n),
+        Reading::RefusedAt(n, k) => Answer::RefusedAt(n, k),
         Reading::Symbols(count) => {
             if within(formula, path) {
                 let kinds = prepared.kinds;

@@ -3,6 +3,7 @@ pub mod Text
 pub mod Operator
 pub mod Formula
 pub mod Node
+pub mod Transfer
 pub mod Names
 pub mod Values
 pub mod Path

@@ -8,7 +8,7 @@ use native.Mathlib.Omega.{arith}
 use lib.ListN.{length}
 use lib.Dec.{ltb}
 use Rattle.formula.specs.Formula.{Formula, formula-limit}
-use Rattle.formula.specs.Node.{formula-of}
+use Rattle.formula.specs.Transfer.{Transfer, ended-early, left-over, transfer-of, whole, wrong-field}
 use Rattle.formula.specs.Names.{Symbol, symbols-of}
 use Rattle.formula.specs.Path.{path-room, root}
 use Rattle.formula.specs.Term.{term}
@@ -33,12 +33,14 @@ from-sized : (f g : Formula) (ss ts : List Symbol) (b : Bool) → formula-limit 
 from-sized f g ss ts true l h = from-lowered f g ss ts (fault (own-context ss) (term f) root) refl l h
 from-sized f g ss ts false l h = absurd (let z : _≡_ {A = ℕ} 0 1 = cc in omega arith)
 
-from-read : (o : Option Formula) (n : Option (List Symbol)) (g : Formula) (ts : List Symbol) → read sized o n ≡ accepted g ts → Accepted g ts
-from-read none n g ts h = absurd (let z : _≡_ {A = ℕ} 0 1 = cc in omega arith)
-from-read (some f) none g ts h = absurd (let z : _≡_ {A = ℕ} 0 1 = cc in omega arith)
-from-read (some f) (some ss) g ts h = from-sized f g ss ts (formula-limit f) refl h
+from-read : (o : Transfer) (n : Option (List Symbol)) (g : Formula) (ts : List Symbol) → read sized o n ≡ accepted g ts → Accepted g ts
+from-read (ended-early k) n g ts h = absurd (let z : _≡_ {A = ℕ} 0 1 = cc in omega arith)
+from-read (wrong-field k) n g ts h = absurd (let z : _≡_ {A = ℕ} 0 1 = cc in omega arith)
+from-read (left-over k) n g ts h = absurd (let z : _≡_ {A = ℕ} 0 1 = cc in omega arith)
+from-read (whole f) none g ts h = absurd (let z : _≡_ {A = ℕ} 0 1 = cc in omega arith)
+from-read (whole f) (some ss) g ts h = from-sized f g ss ts (formula-limit f) refl h
 
-from-rooms : (b : Bool) (o : Option Formula) (n : Option (List Symbol)) (g : Formula) (ts : List Symbol)
+from-rooms : (b : Bool) (o : Transfer) (n : Option (List Symbol)) (g : Formula) (ts : List Symbol)
     → cond b (refused 1 none) (read sized o n) ≡ accepted g ts → Accepted g ts
 from-rooms true o n g ts h = absurd (let z : _≡_ {A = ℕ} 0 1 = cc in omega arith)
 from-rooms false o n g ts h = from-read o n g ts h
@@ -47,4 +49,4 @@ pub accepted-formula : (formula names : List ℕ) (path-length program-length : 
     → compile formula names path-length program-length ≡ accepted f symbols → Accepted f symbols
 unfolding compile
 accepted-formula formula names p q f symbols h =
-    from-rooms (ltb p path-room || ltb q (program-room (length formula))) (formula-of formula) (symbols-of names) f symbols h
+    from-rooms (ltb p path-room || ltb q (program-room (length formula))) (transfer-of formula) (symbols-of names) f symbols h

@@ -2,6 +2,7 @@ pub mod Past
 pub mod Heads
 pub mod Trees
 pub mod Scan
+pub mod Steps
 pub mod Extents
 pub mod Bytes
 pub mod Encode

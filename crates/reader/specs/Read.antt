@@ -7,9 +7,12 @@ use lib.Dec.{leb}
 use Rattle.formula.specs.Formula.{Formula, size, depth, within}
 use Rattle.formula.specs.Node.{node-size, tree-at}
 use Rattle.formula.specs.Node as Node
+use Rattle.formula.specs.Transfer.{Transfer, whole, ended-early, wrong-field, left-over}
 use Rattle.reader.specs.declared.Fields.{Fields}
 use Rattle.reader.specs.declared.Extent.{Extent}
 use Rattle.reader.specs.declared.Extent.the-variants.{To, Deeper}
+use Rattle.reader.specs.declared.Received.{Received}
+use Rattle.reader.specs.declared.Received.the-variants.{Whole, EndedEarly, WrongField, LeftOver}
 
 abbrev pub is-some : {A : Type 0} → Option A → Bool
 is-some none = false
@@ -18,6 +21,13 @@ is-some (some a) = true
 -- the fields that a node's bytes hold
 abbrev pub written : Fields → Node.Fields
 written f = record { kind = f .kind; operator = f .operator; children = f .children; symbol-number = f .symbol; value = f .value }
+
+-- a formula without its tree, or the fault
+abbrev pub told : Transfer → Received
+told (whole f) = Whole
+told (ended-early k) = EndedEarly k
+told (wrong-field k) = WrongField k
+told (left-over k) = LeftOver k
 
 -- the byte after a tree, where its depth is within the limit
 abbrev pub extent : Bool → ℕ → Extent

@@ -1,12 +1,13 @@
 ghost use mathlib.Core.Path.{_≡_};
-ghost use mathlib.Core.Bool.{true, _&&_};
-ghost use Prim.Native.Nat.{_+_, _*_, _^_, _≤_, _<_};
+ghost use mathlib.Core.Bool.{true, cond, _&&_};
+ghost use Prim.Native.Nat.{_+_, _*_, _/_, _^_, _≤_, _<_};
 ghost use lib.ListN.{length};
 ghost use lib.Dec.{ltb, eqb};
 ghost use Rattle.formula.specs.Text.{byte-at, half-at, word-at, long-at};
 ghost use Rattle.formula.specs.Formula.{well-formed};
-ghost use Rattle.formula.specs.Node.{fields-at, head-of, head-at, tree-at, formula-of};
-ghost use Rattle.reader.specs.Read.{is-some, written, extent-at, limited};
+ghost use Rattle.formula.specs.Node.{fields-at, head-of, tree-at, formula-of};
+ghost use Rattle.formula.specs.Transfer.{transfer-of};
+ghost use Rattle.reader.specs.Read.{is-some, written, extent-at, limited, told};
 
 // How many bytes a node has.
 pub const NODE_SIZE: usize = 16;
@@ -143,39 +144,65 @@ fn is_head(f: Fields) -> bool
     }
 }
 
-// Whether the bytes at a byte are a node.
-pub fn is_node(b: &[u8], at: usize) -> bool
-    ensures { λ r. ⌜ r ≡ is-some (head-at (now (b .entry)) at) ⌝ }
-{
-    if b.len() < NODE_SIZE {
-        return false;
-    }
-    if b.len() - NODE_SIZE < at {
-        return false;
-    }
-    is_head(node(b, at))
+// What formula bytes are: a formula, or what is wrong with them, at which node from 0.
+pub enum Received {
+    Whole,
+    EndedEarly(usize),
+    WrongField(usize),
+    LeftOver(usize),
 }
 
-// Whether the bytes are a formula: "Nodes of 16 bytes, each followed by its children, nothing after the root's last."
-// Each tree that is owed takes a node's bytes or more, so the count of them stays below the length.
-pub fn is_formula(b: &[u8]) -> bool
-    ensures { λ r. ⌜ r ≡ is-some (formula-of (now (b .entry))) ⌝ }
+// After the root's last child.
+fn ended(at: usize, length: usize) -> Received
+    ensures { λ r. ⌜ r ≡ cond (eqb at length) Received.Whole (Received.LeftOver (at / 16)) ⌝ }
+{
+    if at == length {
+        return Received::Whole;
+    }
+    Received::LeftOver(at / NODE_SIZE)
+}
+
+// "Nodes of 16 bytes, each followed by its children, nothing after the root's last", or the first fault in the order of the bytes.
+pub fn receive(b: &[u8]) -> Received
+    ensures { λ r. ⌜ r ≡ told (transfer-of (now (b .entry))) ⌝ }
 {
     let mut at = 0;
     let mut owed = 1;
-    while owed > 0 {
-        if owed > (b.len() - at) / NODE_SIZE {
-            return false;
+    // Each tree that is owed takes a node's bytes or more, so the count of them stays below the length.
+    while owed <= (b.len() - at) / NODE_SIZE {
+        if owed == 0 {
+            return ended(at, b.len());
         }
-        let ok = is_node(b, at);
-        if ok {
-            owed = owed - 1 + half(b, at + 2);
-            at += NODE_SIZE;
-        } else {
-            return false;
+        let f = node(b, at);
+        let ok = is_head(f);
+        if !ok {
+            return Received::WrongField(at / NODE_SIZE);
         }
+        owed = owed - 1 + f.children;
+        at += NODE_SIZE;
     }
-    at == b.len()
+    // More are owed than nodes are left: the bytes end early, unless one of those nodes is none.
+    while NODE_SIZE <= b.len() - at {
+        let ok = is_head(node(b, at));
+        if !ok {
+            return Received::WrongField(at / NODE_SIZE);
+        }
+        at += NODE_SIZE;
+    }
+    Received::EndedEarly(at / NODE_SIZE)
+}
+
+// Whether the bytes are a formula.
+pub fn is_formula(b: &[u8]) -> bool
+    ensures { λ r. ⌜ r ≡ is-some (formula-of (now (b .entry))) ⌝ }
+{
+    let r = receive(b);
+    match r {
+        Received::Whole => true,
+        Received::EndedEarly(k) => false,
+        Received::WrongField(k) => false,
+        Received::LeftOver(k) => false,
+    }
 }
 
 // Where a tree ends, or that it is deeper than it may be.

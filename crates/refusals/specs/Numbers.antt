@@ -1,13 +1,14 @@
--- "Bad input is refused by the number that document 01 fixes": each number's name, under 'Compile', 'Derive' and 'Run and resume'.
+-- "Bad input is refused by the number that document 01 fixes": each number's name, under 'Compile', 'Derive' and 'Run and resume'; 12 and 13 are
+-- document 02's, slip 2.
 use Prim.Native.Nat.{ℕ}
 
 -- "1, path slice or program slice too short"; derive: the tree slice too
 abbrev pub slice-too-short : ℕ
 slice-too-short = 1
 
--- "2, formula bytes not as above (size and depth apart)"
-abbrev pub no-formula : ℕ
-no-formula = 2
+-- "2 now means a wrong field"
+abbrev pub wrong-field : ℕ
+wrong-field = 2
 
 -- "3, name line not as above"; a line of values "that isn't hex digits and commas as said"
 abbrev pub malformed-line : ℕ
@@ -45,3 +46,10 @@ no-program = 10
 -- for that instruction is pending"
 abbrev pub stale-state : ℕ
 stale-state = 11
+
+-- "new 12, ended early, and 13, bytes left over, both in 2's place"
+abbrev pub ended-early : ℕ
+ended-early = 12
+
+abbrev pub left-over : ℕ
+left-over = 13

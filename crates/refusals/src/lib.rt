@@ -1,7 +1,7 @@
-// The numbers of document 01's refusals, each the code's copy of the definition in specs/Numbers.
+// The numbers of the refusals, each the code's copy of the definition in specs/Numbers.
 pub const SLICE_TOO_SHORT: u8 = 1;
 
-pub const NO_FORMULA: u8 = 2;
+pub const WRONG_FIELD: u8 = 2;
 
 pub const MALFORMED_LINE: u8 = 3;
 
@@ -20,3 +20,7 @@ pub const OUTSIDE_DOMAIN: u8 = 9;
 pub const NO_PROGRAM: u8 = 10;
 
 pub const STALE_STATE: u8 = 11;
+
+pub const ENDED_EARLY: u8 = 12;
+
+pub const LEFT_OVER: u8 = 13;

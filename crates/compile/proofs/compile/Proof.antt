@@ -5,7 +5,7 @@ use lib.ListN.{length, take}
 use Rattle.formula.specs.Formula.{Formula}
 use Rattle.formula.specs.Path.{root}
 use Rattle.reader.specs.Read.{is-some}
-use Rattle.compile.proofs.Entries.{above-limit, all-fit, early, faults-left, limit-of, path-kept, path-rooted, prefix, prefix-long, refusal-of, source-of, within-table, written}
+use Rattle.compile.proofs.Entries.{above-limit, all-fit, early, early-at, faults-left, limit-of, node-refusal-of, path-kept, path-rooted, prefix, prefix-long, refusal-of, source-of, within-table, written}
 use borrow.Author.Needs.{needs}
 use Rattle.compile.proofs.compile.Statement.{statement}
 use Rattle.compile.proofs.compile.Tie as tie
@@ -19,19 +19,22 @@ enum-known-reading c = search needs
 enum-known-reading-2 : tie.Need-enum-known-reading-2
 enum-known-reading-2 c = search needs
 
+enum-known-reading-3 : tie.Need-enum-known-reading-3
+enum-known-reading-3 c = search needs
+
 within-requires : tie.Need-within-requires
 within-requires c κs =
     let args = c .before .before .before .before .before .before .before .before .before .args in
     let prepare = c .before .before .before .before .prepare in
     let S = source-of (args .formula .now) (args .names .now) (length (args .path .now)) (length (args .program .now)) (prepare .result)
-    (prepare .ensures) (c .before .before .reading2 .given .0 .0) (c .before .before .reading2 .given .1) in
+    (prepare .ensures) (c .before .before .reading3 .given .0 .0) (c .before .before .reading3 .given .1) in
     (omega (arith, S .places), ap (λ (o : Option Formula). is-some o) (S .formed))
 
 array-share-prefix-kinds : tie.Need-array-share-prefix-kinds
 array-share-prefix-kinds c =
     let args = c .before .before .before .before .before .before .before .before .before .before .before .before .before .before .before .before .args in
     let prepare = c .before .before .before .before .before .before .before .before .before .before .before .prepare in
-    let reading2 = c .before .before .before .before .before .before .before .before .before .reading2 in
+    let reading2 = c .before .before .before .before .before .before .before .before .before .reading3 in
     let S = source-of (args .formula .now) (args .names .now) (length (args .path .now)) (length (args .program .now)) (prepare .result)
     (prepare .ensures) (reading2 .given .0 .0) (reading2 .given .1) in
     within-table (reading2 .given .0 .0) (prepare .result .kinds) (S .symbols) (S .count) (S .kinds-are)
@@ -40,7 +43,7 @@ slice-aggregate-write : tie.Need-slice-aggregate-write
 slice-aggregate-write c =
     let args = c .before .before .before .before .before .before .before .before .before .before .before .before .before .before .before .before .before .args in
     let prepare = c .before .before .before .before .before .before .before .before .before .before .before .before .prepare in
-    let reading2 = c .before .before .before .before .before .before .before .before .before .before .reading2 in
+    let reading2 = c .before .before .before .before .before .before .before .before .before .before .reading3 in
     let S = source-of (args .formula .now) (args .names .now) (length (args .path .now)) (length (args .program .now)) (prepare .result)
     (prepare .ensures) (reading2 .given .0 .0) (reading2 .given .1) in
     prefix-long (reading2 .given .0 .0) (prepare .result .kinds) (S .symbols) (S .count) (S .kinds-are)
@@ -49,7 +52,7 @@ write-requires : tie.Need-write-requires
 write-requires c κs =
     let args = c .before .before .before .before .before .before .before .before .before .before .before .before .before .before .before .before .before .args in
     let prepare = c .before .before .before .before .before .before .before .before .before .before .before .before .prepare in
-    let reading2 = c .before .before .before .before .before .before .before .before .before .before .reading2 in
+    let reading2 = c .before .before .before .before .before .before .before .before .before .before .reading3 in
     let within = c .before .before .before .before .before .before .before .within in
     let if1 = c .before .before .before .before .if1 in
     let S = source-of (args .formula .now) (args .names .now) (length (args .path .now)) (length (args .program .now)) (prepare .result)
@@ -67,7 +70,7 @@ returns : tie.Need-returns
 returns c =
     let args = c .before .before .before .before .before .before .before .before .before .before .before .before .before .before .before .before .before .before .before .before .before .before .args in
     let prepare = c .before .before .before .before .before .before .before .before .before .before .before .before .before .before .before .before .before .prepare in
-    let reading2 = c .before .before .before .before .before .before .before .before .before .before .before .before .before .before .before .reading2 in
+    let reading2 = c .before .before .before .before .before .before .before .before .before .before .before .before .before .before .before .reading3 in
     let within = c .before .before .before .before .before .before .before .before .before .before .before .before .within in
     let if1 = c .before .before .before .before .before .before .before .before .before .if1 in
     let S = source-of (args .formula .now) (args .names .now) (length (args .path .now)) (length (args .program .now)) (prepare .result)
@@ -90,14 +93,21 @@ returns-2 c =
     (prepare .ensures) n (c .before .reading .given .1) in
     early _ n none (args .path .now) _ (args .program .now) (R .0) (R .1) refl
 
+returns-3 : tie.Need-returns-3
+returns-3 c =
+    let n = c .before .reading2 .given .0 .0 in
+    let k = c .before .reading2 .given .0 .1 .0 in
+    early-at _ n k (c .before .before .before .before .before .before .before .before .args .path .now) (c .before .before .before .before .before .before .before .before .args .program .now) (node-refusal-of (c .before .before .before .before .before .before .before .before .args .formula .now) (c .before .before .before .before .before .before .before .before .args .names .now) (length (c .before .before .before .before .before .before .before .before .args .path .now))
+    (length (c .before .before .before .before .before .before .before .before .args .program .now)) (c .before .before .before .prepare .result) (c .before .before .before .prepare .ensures) n k (c .before .reading2 .given .1))
+
 same-length-3 : tie.Need-same-length-3
 same-length-3 c = search needs
 
-returns-3 : tie.Need-returns-3
-returns-3 c =
+returns-4 : tie.Need-returns-4
+returns-4 c =
     let args = c .before .before .before .before .before .before .before .before .before .before .before .before .before .args in
     let prepare = c .before .before .before .before .before .before .before .before .prepare in
-    let reading2 = c .before .before .before .before .before .before .reading2 in
+    let reading2 = c .before .before .before .before .before .before .reading3 in
     let S = source-of (args .formula .now) (args .names .now) (length (args .path .now)) (length (args .program .now)) (prepare .result)
     (prepare .ensures) (reading2 .given .0 .0) (reading2 .given .1) in
     let within = c .before .before .before .within in
@@ -111,6 +121,7 @@ compile-spec =
     prepare-requires
     enum-known-reading
     enum-known-reading-2
+    enum-known-reading-3
     within-requires
     array-share-prefix-kinds
     slice-aggregate-write
@@ -119,5 +130,6 @@ compile-spec =
     same-length-2
     returns
     returns-2
+    returns-3
     same-length-3
-    returns-3)
+    returns-4)

@@ -1,9 +1,9 @@
-use mathlib.Core.Path.{sym}
+use mathlib.Core.Path.{sym, _∙_}
 use Prim.Native.Nat.{_*_}
 use native.Mathlib.Omega.{arith}
 use lib.ListN.{length}
 use lib.Seq.{length-take-le}
-use Rattle.compile.proofs.Own.{fits-own, kind-inside, lowered-fault, lowered-kind, small}
+use Rattle.compile.proofs.Own.{fits-own, kind-inside, lowered-fault, lowered-kind, no-node, small}
 use borrow.Author.Needs.{needs}
 use Rattle.compile.proofs.lower_into.Statement.{statement}
 use Rattle.compile.proofs.lower_into.Tie as tie
@@ -34,8 +34,8 @@ write-requires c κs =
 enum-told : tie.Need-enum-told
 enum-told c = search needs
 
-slice-read-t15 : tie.Need-slice-read-t15
-slice-read-t15 c =
+slice-read-t17 : tie.Need-slice-read-t17
+slice-read-t17 c =
     let args = c .before .before .before .before .before .before .before .before .before .before .before .before .before .before .args in
     let pre = c .before .before .before .before .before .before .before .before .before .before .before .before .before .before .pre in
     let write = c .before .before .before .before .before .before .before .write in
@@ -44,6 +44,9 @@ slice-read-t15 c =
 
 enum-known-a : tie.Need-enum-known-a
 enum-known-a c = search needs
+
+enum-known-a-2 : tie.Need-enum-known-a-2
+enum-known-a-2 c = search needs
 
 same-length : tie.Need-same-length
 same-length c = search needs
@@ -71,6 +74,15 @@ returns-2 c =
     λ f ss F. lowered-fault (args .formula .now) (args .kinds .now) f ss F (write .result) (args .path .now) (write .last .1 .1 .0) (args .own .now)
     (write .last .1 .0) (write .ensures .0) (write .ensures .1) (write .ensures .2) (c .before .a .given .0 .0) (c .before .a .given .1)
 
+same-length-5 : tie.Need-same-length-5
+same-length-5 c = search needs
+
+same-length-6 : tie.Need-same-length-6
+same-length-6 c = search needs
+
+returns-3 : tie.Need-returns-3
+returns-3 c = absurd (no-node (c .before .before .before .before .before .before .before .before .before .before .before .before .before .before .args .kinds .now) (c .before .before .before .before .before .before .before .before .before .before .before .before .before .before .args .formula .now) (c .before .a2 .given .0 .0) (c .before .a2 .given .0 .1 .0) (sym (c .before .a2 .given .1) ∙ c .before .before .before .before .before .before .before .write .ensures .0))
+
 pub lower-into-spec : {M : Type 1} → statement M
 lower-into-spec =
     tie.close
@@ -80,11 +92,15 @@ lower-into-spec =
     slice-aggregate-write
     write-requires
     enum-told
-    slice-read-t15
+    slice-read-t17
     enum-known-a
+    enum-known-a-2
     same-length
     same-length-2
     returns
     same-length-3
     same-length-4
-    returns-2)
+    returns-2
+    same-length-5
+    same-length-6
+    returns-3)

@@ -1,85 +1,48 @@
+use mathlib.Core.Path.{_≡_}
+use Prim.Native.Nat.{ℕ}
+use native.Mathlib.Omega.{arith}
+use Rattle.reader.proofs.Scan.{fault-none, whole-some}
+use borrow.Author.Needs.{needs}
 use Rattle.reader.proofs.is_formula.Statement.{statement}
 use Rattle.reader.proofs.is_formula.Tie as tie
-use mathlib.Core.Path.{_≡_, sym, _∙_}
-use Prim.Native.Nat.{_≤_, _-_}
-use native.Mathlib.Omega.{arith}
-use lib.ListN.{length}
-use Rattle.formula.specs.Node.{formula-of}
-use Rattle.reader.specs.Read.{is-some}
-use Rattle.reader.proofs.Scan.{rest, rest-start, rest-short, rest-step, rest-bad, rest-end}
 
-abbrev Inv-loop : tie.InvT-loop
-Inv-loop b at₀ owed₀ at owed = (at ≤ length b) × (is-some (formula-of b) ≡ rest b owed at)
+receive-requires : tie.Need-receive-requires
+receive-requires c κs = search needs
 
-abbrev μ-loop : tie.MeasureT-loop
-μ-loop b at₀ owed₀ at owed = length b - at
+enum-told : tie.Need-enum-told
+enum-told c = search needs
 
-loop-holds : tie.Need-loop-holds Inv-loop μ-loop
-loop-holds c = (omega arith, rest-start (c .before .args .b .now))
+enum-known-r : tie.Need-enum-known-r
+enum-known-r c = search needs
 
-sub-if1 : tie.Need-sub-if1 Inv-loop μ-loop
-sub-if1 c = omega arith
+enum-known-r-2 : tie.Need-enum-known-r-2
+enum-known-r-2 c = search needs
 
-returns : tie.Need-returns Inv-loop μ-loop
-returns c = sym (c .before .before .loop .inv .1 ∙ rest-short (c .before .before .before .before .args .b .now) (c .before .before .loop .owed) (c .before .before .loop .at) (omega arith))
+enum-known-r-3 : tie.Need-enum-known-r-3
+enum-known-r-3 c = search needs
 
-is-node-requires : tie.Need-is-node-requires Inv-loop μ-loop
-is-node-requires c κs = tt
+returns : tie.Need-returns
+returns c = whole-some (c .before .before .before .before .args .b .now) (c .before .before .receive .result) (c .before .before .receive .ensures) (c .enum-told .given .1)
 
-sub-owed : tie.Need-sub-owed Inv-loop μ-loop
-sub-owed c = omega arith
+returns-2 : tie.Need-returns-2
+returns-2 c = fault-none (c .before .before .before .before .before .args .b .now) (c .before .before .before .receive .result) (c .before .before .before .receive .ensures) (λ w. let e = c .before .r .given .1 in let z : _≡_ {A = ℕ} 0 1 = cc in omega arith)
 
-add-half : tie.Need-add-half Inv-loop μ-loop
-add-half c = omega arith
+returns-3 : tie.Need-returns-3
+returns-3 c = fault-none (c .before .before .before .before .before .args .b .now) (c .before .before .before .receive .result) (c .before .before .before .receive .ensures) (λ w. let e = c .before .r2 .given .1 in let z : _≡_ {A = ℕ} 0 1 = cc in omega arith)
 
-half-requires : tie.Need-half-requires Inv-loop μ-loop
-half-requires c κs = tt
-
-add-owed : tie.Need-add-owed Inv-loop μ-loop
-add-owed c = omega (arith, c .half .ensures .1)
-
-add-at : tie.Need-add-at Inv-loop μ-loop
-add-at c = omega arith
-
-loop-less : tie.Need-loop-less Inv-loop μ-loop
-loop-less c = omega arith
-
-loop-again : tie.Need-loop-again Inv-loop μ-loop
-loop-again c =
-    let args = c .before .before .before .before .before .before .before .args in
-    let loop = c .before .before .before .before .before .loop in
-    let is-node = c .before .before .is-node in (
-      omega arith,
-      loop .inv .1
-          ∙ rest-step (args .b .now) (loop .owed) (loop .at) (c .half .result) (λ e. omega arith) (sym (is-node .ensures) ∙ c .before .if2 .taken)
-          (c .half .ensures .0),
-    )
-
-returns-2 : tie.Need-returns-2 Inv-loop μ-loop
-returns-2 c =
-    let args = c .before .before .before .before .before .before .args in
-    let loop = c .before .before .before .before .loop in
-    sym (loop .inv .1 ∙ rest-bad (args .b .now) (loop .owed) (loop .at) (λ e. omega arith) (sym (c .before .is-node .ensures) ∙ c .if2 .left))
-
-returns-3 : tie.Need-returns-3 Inv-loop μ-loop
-returns-3 c = sym (c .before .loop .inv .1 ∙ rest-end (c .before .before .before .args .b .now) (c .before .loop .owed) (c .before .loop .at) (omega arith))
+returns-4 : tie.Need-returns-4
+returns-4 c = fault-none (c .before .before .before .before .before .args .b .now) (c .before .before .before .receive .result) (c .before .before .before .receive .ensures) (λ w. let e = c .before .r3 .given .1 in let z : _≡_ {A = ℕ} 0 1 = cc in omega arith)
 
 pub is-formula-spec : {M : Type 1} → statement M
 is-formula-spec =
     tie.close
     (tie.spec
-    Inv-loop
-    μ-loop
-    loop-holds
-    sub-if1
+    receive-requires
+    enum-told
+    enum-known-r
+    enum-known-r-2
+    enum-known-r-3
     returns
-    is-node-requires
-    sub-owed
-    add-half
-    half-requires
-    add-owed
-    add-at
-    loop-less
-    loop-again
     returns-2
-    returns-3)
+    returns-3
+    returns-4)

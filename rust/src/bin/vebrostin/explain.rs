@@ -19,7 +19,7 @@ pub fn compile(error: &Error, formula: &Formula) -> Problem {
         Refusal::Type => mistyped(place, names),
         Refusal::Unsupported => moving(place, names),
         Refusal::Domain => ("a number is not finite".into(), "Write a decimal number.".into()),
-        other => (other.meaning(error.action).to_string(), String::new()),
+        _ => (plainly(error), String::new()),
     };
     Problem::new(place.span(), format!("refused ({}): {message}", error.refusal.number()), advice)
 }
@@ -42,9 +42,15 @@ pub fn derive(error: &Error, formula: &Formula, symbol: u32) -> Problem {
             };
             (part, message, "Ask for the rate by another name.")
         }
-        other => (tree, other.meaning(error.action).to_string(), ""),
+        _ => (tree, plainly(error), ""),
     };
     Problem::new(part.span.clone(), format!("refused ({}): {message}", error.refusal.number()), advice)
+}
+
+/// What a refusal that no text can cause means, and at which node of the bytes.
+fn plainly(error: &Error) -> String {
+    let meaning = error.refusal.meaning(error.action);
+    error.node.map_or(meaning.to_string(), |node| format!("{meaning}, at node {node}"))
 }
 
 /// Whether a node has no derivative by a symbol: a rounding over it, or a condition with it.

@@ -10,7 +10,7 @@ use crate::problem::plain;
 use crate::text::{write, Formula};
 use crate::tree::{Tree, CALLS};
 use std::path::Path;
-use vebrostin::Program;
+use vebrostin::{Action, Program, Refusal};
 
 /// Bytes of the longest formula.bin that `legs` takes, and of the lines that are read.
 const LEGS: usize = 4096;
@@ -127,9 +127,16 @@ fn said(line: &str, tree: &Tree, names: &Names) -> String {
         "ask" => question(detail).unwrap_or_default(),
         "bad" if *detail == "3" => "not values of 16 hexadecimal digits and commas".into(),
         "bad" => "a wrong number of values, or one that is not finite".into(),
-        "refused" => detail.split_once(':').map_or(String::new(), |(_, path)| part(path)),
+        "refused" => detail.split_once(':').map_or(String::new(), |(number, place)| fault(number, place).unwrap_or_else(|| part(place))),
         _ => String::new(),
     }
+}
+
+/// What is wrong with the bytes of a formula that was refused at a node.
+fn fault(number: &str, node: &str) -> Option<String> {
+    let refusal = Refusal::from_number(number.parse().ok()?).filter(|refusal| refusal.has_node())?;
+    let node: u64 = node.parse().ok()?;
+    Some(format!("{}, at node {node}", refusal.meaning(Action::Compile)))
 }
 
 /// The counts of the total line in words. An older build of `legs` printed no such line.

@@ -192,9 +192,9 @@ fn random_bytes() {
             Ok(tree) => {
                 read += 1;
                 assert_eq!(encode(&tree), bytes);
-                assert!(compiled.is_ok() || compiled.is_err_and(|error| error.refusal != Refusal::Formula && placed(&error, &tree)));
+                assert!(compiled.is_ok() || compiled.is_err_and(|error| !error.refusal.has_node() && placed(&error, &tree)));
             }
-            Err(_) => assert!(compiled.is_err_and(|error| error.refusal == Refusal::Formula)),
+            Err(malformed) => assert!(compiled.is_err_and(|error| error.node == Some((malformed.at / NODE) as u64))),
         }
     }
     assert!(read > 20_000, "{read}");
@@ -254,9 +254,9 @@ fn random_files() {
 fn all_refusals() {
     let text = "counts: fuel\nnames: a:i\na + 1\n";
     let formula = Formula::read(text).unwrap_or_else(|problem| panic!("{}", problem.message));
-    for refusal in (1..=11).filter_map(Refusal::from_number) {
+    for refusal in (1..=13).filter_map(Refusal::from_number) {
         for place in [None, Some("root"), Some("root.arguments[7]"), Some("nowhere")] {
-            let error = Error { refusal, action: Action::Compile, place: place.map(String::from) };
+            let error = Error { refusal, action: Action::Compile, place: place.map(String::from), node: refusal.has_node().then_some(5) };
             let problem = explain::compile(&error, &formula);
             assert!(problem.show("f", text).starts_with(&format!("f:3:1: refused ({}): ", refusal.number())));
             let problem = explain::derive(&error, &formula, 0);
