@@ -25,8 +25,8 @@ extern "C" {
 enum {
     /* done: a program, a derivative, a value */
     VEBROSTIN_OK = 0,
-    /* a slice is too short: the path slice below 8,192 bytes; the program slice below 240 bytes for each 16 bytes of formula
-     * (of the derivative tree, for a derivative); the tree slice below 16 bytes for each node; the state below 16 numbers;
+    /* a slice is too short: the path slice below 8,192 bytes; the program slice below 240 bytes for each 16 bytes of formula, fewer at
+     * its end counted as 16 (of the derivative tree, for a derivative); the tree slice below 16 bytes for each node; the state below 16 numbers;
      * the report below 8, which is looked at before anything else */
     VEBROSTIN_SLICE_TOO_SHORT = 1,
     /* compile and derive, at the node: one of its fields is wrong */

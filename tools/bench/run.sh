@@ -8,8 +8,10 @@ out=target/library
 [ -n "$BUILT" ] || tools/library/build.sh > /dev/null
 rustc --edition 2021 -O tools/bench/main.rs --extern vebrostin="$out/libvebrostin.rlib" -o "$out/bench"
 rustc --edition 2021 -O tools/bench/legs_reference.rs -o "$out/legs_reference"
+rustc --edition 2021 -O tools/bench/reader.rs --extern vebrostin="$out/libvebrostin.rlib" -o "$out/reader"
 legs=${LEGS:-target/bin/legs}
 echo "$(date +%F), $(grep -m1 'model name' /proc/cpuinfo | cut -d: -f2 | sed 's/^ *//'), $(nproc) cores, load $(cut -d' ' -f1 /proc/loadavg), $(rustc --version)"
+[ -n "$BEFORE" ] || "$out/reader"
 [ -x "$legs" ] || exec "$out/bench"
 tools/library/runner.sh "$legs" "$out/legs"
 if [ -n "$BEFORE" ]; then

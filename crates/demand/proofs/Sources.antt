@@ -20,7 +20,7 @@ use Rattle.layout.proofs.Literals.{literals}
 use Rattle.layout.proofs.ReadBack.{read-back}
 use Rattle.reader.proofs.Bytes.{Bytes}
 use Rattle.reader.proofs.Heads.{and-first}
-use Rattle.derivative.specs.Derive.{Derived, by-state, derive, derived, formula-refused, generated-context}
+use Rattle.derivative.specs.Derive.{Derived, by-state, derive, derived, formula-refused, formula-refused-at, generated-context}
 use Rattle.derivative.specs.Derive as Derive
 use Rattle.derivative.proofs.Derived.{derived-compiles, derived-formula}
 use Rattle.compile.proofs.Back.{formula-back, formula-writable, known, written-literals}
@@ -47,6 +47,7 @@ module _ (b l : List ℕ) (bytes : Bytes b) where
   compiled-source : (X : Compiled) (p q : ℕ) (slice : List ℕ) (C : Context) (f : Formula) → compile b l p q ≡ X → of-compiled X ≡ made C f
       → Source C (term f) × (program-at (Compile.program-after image X slice) ≡ program C (term f))
   compiled-source (Compile.refused n place) p q slice C f e h = absurd (let z : _≡_ {A = ℕ} 0 1 = cc in omega arith)
+  compiled-source (Compile.refused-at n k) p q slice C f e h = absurd (let z : _≡_ {A = ℕ} 0 1 = cc in omega arith)
   compiled-source (accepted g ss) p q slice C f e h =
       let eC : own-context ss ≡ C = cc in
       let ef : g ≡ f = cc in
@@ -57,6 +58,7 @@ module _ (b l : List ℕ) (bytes : Bytes b) where
   derived-source : (X : Derived) (s p t q : ℕ) (slice : List ℕ) (C : Context) (f : Formula) → derive b l s p t q ≡ X → of-derived X ≡ made C f
       → Source C (term f) × (program-at (Derive.program-after image X slice) ≡ program C (term f))
   derived-source (formula-refused n place) s p t q slice C f e h = absurd (let z : _≡_ {A = ℕ} 0 1 = cc in omega arith)
+  derived-source (formula-refused-at n k) s p t q slice C f e h = absurd (let z : _≡_ {A = ℕ} 0 1 = cc in omega arith)
   derived-source (Derive.refused n place) s p t q slice C f e h = absurd (let z : _≡_ {A = ℕ} 0 1 = cc in omega arith)
   derived-source (derived d ss) s p t q slice C f e h =
       let eC : generated-context ss ≡ C = cc in

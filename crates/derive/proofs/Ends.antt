@@ -26,7 +26,7 @@ use Rattle.compile.specs.declared.Lowered.{Lowered}
 use Rattle.compile.specs.declared.Lowered.the-variants as Lows
 use Rattle.compile.proofs.Entries.{listed-length}
 use Rattle.derivative.specs.Differentiate.{derivative}
-use Rattle.derivative.specs.Derive.{Derived, by-state, continued, derive, derived, fitted, formula-refused, refused}
+use Rattle.derivative.specs.Derive.{Derived, by-state, continued, derive, derived, fitted, formula-refused, formula-refused-at, refused}
 use Rattle.derive.specs.Outcome.{Leaves}
 use Rattle.derive.specs.declared.Answer.{Answer}
 use Rattle.derive.specs.declared.Answer.the-variants as Given
@@ -142,3 +142,10 @@ module _ (b l : List ℕ) (s : ℕ) (q q′ : List ℕ) (tree program : ℕ) whe
   pub goes-on : (X : Compiled) → compile b l (length q) program ≡ X → derive b l s (length q) tree program ≡ continued tree program s X
   unfolding derive
   goes-on X e = ap (continued tree program s) e
+
+pub refused-at-node : (b l : List ℕ) (s : ℕ) (q : List ℕ) (tree program n k : ℕ) (t p : List ℕ) → compile b l (length q) program ≡ Compile.refused-at n k
+    → Leaves (derive b l s (length q) tree program) (Given.RefusedAt n k) q q t t p p
+unfolding derive
+refused-at-node b l s q tree program n k t p e =
+    leaves (continued tree program s (compile b l (length q) program)) (formula-refused-at n k) (Given.RefusedAt n k) q q t t p p (ap (continued tree program s) e)
+    (refl, refl, refl, refl)

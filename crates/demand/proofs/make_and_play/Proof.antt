@@ -1,7 +1,7 @@
 use native.Mathlib.Omega.{arith}
 use lib.ListN.{length}
 use Rattle.demand.specs.Made.{make}
-use Rattle.demand.proofs.Owing.{played, turned-away}
+use Rattle.demand.proofs.Owing.{played, turned-away, turned-back}
 use borrow.Author.Needs.{needs}
 use Rattle.demand.proofs.make_and_play.Statement.{statement}
 use Rattle.demand.proofs.make_and_play.Tie as tie
@@ -11,6 +11,9 @@ write-program-requires c κs = search needs
 
 enum-known-made : tie.Need-enum-known-made
 enum-known-made c = search needs
+
+enum-known-made-2 : tie.Need-enum-known-made-2
+enum-known-made-2 c = search needs
 
 enum-told : tie.Need-enum-told
 enum-told c = search needs
@@ -48,11 +51,32 @@ same-length-5 c = search needs
 same-length-6 : tie.Need-same-length-6
 same-length-6 c = search needs
 
+returns-2 : tie.Need-returns-2
+returns-2 c =
+    let args = c .before .before .before .before .before .before .before .before .before .before .before .before .before .before .before .before .before .before .before .before .before .before .before .before .args in
+    let write-program = c .before .before .before .before .before .before .before .before .before .write-program in
+    let made = c .before .made2 in (
+      (write-program .ensures .2, write-program .ensures .3),
+      turned-back (write-program .last .1 .1 .1 .1 .1 .0) (args .inputs .now) (args .rooms .now) (args .budgets .now) (args .flags .now) (args .values .now)
+          (args .regs .now) (args .path .now) (write-program .last .1 .1 .1 .0)
+          (make (args .formula .now) (args .names .now) (args .wanted) (length (args .path .now)) (length (args .tree .now)) (length (args .program .now)))
+          (write-program .result) (made .given .0 .0) (made .given .0 .1 .0) (write-program .ensures .0) (made .given .1) (write-program .ensures .1),
+    )
+
 same-length-7 : tie.Need-same-length-7
 same-length-7 c = search needs
 
-returns-2 : tie.Need-returns-2
-returns-2 c =
+same-length-8 : tie.Need-same-length-8
+same-length-8 c = search needs
+
+same-length-9 : tie.Need-same-length-9
+same-length-9 c = search needs
+
+same-length-10 : tie.Need-same-length-10
+same-length-10 c = search needs
+
+returns-3 : tie.Need-returns-3
+returns-3 c =
     let args = c .before .before .before .before .before .before .before .before .before .before .before .before .before .before .before .before .before .before .before .before .before .before .before .before .before .before .before .before .before .before .before .args in
     let shared-slice-known = c .before .before .before .before .before .before .before .before .before .before .before .before .before .before .before .before .before .before .before .before .before .before .before .before .before .before .before .before .before .before .shared-slice-known in
     let write-program = c .before .before .before .before .before .before .before .before .before .before .before .before .before .before .before .before .write-program in
@@ -72,6 +96,7 @@ make-and-play-spec =
     (tie.spec
     write-program-requires
     enum-known-made
+    enum-known-made-2
     enum-told
     play-requires
     same-length
@@ -81,5 +106,9 @@ make-and-play-spec =
     same-length-4
     same-length-5
     same-length-6
+    returns-2
     same-length-7
-    returns-2)
+    same-length-8
+    same-length-9
+    same-length-10
+    returns-3)

@@ -16,6 +16,9 @@ enum-told-2 c = search needs
 enum-known-a : tie.Need-enum-known-a
 enum-known-a c = search needs
 
+enum-known-a-2 : tie.Need-enum-known-a-2
+enum-known-a-2 c = search needs
+
 enum-known-wanted : tie.Need-enum-known-wanted
 enum-known-wanted c = search needs
 
@@ -25,8 +28,11 @@ derive-requires c κs = search needs
 enum-told-3 : tie.Need-enum-told-3
 enum-told-3 c = search needs
 
-enum-known-a-2 : tie.Need-enum-known-a-2
-enum-known-a-2 c = search needs
+enum-known-a-3 : tie.Need-enum-known-a-3
+enum-known-a-3 c = search needs
+
+enum-known-a-4 : tie.Need-enum-known-a-4
+enum-known-a-4 c = search needs
 
 same-length : tie.Need-same-length
 same-length c = search needs
@@ -64,17 +70,17 @@ same-length-5 c = search needs
 same-length-6 : tie.Need-same-length-6
 same-length-6 c = search needs
 
-same-length-7 : tie.Need-same-length-7
-same-length-7 c = search needs
-
 returns-3 : tie.Need-returns-3
 returns-3 c =
-    let args = c .before .before .before .before .before .before .before .before .before .before .before .before .before .before .before .before .before .before .before .before .args in
-    let wanted = c .before .before .before .before .before .before .before .before .before .before .before .before .before .wanted in
-    let derive = c .before .before .before .before .before .before .before .before .derive in
-    derivative-done (args .formula .now) (args .names .now) (args .path .now) (derive .last .1 .1 .1 .0) (args .tree .now) (derive .last .1 .1 .1 .1 .0)
-    (args .program .now) (derive .last .1 .1 .1 .1 .1 .0) (args .wanted) (wanted .given .0 .0) (derive .result) _ (wanted .given .1)
-    (ap differentiating (c .enum-told3 .given .1)) (derive .ensures)
+    let args = c .before .before .before .before .before .before .before .before .before .before .before .before .before .before .before .before .before .args in
+    let enum-told = c .before .before .before .before .before .before .before .before .before .before .enum-told in
+    let compile = c .before .before .before .before .before .before .before .compile in
+    formula-done (args .formula .now) (args .names .now) (args .path .now) (compile .last .1 .1 .0) (args .tree .now) (args .tree .now)
+    (args .program .now) (compile .last .1 .1 .1 .0) (args .wanted) (compile .result) _ (enum-told .given .1) (ap compiling (c .before .a2 .given .1)) refl
+    (compile .ensures .0) (compile .ensures .1) (compile .ensures .2)
+
+same-length-7 : tie.Need-same-length-7
+same-length-7 c = search needs
 
 same-length-8 : tie.Need-same-length-8
 same-length-8 c = search needs
@@ -82,17 +88,50 @@ same-length-8 c = search needs
 same-length-9 : tie.Need-same-length-9
 same-length-9 c = search needs
 
+returns-4 : tie.Need-returns-4
+returns-4 c =
+    let args = c .before .before .before .before .before .before .before .before .before .before .before .before .before .before .before .before .before .before .before .before .args in
+    let wanted = c .before .before .before .before .before .before .before .before .before .before .before .before .before .wanted in
+    let derive = c .before .before .before .before .before .before .before .before .derive in
+    derivative-done (args .formula .now) (args .names .now) (args .path .now) (derive .last .1 .1 .1 .0) (args .tree .now) (derive .last .1 .1 .1 .1 .0)
+    (args .program .now) (derive .last .1 .1 .1 .1 .1 .0) (args .wanted) (wanted .given .0 .0) (derive .result) _ (wanted .given .1)
+    (ap differentiating (c .enum-told3 .given .1)) (derive .ensures)
+
 same-length-10 : tie.Need-same-length-10
 same-length-10 c = search needs
 
-returns-4 : tie.Need-returns-4
-returns-4 c =
+same-length-11 : tie.Need-same-length-11
+same-length-11 c = search needs
+
+same-length-12 : tie.Need-same-length-12
+same-length-12 c = search needs
+
+returns-5 : tie.Need-returns-5
+returns-5 c =
     let args = c .before .before .before .before .before .before .before .before .before .before .before .before .before .before .before .before .before .before .before .before .before .args in
     let wanted = c .before .before .before .before .before .before .before .before .before .before .before .before .before .before .wanted in
     let derive = c .before .before .before .before .before .before .before .before .before .derive in
     derivative-done (args .formula .now) (args .names .now) (args .path .now) (derive .last .1 .1 .1 .0) (args .tree .now) (derive .last .1 .1 .1 .1 .0)
     (args .program .now) (derive .last .1 .1 .1 .1 .1 .0) (args .wanted) (wanted .given .0 .0) (derive .result) _ (wanted .given .1)
-    (ap differentiating (c .before .a2 .given .1)) (derive .ensures)
+    (ap differentiating (c .before .a3 .given .1)) (derive .ensures)
+
+same-length-13 : tie.Need-same-length-13
+same-length-13 c = search needs
+
+same-length-14 : tie.Need-same-length-14
+same-length-14 c = search needs
+
+same-length-15 : tie.Need-same-length-15
+same-length-15 c = search needs
+
+returns-6 : tie.Need-returns-6
+returns-6 c =
+    let args = c .before .before .before .before .before .before .before .before .before .before .before .before .before .before .before .before .before .before .before .before .before .args in
+    let wanted = c .before .before .before .before .before .before .before .before .before .before .before .before .before .before .wanted in
+    let derive = c .before .before .before .before .before .before .before .before .before .derive in
+    derivative-done (args .formula .now) (args .names .now) (args .path .now) (derive .last .1 .1 .1 .0) (args .tree .now) (derive .last .1 .1 .1 .1 .0)
+    (args .program .now) (derive .last .1 .1 .1 .1 .1 .0) (args .wanted) (wanted .given .0 .0) (derive .result) _ (wanted .given .1)
+    (ap differentiating (c .before .a4 .given .1)) (derive .ensures)
 
 pub write-program-spec : {M : Type 1} → statement M
 write-program-spec =
@@ -102,10 +141,12 @@ write-program-spec =
     compile-requires
     enum-told-2
     enum-known-a
+    enum-known-a-2
     enum-known-wanted
     derive-requires
     enum-told-3
-    enum-known-a-2
+    enum-known-a-3
+    enum-known-a-4
     same-length
     same-length-2
     returns
@@ -114,9 +155,16 @@ write-program-spec =
     returns-2
     same-length-5
     same-length-6
-    same-length-7
     returns-3
+    same-length-7
     same-length-8
     same-length-9
+    returns-4
     same-length-10
-    returns-4)
+    same-length-11
+    same-length-12
+    returns-5
+    same-length-13
+    same-length-14
+    same-length-15
+    returns-6)

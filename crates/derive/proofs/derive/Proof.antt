@@ -9,9 +9,9 @@ use Rattle.machine.specs.Check.{fault}
 use Rattle.machine.specs.Compile.{lowered-or, own-context}
 use Rattle.reader.specs.Read.{is-some}
 use Rattle.derivative.specs.Derive.{continued}
-use Rattle.compile.proofs.Entries.{above-limit, faults-left, limit-of, path-kept, path-rooted, prefix, prefix-long, refusal-of, source-of, within-table}
+use Rattle.compile.proofs.Entries.{above-limit, faults-left, limit-of, node-refusal-of, path-kept, path-rooted, prefix, prefix-long, refusal-of, source-of, within-table}
 use Rattle.derive.proofs.Parts.{leaves}
-use Rattle.derive.proofs.Ends.{from-path, goes-on, refused-first}
+use Rattle.derive.proofs.Ends.{from-path, goes-on, refused-at-node, refused-first}
 use borrow.Author.Needs.{needs}
 use Rattle.derive.proofs.derive.Statement.{statement}
 use Rattle.derive.proofs.derive.Tie as tie
@@ -30,20 +30,23 @@ enum-known-reading c = search needs
 enum-known-reading-2 : tie.Need-enum-known-reading-2
 enum-known-reading-2 c = search needs
 
+enum-known-reading-3 : tie.Need-enum-known-reading-3
+enum-known-reading-3 c = search needs
+
 within-requires : tie.Need-within-requires
 within-requires c κs =
     let args = c .before .before .before .before .before .before .before .before .before .before .args in
     let prepare = c .before .before .before .before .prepare in
-    let n = c .before .before .reading2 .given .0 .0 in
+    let n = c .before .before .reading3 .given .0 .0 in
     let S = source-of (args .formula .now) (args .names .now) (length (args .path .now)) (length (args .program .now)) (prepare .result)
-    (prepare .ensures) n (c .before .before .reading2 .given .1) in
+    (prepare .ensures) n (c .before .before .reading3 .given .1) in
     (omega (arith, S .places), ap (λ (o : Option Formula). is-some o) (S .formed))
 
 array-share-prefix-kinds : tie.Need-array-share-prefix-kinds
 array-share-prefix-kinds c =
     let args = c .before .before .before .before .before .before .before .before .before .before .before .before .before .before .before .args in
     let prepare = c .before .before .before .before .before .before .before .before .before .prepare in
-    let reading2 = c .before .before .before .before .before .before .before .reading2 in
+    let reading2 = c .before .before .before .before .before .before .before .reading3 in
     let n = reading2 .given .0 .0 in
     let S = source-of (args .formula .now) (args .names .now) (length (args .path .now)) (length (args .program .now)) (prepare .result)
     (prepare .ensures) n (reading2 .given .1) in
@@ -53,7 +56,7 @@ slice-aggregate-derive-formula : tie.Need-slice-aggregate-derive-formula
 slice-aggregate-derive-formula c =
     let args = c .before .before .before .before .before .before .before .before .before .before .before .before .before .before .before .before .args in
     let prepare = c .before .before .before .before .before .before .before .before .before .before .prepare in
-    let reading2 = c .before .before .before .before .before .before .before .before .reading2 in
+    let reading2 = c .before .before .before .before .before .before .before .before .reading3 in
     let n = reading2 .given .0 .0 in
     let S = source-of (args .formula .now) (args .names .now) (length (args .path .now)) (length (args .program .now)) (prepare .result)
     (prepare .ensures) n (reading2 .given .1) in
@@ -63,7 +66,7 @@ derive-formula-requires : tie.Need-derive-formula-requires
 derive-formula-requires c κs =
     let args = c .before .before .before .before .before .before .before .before .before .before .before .before .before .before .before .before .before .before .before .args in
     let prepare = c .before .before .before .before .before .before .before .before .before .before .before .before .before .prepare in
-    let reading2 = c .before .before .before .before .before .before .before .before .before .before .before .reading2 in
+    let reading2 = c .before .before .before .before .before .before .before .before .before .before .before .reading3 in
     let within = c .before .before .before .before .before .before .before .before .within in
     let if1 = c .before .before .before .before .before .if1 in
     let n = reading2 .given .0 .0 in
@@ -87,7 +90,7 @@ returns : tie.Need-returns
 returns c =
     let args = c .before .before .before .before .before .before .before .before .before .before .before .before .before .before .before .before .before .before .before .before .before .before .before .before .before .before .args in
     let prepare = c .before .before .before .before .before .before .before .before .before .before .before .before .before .before .before .before .before .before .before .before .prepare in
-    let reading2 = c .before .before .before .before .before .before .before .before .before .before .before .before .before .before .before .before .before .before .reading2 in
+    let reading2 = c .before .before .before .before .before .before .before .before .before .before .before .before .before .before .before .before .before .before .reading3 in
     let within = c .before .before .before .before .before .before .before .before .before .before .before .before .before .before .before .within in
     let if1 = c .before .before .before .before .before .before .before .before .before .before .before .before .if1 in
     let formula = c .before .before .before .before .before .before .derive-formula in
@@ -117,14 +120,22 @@ returns-2 c =
     refused-first (args .formula .now) (args .names .now) (args .symbol) (args .path .now) (args .path .now) (length (args .tree .now))
     (length (args .program .now)) n none (args .tree .now) (args .program .now) (R .0) refl
 
+returns-3 : tie.Need-returns-3
+returns-3 c =
+    let n = c .before .reading2 .given .0 .0 in
+    let k = c .before .reading2 .given .0 .1 .0 in
+    refused-at-node (c .before .before .before .before .before .before .before .before .before .args .formula .now) (c .before .before .before .before .before .before .before .before .before .args .names .now) (c .before .before .before .before .before .before .before .before .before .args .symbol) (c .before .before .before .before .before .before .before .before .before .args .path .now) (length (c .before .before .before .before .before .before .before .before .before .args .tree .now)) (length (c .before .before .before .before .before .before .before .before .before .args .program .now))
+    n k (c .before .before .before .before .before .before .before .before .before .args .tree .now) (c .before .before .before .before .before .before .before .before .before .args .program .now) (node-refusal-of (c .before .before .before .before .before .before .before .before .before .args .formula .now) (c .before .before .before .before .before .before .before .before .before .args .names .now) (length (c .before .before .before .before .before .before .before .before .before .args .path .now))
+    (length (c .before .before .before .before .before .before .before .before .before .args .program .now)) (c .before .before .before .prepare .result) (c .before .before .before .prepare .ensures) n k (c .before .reading2 .given .1))
+
 same-length-4 : tie.Need-same-length-4
 same-length-4 c = search needs
 
-returns-3 : tie.Need-returns-3
-returns-3 c =
+returns-4 : tie.Need-returns-4
+returns-4 c =
     let args = c .before .before .before .before .before .before .before .before .before .before .before .before .before .before .args in
     let prepare = c .before .before .before .before .before .before .before .before .prepare in
-    let reading2 = c .before .before .before .before .before .before .reading2 in
+    let reading2 = c .before .before .before .before .before .before .reading3 in
     let n = reading2 .given .0 .0 in
     let S = source-of (args .formula .now) (args .names .now) (length (args .path .now)) (length (args .program .now)) (prepare .result)
     (prepare .ensures) n (reading2 .given .1) in
@@ -141,6 +152,7 @@ derive-spec =
     prepare-requires
     enum-known-reading
     enum-known-reading-2
+    enum-known-reading-3
     within-requires
     array-share-prefix-kinds
     slice-aggregate-derive-formula
@@ -150,5 +162,6 @@ derive-spec =
     same-length-3
     returns
     returns-2
+    returns-3
     same-length-4
-    returns-3)
+    returns-4)
