@@ -5,7 +5,7 @@ use mathlib.Core.List.{List, [], _∷_, _++_}
 use mathlib.Core.Logic.{⊎-elim}
 use mathlib.Core.Option.{Option}
 use Prim.Native.Nat.{ℕ, _<_, _≤_}
-use lib.ListN.{length, drop}
+use lib.ListN.{length, drop, set}
 use lib.Ieee.{Float}
 use borrow.Author.Tests.{le-ltb, lt-ltb, ltb-false}
 use Rattle.refusals.specs.Numbers.{no-program, slice-too-short}
@@ -30,7 +30,7 @@ use Rattle.run.specs.Views.{Hands-back, answer-of, pending-of, reply-of, state-
 use Rattle.run.specs.Calls.{Settled, resume-at, run-at}
 use Rattle.run.proofs.Whole.{resume-10}
 use Rattle.vebrostin.specs.Cells.{Askable, number-of, state-cells, state-in, value-cell}
-use Rattle.vebrostin.specs.Calls.{Carries, Compiles, Derives, Leaves, Outcome, Settles, after, compile-number, compile-outcome, derive-number, derive-outcome, is-refused, report-length, report-short, resume-outcome, run-outcome, short, state-length, told, untouched, with-room, written}
+use Rattle.vebrostin.specs.Calls.{Carries, Compiles, Derives, Leaves, Outcome, Settles, after, compile-node, compile-number, compile-outcome, derive-node, derive-number, derive-outcome, is-refused, node-place, report-length, report-short, reported, resume-outcome, run-outcome, short, state-length, told, untouched, with-room, written}
 use Rattle.vebrostin.proofs.Asking.{resume-asks, run-asks}
 
 -- ---- the numbers of an answer don't go by the program
@@ -109,34 +109,43 @@ apart f g c = (λ t. g (f t) .0, (λ t. g (f t) .1, c))
 
 -- ---- compile and derive
 
+short-report : (report : List ℕ) (k : ℕ) → length report < report-length → report ≡ reported k report
+short-report report k h = no-room (report-short report) report (set report node-place k) (lt-ltb (length report) report-length h)
+
+long-report : (report : List ℕ) (k : ℕ) → report-length ≤ length report → set report node-place k ≡ reported k report
+long-report report k h = roomy (report-short report) report (set report node-place k) (le-ltb (length report) report-length h)
+
 module _ (b l q p report : List ℕ) where
   pub compile-short : length report < report-length → Compiles (compile-outcome b l (length q) (length p) report) slice-too-short q q p p report report
   compile-short h =
       subst (λ (X : Compiled). Compiles X slice-too-short q q p p report report)
-      (no-room (report-short report) _ _ (lt-ltb (length report) report-length h)) (refl, refl, refl, refl)
+      (no-room (report-short report) _ _ (lt-ltb (length report) report-length h)) (refl, refl, refl, short-report report 0 h)
 
-  pub compile-leaves : report-length ≤ length report → (n : ℕ) (q′ p′ : List ℕ)
+  pub compile-leaves : report-length ≤ length report → (n k : ℕ) (q′ p′ : List ℕ)
       → (let X = compile b l (length q) (length p) in
-      n ≡ compile-number (Entry.answer X) → q′ ≡ Compile.path-after X q → p′ ≡ Compile.program-after image X p
-      → Compiles (compile-outcome b l (length q) (length p) report) n q q′ p p′ report report)
-  compile-leaves h n q′ p′ en eq ep =
-      subst (λ (X : Compiled). Compiles X n q q′ p p′ report report)
-      (roomy (report-short report) _ _ (le-ltb (length report) report-length h)) (en, eq, ep, refl)
+      n ≡ compile-number (Entry.answer X) → k ≡ compile-node (Entry.answer X) → q′ ≡ Compile.path-after X q → p′ ≡ Compile.program-after image X p
+      → Compiles (compile-outcome b l (length q) (length p) report) n q q′ p p′ report (set report node-place k))
+  compile-leaves h n k q′ p′ en ek eq ep =
+      subst (λ (X : Compiled). Compiles X n q q′ p p′ report (set report node-place k))
+      (roomy (report-short report) _ _ (le-ltb (length report) report-length h))
+      (en, eq, ep, long-report report k h ∙ ap (λ (i : ℕ). reported i report) ek)
 
 module _ (b l : List ℕ) (s : ℕ) (q t p report : List ℕ) where
   pub derive-short : length report < report-length
       → Derives (derive-outcome b l s (length q) (length t) (length p) report) slice-too-short q q t t p p report report
   derive-short h =
       subst (λ (X : Derived). Derives X slice-too-short q q t t p p report report)
-      (no-room (report-short report) _ _ (lt-ltb (length report) report-length h)) (refl, refl, refl, refl, refl)
+      (no-room (report-short report) _ _ (lt-ltb (length report) report-length h)) (refl, refl, refl, refl, short-report report 0 h)
 
-  pub derive-leaves : report-length ≤ length report → (n : ℕ) (q′ t′ p′ : List ℕ)
+  pub derive-leaves : report-length ≤ length report → (n k : ℕ) (q′ t′ p′ : List ℕ)
       → (let X = derive b l s (length q) (length t) (length p) in
-      n ≡ derive-number (Entered.answer X) → q′ ≡ Derive.path-after X q → t′ ≡ Derive.tree-after X t → p′ ≡ Derive.program-after image X p
-      → Derives (derive-outcome b l s (length q) (length t) (length p) report) n q q′ t t′ p p′ report report)
-  derive-leaves h n q′ t′ p′ en eq et ep =
-      subst (λ (X : Derived). Derives X n q q′ t t′ p p′ report report)
-      (roomy (report-short report) _ _ (le-ltb (length report) report-length h)) (en, eq, et, ep, refl)
+      n ≡ derive-number (Entered.answer X) → k ≡ derive-node (Entered.answer X) → q′ ≡ Derive.path-after X q → t′ ≡ Derive.tree-after X t
+      → p′ ≡ Derive.program-after image X p
+      → Derives (derive-outcome b l s (length q) (length t) (length p) report) n q q′ t t′ p p′ report (set report node-place k))
+  derive-leaves h n k q′ t′ p′ en ek eq et ep =
+      subst (λ (X : Derived). Derives X n q q′ t t′ p p′ report (set report node-place k))
+      (roomy (report-short report) _ _ (le-ltb (length report) report-length h))
+      (en, eq, et, ep, long-report report k h ∙ ap (λ (i : ℕ). reported i report) ek)
 
 -- ---- run
 

@@ -5,7 +5,7 @@ use mathlib.Core.List.{List, _++_}
 use mathlib.Core.Logic.{_⊎_}
 use mathlib.Core.Option.{Option, none}
 use Prim.Native.Nat.{ℕ}
-use lib.ListN.{length, drop}
+use lib.ListN.{length, drop, set}
 use lib.Dec.{ltb}
 use lib.Ieee.{Float}
 use Rattle.refusals.specs.Numbers.{slice-too-short}
@@ -25,10 +25,13 @@ use Rattle.vebrostin.specs.Cells.{number-of, outcome-cells, state-cells,
 
 -- ---- numbers that cross in slices
 
--- the numbers of a report, in which a call hands out numbers beside its answer: a place for each, 0 where there is none. No place is taken yet, so that
--- every call leaves the report as it was.
+-- the numbers of a report, in which a call hands out numbers beside its answer: a place for each, 0 where there is none. Compile and derive have one,
+-- the node of a refusal; the other places, and the report of a run, stay as they were.
 abbrev pub report-length : ℕ
 report-length = 8
+
+abbrev pub node-place : ℕ
+node-place = 0
 
 -- a state's numbers, with a run's count and value
 abbrev pub state-length : ℕ
@@ -47,10 +50,20 @@ with-room few refusal o = cond few refusal o
 
 -- ---- compile and derive
 
+-- a report with this node
+abbrev pub reported : ℕ → List ℕ → List ℕ
+reported node report = with-room (report-short report) report (set report node-place node)
+
 -- 0 for a program, else the refusal
 abbrev pub compile-number : CompileAnswer.Answer → ℕ
 compile-number Compiled.Program = 0
 compile-number (Compiled.Refused n) = n
+compile-number (Compiled.RefusedAt n k) = n
+
+abbrev pub compile-node : CompileAnswer.Answer → ℕ
+compile-node Compiled.Program = 0
+compile-node (Compiled.Refused n) = 0
+compile-node (Compiled.RefusedAt n k) = k
 
 -- of formula bytes and a name line, with path and program slices of these lengths and this report
 abbrev pub compile-outcome : List ℕ → List ℕ → ℕ → ℕ → List ℕ → Compile.Compiled
@@ -59,12 +72,19 @@ compile-outcome b l q p report = with-room (report-short report) (Compile.refuse
 -- the number answered, and the path, program and report slices before and after
 abbrev pub Compiles : Compile.Compiled → ℕ → List ℕ → List ℕ → List ℕ → List ℕ → List ℕ → List ℕ → Type 0
 Compiles X n q q′ p p′ t t′ =
-    (n ≡ compile-number (Entry.answer X)) × (q′ ≡ Compile.path-after X q) × (p′ ≡ Compile.program-after image X p) × (t′ ≡ t)
+    (n ≡ compile-number (Entry.answer X)) × (q′ ≡ Compile.path-after X q) × (p′ ≡ Compile.program-after image X p)
+    × (t′ ≡ reported (compile-node (Entry.answer X)) t)
 
 -- 0 for a tree and its program, else the refusal
 abbrev pub derive-number : DeriveAnswer.Answer → ℕ
 derive-number (Derived.Derived n) = 0
 derive-number (Derived.Refused n) = n
+derive-number (Derived.RefusedAt n k) = n
+
+abbrev pub derive-node : DeriveAnswer.Answer → ℕ
+derive-node (Derived.Derived n) = 0
+derive-node (Derived.Refused n) = 0
+derive-node (Derived.RefusedAt n k) = k
 
 -- of formula bytes, a name line and a symbol, with path, tree and program slices of these lengths and this report
 abbrev pub derive-outcome : List ℕ → List ℕ → ℕ → ℕ → ℕ → ℕ → List ℕ → Derive.Derived
@@ -74,7 +94,8 @@ derive-outcome b l s q t p report = with-room (report-short report) (Derive.form
 abbrev pub Derives : Derive.Derived → ℕ → List ℕ → List ℕ → List ℕ → List ℕ → List ℕ → List ℕ → List ℕ → List ℕ → Type 0
 Derives X n q q′ t t′ p p′ u u′ =
     (n ≡ derive-number (Entered.answer X))
-    × (q′ ≡ Derive.path-after X q) × (t′ ≡ Derive.tree-after X t) × (p′ ≡ Derive.program-after image X p) × (u′ ≡ u)
+    × (q′ ≡ Derive.path-after X q) × (t′ ≡ Derive.tree-after X t) × (p′ ≡ Derive.program-after image X p)
+    × (u′ ≡ reported (derive-node (Entered.answer X)) u)
 
 -- ---- run and resume
 

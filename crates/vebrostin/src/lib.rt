@@ -14,7 +14,7 @@ ghost use Rattle.work.specs.View.{kept-values, places};
 ghost use Rattle.run.specs.Views.{answer-of, pending-of, state-of, supplied-of};
 ghost use Rattle.run.specs.Calls.{resume-at, run-at};
 ghost use Rattle.vebrostin.specs.Cells.{Arguments-back, Askable, Comes-back, Held, bits, kept-in, number-of, padded, question-cells, question-in, state-cells, state-in, value-at, value-cell};
-ghost use Rattle.vebrostin.specs.Calls.{Carries, Compiles, Derives, Leaves, compile-number, compile-outcome, derive-number, derive-outcome, is-refused, resume-outcome, run-outcome, Settles, short};
+ghost use Rattle.vebrostin.specs.Calls.{Carries, Compiles, Derives, Leaves, compile-node, compile-number, compile-outcome, derive-node, derive-number, derive-outcome, is-refused, resume-outcome, run-outcome, Settles, short};
 use floats::value::bits_of;
 use floats::value::of_bits;
 use layout::CODE_AT;
@@ -30,23 +30,38 @@ use run::State;
 use run::Supplied;
 use work::Kept;
 
-// Numbers that a report needs, and the cells of a state.
+// Numbers that a report needs, its place for the node of a refusal, and the cells of a state.
 pub const REPORT_LENGTH: usize = 8;
+
+pub const NODE_PLACE: usize = 0;
 
 pub const STATE_LENGTH: usize = 16;
 
 // ---- programs
 
-fn compile_number(given: compile::Answer) -> usize
-    ensures { λ r. ⌜ r ≡ compile-number given ⌝ }
+// The number that compile or derive answers, and the node that goes to the report.
+struct Told {
+    number: usize,
+    node: usize,
+}
+
+fn compile_told(given: compile::Answer) -> Told
+    ensures { λ r. ⌜ (r .number ≡ compile-number given) × (r .node ≡ compile-node given) ⌝ }
 {
     match given {
-        compile::Answer::Program => 0,
-        compile::Answer::Refused(n) => n as usize,
+        compile::Answer::Program => Told { number: 0, node: 0 },
+        compile::Answer::Refused(n) => Told {
+            number: n as usize,
+            node: 0,
+        },
+        compile::Answer::RefusedAt(n, k) => Told {
+            number: n as usize,
+            node: k,
+        },
     }
 }
 
-// 0 and a program, or the refusal. The report is where numbers beside an answer go: none yet.
+// 0 and a program, or the refusal, with its node in the report.
 #[no_mangle]
 pub extern "C" fn vebrostin_compile(
     formula: &[u8],
@@ -61,19 +76,28 @@ pub extern "C" fn vebrostin_compile(
         return SLICE_TOO_SHORT as usize;
     }
     let given = compile::compile(formula, names, path, program);
-    compile_number(given)
+    let told = compile_told(given);
+    report[NODE_PLACE] = told.node as u64;
+    told.number
 }
 
-fn derive_number(given: derive::Answer) -> usize
-    ensures { λ r. ⌜ r ≡ derive-number given ⌝ }
+fn derive_told(given: derive::Answer) -> Told
+    ensures { λ r. ⌜ (r .number ≡ derive-number given) × (r .node ≡ derive-node given) ⌝ }
 {
     match given {
-        derive::Answer::Derived(n) => 0,
-        derive::Answer::Refused(n) => n as usize,
+        derive::Answer::Derived(n) => Told { number: 0, node: 0 },
+        derive::Answer::Refused(n) => Told {
+            number: n as usize,
+            node: 0,
+        },
+        derive::Answer::RefusedAt(n, k) => Told {
+            number: n as usize,
+            node: k,
+        },
     }
 }
 
-// 0, a derivative tree and its program, or the refusal.
+// 0, a derivative tree and its program, or the refusal, with its node in the report.
 #[no_mangle]
 pub extern "C" fn vebrostin_derive(
     formula: &[u8],
@@ -90,7 +114,9 @@ pub extern "C" fn vebrostin_derive(
         return SLICE_TOO_SHORT as usize;
     }
     let given = derive::derive(formula, names, symbol as usize, path, tree, program);
-    derive_number(given)
+    let told = derive_told(given);
+    report[NODE_PLACE] = told.node as u64;
+    told.number
 }
 
 // Whether run and resume take the bytes.

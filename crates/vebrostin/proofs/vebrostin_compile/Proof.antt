@@ -1,5 +1,5 @@
 use mathlib.Core.Path.{ap, _∙_}
-use Rattle.vebrostin.specs.Calls.{compile-number}
+use Rattle.vebrostin.specs.Calls.{compile-node, compile-number}
 use Rattle.vebrostin.proofs.Outcomes.{compile-leaves, compile-short}
 use borrow.Author.Needs.{needs}
 use Rattle.vebrostin.proofs.vebrostin_compile.Statement.{statement}
@@ -16,8 +16,11 @@ returns c =
 compile-requires : tie.Need-compile-requires
 compile-requires c κs = search needs
 
-compile-number-requires : tie.Need-compile-number-requires
-compile-number-requires c κs = search needs
+compile-told-requires : tie.Need-compile-told-requires
+compile-told-requires c κs = search needs
+
+slice-write-report : tie.Need-slice-write-report
+slice-write-report c = search needs
 
 same-length : tie.Need-same-length
 same-length c = search needs
@@ -25,12 +28,15 @@ same-length c = search needs
 same-length-2 : tie.Need-same-length-2
 same-length-2 c = search needs
 
+same-length-3 : tie.Need-same-length-3
+same-length-3 c = search needs
+
 returns-2 : tie.Need-returns-2
 returns-2 c =
     let a = c .before .before .before .before .before .before .before .before .before .before .before .before .before .before .args in
     let r = c .before .before .before .before .before .compile in
-    compile-leaves (a .formula .now) (a .names .now) (a .path .now) (a .program .now) (a .report .now) (c .before .before .before .before .before .before .before .before .if1 .left) _ _ _
-    (c .compile-number .ensures ∙ ap compile-number (r .ensures .0)) (r .ensures .1) (r .ensures .2)
+    compile-leaves (a .formula .now) (a .names .now) (a .path .now) (a .program .now) (a .report .now) (c .before .before .before .before .before .before .before .before .if1 .left) _ (c .compile-told .result .node) _ _
+    (c .compile-told .ensures .0 ∙ ap compile-number (r .ensures .0)) (c .compile-told .ensures .1 ∙ ap compile-node (r .ensures .0)) (r .ensures .1) (r .ensures .2)
 
 pub vebrostin-compile-spec : {M : Type 1} → statement M
 vebrostin-compile-spec =
@@ -39,7 +45,9 @@ vebrostin-compile-spec =
     cast-result
     returns
     compile-requires
-    compile-number-requires
+    compile-told-requires
+    slice-write-report
     same-length
     same-length-2
+    same-length-3
     returns-2)
