@@ -10,7 +10,7 @@ use lib.Dec.{leb, ltb}
 use borrow.Author.Tests.{leb-true}
 use Rattle.formula.specs.Operator.{Boolean, same-kind}
 use Rattle.formula.specs.Formula.{Formula, depth, derivative-limit, formula-limit, size}
-use Rattle.formula.specs.Node.{formula-of}
+use Rattle.formula.specs.Transfer.{Transfer, ended-early, left-over, transfer-of, whole, wrong-field}
 use Rattle.formula.specs.Names.{Symbol, symbols-of}
 use Rattle.formula.specs.Path.{path-room, root, text}
 use Rattle.formula.specs.Term.{term}
@@ -21,9 +21,9 @@ use Rattle.machine.proofs.Size.{longest-path, narrow}
 use Rattle.reader.proofs.Heads.{and-first}
 use Rattle.compile.proofs.Faults.{near}
 use Rattle.derivative.specs.Differentiate.{derivative}
-use Rattle.derivative.specs.Derive.{Derived, by-state, continued, derive, derived, fitted, formula-refused, tree-room}
+use Rattle.derivative.specs.Derive.{Derived, by-state, continued, derive, derived, fitted, formula-refused, formula-refused-at, tree-room}
 use Rattle.derivative.specs.Derive as Derive
-use Rattle.demand.specs.Made.{Made, made, make, of-compiled, of-derived, refused}
+use Rattle.demand.specs.Made.{Made, made, make, of-compiled, of-derived, refused, refused-at}
 use Rattle.demand.specs.declared.Wanted.{Wanted}
 use Rattle.demand.specs.declared.Wanted.the-variants as Wanted
 
@@ -31,6 +31,7 @@ use Rattle.demand.specs.declared.Wanted.the-variants as Wanted
 
 abbrev Positive : Compiled → Type 0
 Positive (Compile.refused n place) = 0 < n
+Positive (Compile.refused-at n k) = 0 < n
 Positive (accepted f ss) = Unit {0}
 
 lowered-positive : (f : Formula) (ss : List Symbol) (o : Option Fault) → ((x : Fault) → o ≡ some x → 5 ≤ x .number) → Positive (lowered-or f ss o)
@@ -45,10 +46,12 @@ sized-positive f ss true e =
     lowered-positive f ss (fault (own-context ss) (term f) root)
     (λ x h. near (own-context ss) (term f) root (length (text root) + 17 * longest-path (term f)) (narrow f (omega (arith, few))) (omega arith) x h .least)
 
-read-positive : (f : Option Formula) (ss : Option (List Symbol)) → Positive (read sized f ss)
-read-positive none ss = omega arith
-read-positive (some f) none = omega arith
-read-positive (some f) (some ss) = sized-positive f ss (formula-limit f) refl
+read-positive : (o : Transfer) (ss : Option (List Symbol)) → Positive (read sized o ss)
+read-positive (ended-early k) ss = omega arith
+read-positive (wrong-field k) ss = omega arith
+read-positive (left-over k) ss = omega arith
+read-positive (whole f) none = omega arith
+read-positive (whole f) (some ss) = sized-positive f ss (formula-limit f) refl
 
 short-positive : (b : Bool) (X : Compiled) → Positive X → Positive (cond b (Compile.refused 1 none) X)
 short-positive true X h = omega arith
@@ -57,12 +60,13 @@ short-positive false X h = h
 compile-positive : (formula names : List ℕ) (p q : ℕ) → Positive (compile formula names p q)
 unfolding compile
 compile-positive formula names p q =
-    short-positive (ltb p path-room || ltb q (program-room (length formula))) _ (read-positive (formula-of formula) (symbols-of names))
+    short-positive (ltb p path-room || ltb q (program-room (length formula))) _ (read-positive (transfer-of formula) (symbols-of names))
 
 -- ---- derive
 
 abbrev Later : Derived → Type 0
 Later (formula-refused n place) = 0 < n
+Later (formula-refused-at n k) = 0 < n
 Later (Derive.refused n place) = 0 < n
 Later (derived d ss) = Unit {0}
 
@@ -77,6 +81,7 @@ fitted-positive t q ss (some d) =
 
 continued-positive : (t q s : ℕ) (X : Compiled) → Positive X → Later (continued t q s X)
 continued-positive t q s (Compile.refused n place) h = h
+continued-positive t q s (Compile.refused-at n k) h = h
 continued-positive t q s (accepted f ss) h =
     either (same-kind (kind (term f)) Boolean) _ _ (omega arith)
     (either (ltb s (length ss)) _ _ (fitted-positive t q ss (derivative s (by-state ss s) f)) (omega arith))
@@ -89,14 +94,17 @@ derive-positive formula names s p t q = continued-positive t q s (compile formul
 
 abbrev pub Told : Made → Type 0
 Told (refused n place) = 0 < n
+Told (refused-at n k) = 0 < n
 Told (made C f) = Unit {0}
 
 of-compile : (X : Compiled) → Positive X → Told (of-compiled X)
 of-compile (Compile.refused n place) h = h
+of-compile (Compile.refused-at n k) h = h
 of-compile (accepted f ss) h = tt
 
 of-derive : (X : Derived) → Later X → Told (of-derived X)
 of-derive (formula-refused n place) h = h
+of-derive (formula-refused-at n k) h = h
 of-derive (Derive.refused n place) h = h
 of-derive (derived d ss) h = tt
 

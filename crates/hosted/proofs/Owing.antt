@@ -5,7 +5,7 @@ use mathlib.Core.List.{List}
 use mathlib.Core.Option.{Option, none}
 use Prim.Native.Nat.{ℕ, _-_, _≤_, _<_}
 use native.Mathlib.Omega.{arith}
-use lib.ListN.{length}
+use lib.ListN.{length, length-set, set}
 use lib.Dec.{ltb}
 use lib.Ieee.{Float}
 use borrow.Author.Tests.{le-ltb, lt-ltb}
@@ -19,18 +19,18 @@ use Rattle.machine.specs.Compile as Compile
 use Rattle.layout.specs.Decode.{program-at}
 use Rattle.layout.specs.Image.{image}
 use Rattle.reader.proofs.Bytes.{Bytes}
-use Rattle.derivative.specs.Derive.{Derived, derive, derived, formula-refused}
+use Rattle.derivative.specs.Derive.{Derived, derive, derived, formula-refused, formula-refused-at}
 use Rattle.derivative.specs.Derive as Derive
 use Rattle.compile.specs.Entry as Entry
 use Rattle.derive.specs.Outcome as Entered
 use Rattle.demand.specs.Listed.{play-at}
 use Rattle.demand.proofs.Lasts.{demand}
-use Rattle.demand.specs.Made.{Made, made, make, of-compiled, of-derived, place-of, program-left, refused, tree-left}
+use Rattle.demand.specs.Made.{Made, made, make, of-compiled, of-derived, place-of, program-left, refused, refused-at, tree-left}
 use Rattle.demand.specs.declared.Wanted as Making
 use Rattle.demand.proofs.Sources.{source}
-use Rattle.vebrostin.specs.Calls.{Compiles, Derives, Leaves, Outcome, compile-number, compile-outcome, derive-number, derive-outcome, report-short, short, with-room}
+use Rattle.vebrostin.specs.Calls.{Compiles, Derives, Leaves, Outcome, compile-node, compile-number, compile-outcome, derive-node, derive-number, derive-outcome, node-place, report-length, report-short, reported, short, with-room}
 use Rattle.vebrostin.proofs.Outcomes.{roomy}
-use Rattle.hosted.specs.Hosted.{asked, host-at, made-number, wanted-of}
+use Rattle.hosted.specs.Hosted.{asked, host-at, made-node, made-number, wanted-of}
 use Rattle.hosted.specs.Owed.{Follows, Makes, Owes}
 use Rattle.hosted.specs.declared.Wanted.{Wanted}
 use Rattle.hosted.specs.declared.Wanted.the-variants as Wanted
@@ -41,21 +41,36 @@ use Rattle.hosted.proofs.Loops.{host-short}
 
 compiled-number : (X : Compiled) → compile-number (Entry.answer X) ≡ made-number (of-compiled X)
 compiled-number (Compile.refused n place) = refl
+compiled-number (Compile.refused-at n k) = refl
 compiled-number (accepted f ss) = refl
 
 compiled-place : (X : Compiled) → Compile.place-of X ≡ place-of (of-compiled X)
 compiled-place (Compile.refused n place) = refl
+compiled-place (Compile.refused-at n k) = refl
 compiled-place (accepted f ss) = refl
 
 derived-number : (X : Derived) → derive-number (Entered.answer X) ≡ made-number (of-derived X)
 derived-number (formula-refused n place) = refl
+derived-number (formula-refused-at n k) = refl
 derived-number (Derive.refused n place) = refl
 derived-number (derived d ss) = refl
 
 derived-place : (X : Derived) → Derive.place-of X ≡ place-of (of-derived X)
 derived-place (formula-refused n place) = refl
+derived-place (formula-refused-at n k) = refl
 derived-place (Derive.refused n place) = refl
 derived-place (derived d ss) = refl
+
+compiled-node : (X : Compiled) → compile-node (Entry.answer X) ≡ made-node (of-compiled X)
+compiled-node (Compile.refused n place) = refl
+compiled-node (Compile.refused-at n k) = refl
+compiled-node (accepted f ss) = refl
+
+derived-node : (X : Derived) → derive-node (Entered.answer X) ≡ made-node (of-derived X)
+derived-node (formula-refused n place) = refl
+derived-node (formula-refused-at n k) = refl
+derived-node (Derive.refused n place) = refl
+derived-node (derived d ss) = refl
 
 asked-compiled : (few : Bool) (X : Compiled)
     → of-compiled (with-room few (Compile.refused slice-too-short none) X) ≡ with-room few (refused slice-too-short none) (of-compiled X)
@@ -92,7 +107,7 @@ module _ (b l q q′ t t′ p p′ u u′ : List ℕ) (number : ℕ) where
 
   abbrev pub Done : Wanted → Type 0
   Done w =
-      (Makes (asked u (make b l (wanted-of w) (length q) (length t) (length p))) number q q′ × (u′ ≡ u))
+      (Makes (asked u (make b l (wanted-of w) (length q) (length t) (length p))) number q q′ × (u′ ≡ reported (made-node (asked u (make b l (wanted-of w) (length q) (length t) (length p)))) u))
       × ((t′ ≡ with-room few t (tree-left b l (wanted-of w) (length q) t (length p)))
       × (p′ ≡ with-room few p (program-left b l (wanted-of w) (length q) (length t) p)))
 
@@ -102,7 +117,7 @@ module _ (b l q q′ t t′ p p′ u u′ : List ℕ) (number : ℕ) where
       let C = compile b l (length q) (length p) in
       let e : of-compiled X ≡ asked u (of-compiled C) = asked-compiled few C in
       subst (λ (v : Wanted). Done v) (sym ew) (
-        ((h .0 ∙ compiled-number X ∙ ap made-number e, h .1 ∙ ap (λ (o : Option Path). placed o q) (compiled-place X ∙ ap place-of e)), h .3),
+        ((h .0 ∙ compiled-number X ∙ ap made-number e, h .1 ∙ ap (λ (o : Option Path). placed o q) (compiled-place X ∙ ap place-of e)), h .3 ∙ ap (λ (k : ℕ). reported k u) (compiled-node X ∙ ap made-node e)),
         (et ∙ as-it-was few t, h .2 ∙ compiled-program few C p),
       )
 
@@ -113,23 +128,38 @@ module _ (b l q q′ t t′ p p′ u u′ : List ℕ) (number : ℕ) where
       let D = derive b l s (length q) (length t) (length p) in
       let e : of-derived X ≡ asked u (of-derived D) = asked-derived few D in
       subst (λ (v : Wanted). Done v) (sym ew) (
-        ((h .0 ∙ derived-number X ∙ ap made-number e, h .1 ∙ ap (λ (o : Option Path). placed o q) (derived-place X ∙ ap place-of e)), h .4),
+        ((h .0 ∙ derived-number X ∙ ap made-number e, h .1 ∙ ap (λ (o : Option Path). placed o q) (derived-place X ∙ ap place-of e)), h .4 ∙ ap (λ (k : ℕ). reported k u) (derived-node X ∙ ap made-node e)),
         (h .2 ∙ derived-tree few D t, h .3 ∙ derived-program few D p),
       )
 
 -- ---- a refusal
 
 module _ (program : List ℕ) (inputs : List Float) (rooms budgets flags : List ℕ) (values regs : List Float) (path path′ cells report report′ : List ℕ) (number : ℕ) where
-  pub turned-away : (X : Made) → (number ≡ 0 → ⊥) → Makes X number path path′ → report′ ≡ report
+  pub turned-away : (X : Made) → (number ≡ 0 → ⊥) → Makes X number path path′ → report′ ≡ reported (made-node X) report
       → Owes X program inputs rooms budgets flags values regs regs path path′ cells cells report report′ number
   turned-away (refused n place) z h e = (h .0, h .1, refl, refl, e)
+  turned-away (refused-at n k) z h e = (h .0, h .1, refl, refl, e)
   turned-away (made C f) z h e = absurd (z (h .0))
 
 -- ---- the calls
 
 no-place : (X : Made) → Told X → 0 ≡ made-number X → place-of X ≡ none
 no-place (refused n place) t e = absurd (omega arith)
+no-place (refused-at n k) t e = absurd (omega arith)
 no-place (made C f) t e = refl
+
+no-node : (X : Made) → Told X → 0 ≡ made-number X → made-node X ≡ 0
+no-node (refused n place) t e = absurd (omega arith)
+no-node (refused-at n k) t e = absurd (omega arith)
+no-node (made C f) t e = refl
+
+-- a node in the report makes it no shorter
+long-still : (few : Bool) (report : List ℕ) (k : ℕ) → length (with-room few report (set report node-place k)) ≡ length report
+long-still true report k = refl
+long-still false report k = length-set report node-place k
+
+same-short : (cells report : List ℕ) (k : ℕ) → short cells (reported k report) ≡ short cells report
+same-short cells report k = ap (λ (n : ℕ). ltb n report-length || ltb (length cells) 16) (long-still (report-short report) report k)
 
 told-asked : (few : Bool) (X : Made) → Told X → Told (with-room few (refused slice-too-short none) X)
 told-asked true X t = omega arith
@@ -157,33 +187,35 @@ module _ (b l : List ℕ) (bytes : Bytes b) (w : Making.Wanted) (t : ℕ) (progr
   X-told = told-asked (report-short report) X (told b l w (length path) t (length program))
 
   owes-at : (Y : Made) → asked report X ≡ Y → Told Y → 0 ≡ made-number Y → program′ ≡ with-room (report-short report) program (program-left b l w (length path) t program)
-      → Leaves (host-at inputs program′ cells path report rooms budgets flags values regs) number cells′ regs′ path′ report′
-      → (short cells report ≡ false → Follows (play-at inputs program′ path rooms budgets flags values regs) number cells′ regs′ path′)
+      → Leaves (host-at inputs program′ cells path (reported 0 report) rooms budgets flags values regs) number cells′ regs′ path′ report′
+      → (short cells (reported 0 report) ≡ false → Follows (play-at inputs program′ path rooms budgets flags values regs) number cells′ regs′ path′)
       → Owes Y program′ inputs rooms budgets flags values regs regs′ path path′ cells cells′ report report′ number
   owes-at (refused n place) e z a ep h f = absurd (omega arith)
+  owes-at (refused-at n k) e z a ep h f = absurd (omega arith)
   owes-at (made C g) e z a ep h f =
       let m = made-asked (report-short report) X C g e in
       let S = source b l bytes w (length path) t program C g (m .1) in
       let same-program : program′ ≡ program-left b l w (length path) t program = ep ∙ sym (roomy (report-short report) program _ (m .0)) in (
         h,
         λ few. subst (λ (o : Outcome). Leaves o number cells′ regs′ path′ report′)
-            (host-short inputs program′ regs cells path report (few-cells (report-short report) (length cells) few) rooms budgets flags values) h,
+            (host-short inputs program′ regs cells path (reported 0 report) (same-short cells report 0 ∙ few-cells (report-short report) (length cells) few) rooms budgets flags values) h,
         λ enough. (
-          f (enough-cells (report-short report) (length cells) (m .0) enough),
+          f (same-short cells report 0 ∙ enough-cells (report-short report) (length cells) (m .0) enough),
           λ same fins many. demand inputs program′ path rooms budgets flags values regs _ refl C (term g) (S .0) (ap program-at same-program ∙ S .1) same fins many,
         ),
       )
 
-  pub called : (refusal : ℕ) → refusal ≡ 0 → Makes (asked report X) refusal path path₁ → report₁ ≡ report
+  pub called : (refusal : ℕ) → refusal ≡ 0 → Makes (asked report X) refusal path path₁ → report₁ ≡ reported (made-node (asked report X)) report
       → program′ ≡ with-room (report-short report) program (program-left b l w (length path) t program)
       → Leaves (host-at inputs program′ cells path₁ report₁ rooms budgets flags values regs) number cells′ regs′ path′ report′
       → (short cells report₁ ≡ false → Follows (play-at inputs program′ path₁ rooms budgets flags values regs) number cells′ regs′ path′)
       → Owes (asked report X) program′ inputs rooms budgets flags values regs regs′ path path′ cells cells′ report report′ number
   called refusal z m er ep h f =
       let zero-made : 0 ≡ made-number (asked report X) = sym z ∙ m .0 in
+      let told-report : report₁ ≡ reported 0 report = er ∙ ap (λ (k : ℕ). reported k report) (no-node (asked report X) X-told zero-made) in
       let same : path₁ ≡ path = m .1 ∙ ap (λ (o : Option Path). placed o path) (no-place (asked report X) X-told zero-made) in
       owes-at (asked report X) refl X-told zero-made ep
-      (subst (λ (y : List ℕ). Leaves (host-at inputs program′ cells path y rooms budgets flags values regs) number cells′ regs′ path′ report′) er
+      (subst (λ (y : List ℕ). Leaves (host-at inputs program′ cells path y rooms budgets flags values regs) number cells′ regs′ path′ report′) told-report
       (subst (λ (x : List ℕ). Leaves (host-at inputs program′ cells x report₁ rooms budgets flags values regs) number cells′ regs′ path′ report′) same h))
       (λ enough. subst (λ (x : List ℕ). Follows (play-at inputs program′ x rooms budgets flags values regs) number cells′ regs′ path′) same
-      (f (ap (short cells) er ∙ enough)))
+      (f (ap (short cells) told-report ∙ enough)))

@@ -7,7 +7,7 @@ use lib.Ieee.{Float}
 use Rattle.refusals.specs.Numbers.{slice-too-short}
 use Rattle.machine.specs.Machine.{Call}
 use Rattle.demand.specs.Listed.{calls-from, first-call}
-use Rattle.demand.specs.Made.{Made, made, refused}
+use Rattle.demand.specs.Made.{Made, made, refused, refused-at}
 use Rattle.demand.specs.declared.Wanted as Making
 use Rattle.demand.specs.declared.Wanted.the-variants as Makes
 use Rattle.vebrostin.specs.Calls.{Outcome, report-short, resume-outcome, run-outcome, with-room}
@@ -28,7 +28,14 @@ asked report X = with-room (report-short report) (refused slice-too-short none) 
 -- 0 for a program, else the refusal
 abbrev pub made-number : Made → ℕ
 made-number (refused n place) = n
+made-number (refused-at n k) = n
 made-number (made C f) = 0
+
+-- the node that the report has then
+abbrev pub made-node : Made → ℕ
+made-node (refused n place) = 0
+made-node (refused-at n k) = k
+made-node (made C f) = 0
 
 -- ---- the calls
 

@@ -7,8 +7,8 @@ ghost use Rattle.run.specs.Views.{supplied-of};
 ghost use Rattle.demand.specs.Listed.{play-at};
 ghost use Rattle.demand.specs.Made.{make, program-left, tree-left};
 ghost use Rattle.vebrostin.specs.Cells.{state-in};
-ghost use Rattle.vebrostin.specs.Calls.{Carries, Leaves, report-short, resume-outcome, short, with-room};
-ghost use Rattle.hosted.specs.Hosted.{asked, host-at, wanted-of};
+ghost use Rattle.vebrostin.specs.Calls.{Carries, Leaves, report-short, reported, resume-outcome, short, with-room};
+ghost use Rattle.hosted.specs.Hosted.{asked, host-at, made-node, wanted-of};
 ghost use Rattle.hosted.specs.Owed.{Follows, Makes, Owes};
 use demand::calls::budget_at;
 use demand::calls::room_at;
@@ -36,7 +36,7 @@ fn write_program(
     program: &mut [u8],
     report: &mut [u64],
 ) -> usize
-    ensures made { λ r. ⌜ Makes (asked (now (report .entry)) (make (now (formula .entry)) (now (names .entry)) (wanted-of wanted) (length (now (path .entry))) (length (now (tree .entry))) (length (now (program .entry))))) r (now (path .entry)) (now (path .exit)) × (now (report .exit) ≡ now (report .entry)) ⌝ }
+    ensures made { λ r. ⌜ Makes (asked (now (report .entry)) (make (now (formula .entry)) (now (names .entry)) (wanted-of wanted) (length (now (path .entry))) (length (now (tree .entry))) (length (now (program .entry))))) r (now (path .entry)) (now (path .exit)) × (now (report .exit) ≡ reported (made-node (asked (now (report .entry)) (make (now (formula .entry)) (now (names .entry)) (wanted-of wanted) (length (now (path .entry))) (length (now (tree .entry))) (length (now (program .entry)))))) (now (report .entry))) ⌝ }
     ensures written { λ r. ⌜ (now (tree .exit) ≡ with-room (report-short (now (report .entry))) (now (tree .entry)) (tree-left (now (formula .entry)) (now (names .entry)) (wanted-of wanted) (length (now (path .entry))) (now (tree .entry)) (length (now (program .entry))))) × (now (program .exit) ≡ with-room (report-short (now (report .entry))) (now (program .entry)) (program-left (now (formula .entry)) (now (names .entry)) (wanted-of wanted) (length (now (path .entry))) (length (now (tree .entry))) (now (program .entry)))) ⌝ }
 {
     match wanted {
