@@ -28,7 +28,7 @@ use Rattle.compile.specs.Entry.{answer}
 use Rattle.compile.specs.declared.Answer.{Answer}
 use Rattle.compile.specs.declared.Answer.the-variants as Answer
 use Rattle.compile.proofs.Back.{accepted-parts, reads-back}
-use Rattle.listing.specs.Legs.{compiled, place-text, printed, refused-as}
+use Rattle.listing.specs.Legs.{compiled, node-line, place-text, printed, refused-as}
 use Rattle.listing.specs.Totals.{nothing}
 use Rattle.lines.specs.declared.Begun.{Begun}
 use Rattle.lines.specs.declared.Stage.{Stage}
@@ -80,6 +80,12 @@ module _ (formula names : List ℕ) (p q : ℕ) (bytes : (i : ℕ) → byte-at f
 no-program : (n : ℕ) → Answer.Refused n ≡ Answer.Program → ⊥
 no-program n e = let z : _≡_ {A = ℕ} 0 1 = cc in omega arith
 
+no-node : (n m k : ℕ) → Answer.Refused n ≡ Answer.RefusedAt m k → ⊥
+no-node n m k e = let z : _≡_ {A = ℕ} 0 1 = cc in omega arith
+
+node-no-program : (n k : ℕ) → Answer.RefusedAt n k ≡ Answer.Program → ⊥
+node-no-program n k e = let z : _≡_ {A = ℕ} 0 1 = cc in omega arith
+
 module _ (formula names path slice path′ program′ out out′ : List ℕ) (r : Begun) (a : Answer)
     (told : a ≡ answer (compile formula names (length path) (length slice))) (t : Totals) (none-yet : totals-of t ≡ nothing) where
   -- compile's slices are as long as `legs` has them
@@ -91,6 +97,7 @@ module _ (formula names path slice path′ program′ out out′ : List ℕ) (r 
       → path′ ≡ path-after (compile formula names (length path) (length slice)) path → length path′ ≡ length path → Text-length path′ m
       → Wrote out 0 (printed 0 (refused-as n (take m path′))) out′ len → r ≡ record { stage = Stage.Finished t; length = len } → Compiles X program′ r out out′
   refused-by (accepted f ss) e n m len b z w l y v s = absurd (no-program n (sym b ∙ told ∙ ap answer e))
+  refused-by (Compile.refused-at k j) e n m len b z w l y v s = absurd (no-node n k j (sym b ∙ told ∙ ap answer e))
   refused-by (Compile.refused k place) e n m len b z w l y v s =
       let q : Answer.Refused n ≡ Answer.Refused k = sym b ∙ told ∙ ap answer e in
       let nk : n ≡ k = cc in
@@ -110,10 +117,29 @@ module _ (formula names path slice path′ program′ out out′ : List ℕ) (r 
       subst (λ (X : Compiled). Compiles X program′ r out out′) (same-rooms z k)
       (refused-by (compile formula names (length path) (length slice)) refl n m len b z w l y v s)
 
+  node-by : (X : Compiled) → compile formula names (length path) (length slice) ≡ X → (n k len : ℕ) → a ≡ Answer.RefusedAt n k
+      → Wrote out 0 (node-line n k) out′ len → r ≡ record { stage = Stage.Finished t; length = len } → Compiles X program′ r out out′
+  node-by (accepted f ss) e n k len b v s = absurd (node-no-program n k (sym b ∙ told ∙ ap answer e))
+  node-by (Compile.refused m place) e n k len b v s = absurd (no-node m n k (sym (sym b ∙ told ∙ ap answer e)))
+  node-by (Compile.refused-at m j) e n k len b v s =
+      let q : Answer.RefusedAt n k ≡ Answer.RefusedAt m j = sym b ∙ told ∙ ap answer e in
+      let nm : n ≡ m = cc in
+      let kj : k ≡ j = cc in (
+        (t, ap (λ (x : Begun). x .stage) s, none-yet),
+        subst (λ (x : ℕ). Wrote out 0 (node-line m j) out′ x) (sym (ap (λ (x : Begun). x .length) s))
+            (subst (λ (x : ℕ). Wrote out 0 (node-line m x) out′ len) kj (subst (λ (x : ℕ). Wrote out 0 (node-line x k) out′ len) nm v)),
+      )
+
+  pub begins-node : (n k len : ℕ) → a ≡ Answer.RefusedAt n k → Wrote out 0 (node-line n k) out′ len → r ≡ record { stage = Stage.Finished t; length = len }
+      → Compiled-as formula names path slice program′ r out out′
+  begins-node n k len b v s z l =
+      subst (λ (X : Compiled). Compiles X program′ r out out′) (same-rooms z l) (node-by (compile formula names (length path) (length slice)) refl n k len b v s)
+
   accepted-by : (X : Compiled) → compile formula names (length path) (length slice) ≡ X → a ≡ Answer.Program → ((i : ℕ) → byte-at formula i < 256)
       → program′ ≡ program-after image (compile formula names (length path) (length slice)) slice → (s : Reading) → Starts s
       → r ≡ record { stage = Stage.Values 1 s t; length = 0 } → Compiles X program′ r out out′
   accepted-by (Compile.refused k place) e b bytes w s f q = absurd (no-program k (sym (ap answer e) ∙ sym told ∙ b))
+  accepted-by (Compile.refused-at k j) e b bytes w s f q = absurd (node-no-program k j (sym (ap answer e) ∙ sym told ∙ b))
   accepted-by (accepted g ss) e b bytes w s f q = (
     s,
     t,

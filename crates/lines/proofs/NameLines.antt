@@ -11,7 +11,7 @@ use lib.Seq.{length-take-le, take-all}
 use lib.Dec.{eqb, leb, ltb}
 use borrow.Author.Tests.{leb-true, ltb-true, ltb-false}
 use Rattle.formula.specs.Text.{all, all-some, joined, parted, split}
-use Rattle.formula.specs.Node.{formula-of}
+use Rattle.formula.specs.Transfer.{transfer-of}
 use Rattle.formula.specs.Names.{Symbol, is-digit, is-letter, is-name, none-twice, symbol-of, symbols-of, table}
 use Rattle.formula.specs.Path.{path-room}
 use Rattle.machine.specs.Compile.{compile, program-room, read, refused, sized}
@@ -98,5 +98,5 @@ pub compiled-kept : (formula l : List ℕ) (n : ℕ) → 17152 ≤ n → compile
 unfolding compile
 compiled-kept formula l n h =
     ap
-    (λ (o : Option (List Symbol)). cond (ltb path-room path-room || ltb (program-room formula-room) (program-room (length formula))) (refused 1 none) (read sized (formula-of formula) o))
+    (λ (o : Option (List Symbol)). cond (ltb path-room path-room || ltb (program-room formula-room) (program-room (length formula))) (refused 1 none) (read sized (transfer-of formula) o))
     (symbols-kept l n h)

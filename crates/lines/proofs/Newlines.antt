@@ -1,5 +1,5 @@
 -- Parts of an input up to a newline, and of an output up to where it is written.
-use mathlib.Core.Path.{_≡_, refl, sym, ap, _∙_}
+use mathlib.Core.Path.{_≡_, refl, sym, ap, _∙_, subst}
 use mathlib.Core.Bool.{Bool, true, false}
 use mathlib.Core.List.{List, [], _∷_, _++_, append-assoc}
 use Prim.Native.Nat.{ℕ, suc, _+_, _-_, _≤_, _<_}
@@ -8,7 +8,8 @@ use lib.ListN.{length, getD, take, drop, length-append}
 use lib.Seq.{drop-at, drop-drop, split-at, take-add, take-all, take-at, take-suc, length-take-le}
 use lib.Dec.{ltb}
 use borrow.Author.Tests.{ltb-true, ltb-false}
-use Rattle.formula.specs.Text.{split}
+use Rattle.formula.specs.Text.{decimal, split}
+use Rattle.listing.specs.Legs.{node-line, printed, refused-as}
 use Rattle.names.specs.Lines.{first-piece, free, part}
 use Rattle.names.proofs.Splits.{later-pieces, pieces, split-end, split-next}
 use Rattle.writer.specs.Over.{over}
@@ -74,3 +75,11 @@ drop-later xs ys n m h e =
     ∙ ap (drop (m - n)) e
     ∙ drop-drop (m - n) n ys
     ∙ ap (λ (k : ℕ). drop k ys) z
+
+-- a refusal's line with its node, whose digits were written to twenty bytes of their own
+pub node-wrote : (out : List ℕ) (at n k : ℕ) (digits digits′ : List ℕ) (m : ℕ) (out′ : List ℕ) (end : ℕ) → (m ≡ 0 + length (decimal k)) × (digits′ ≡ over digits 0 (decimal k))
+    → length (decimal k) ≤ length digits → Wrote out at (printed 0 (refused-as n (take m digits′))) out′ end × (end ≤ at + 8209) → Wrote out at (node-line n k) out′ end × (end ≤ at + 8209)
+node-wrote out at n k digits digits′ m out′ end h l w =
+    let e : take m digits′ ≡ decimal k =
+    take-wrote digits 0 (decimal k) digits′ m (record { ends = h .0; stands = h .1 }) (let z = h .0 in omega arith) in
+    (subst (λ (xs : List ℕ). Wrote out at (printed 0 (refused-as n xs)) out′ end) e (w .0), w .1)

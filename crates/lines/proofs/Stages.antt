@@ -19,11 +19,11 @@ use Rattle.layout.specs.Decode.{program-at}
 use Rattle.names.specs.Lines.{free}
 use Rattle.names.proofs.Splits.{free-append, lines-last, lines-next}
 use Rattle.writer.proofs.Over.{over-nil}
-use Rattle.listing.specs.Legs.{compiled, header, legs, line-limit, listed, printed, records, refusal-line, value-record, with-file, with-input}
+use Rattle.listing.specs.Legs.{compiled, header, legs, line-limit, listed, node-line, printed, records, refusal-line, value-record, with-file, with-input}
 use Rattle.listing.specs.Totals as Total
 use Rattle.listing.specs.Totals.{nothing, plus, total-line, with-total}
 use Rattle.listing.proofs.Fields.{of-line}
-use Rattle.listing.proofs.Sums.{refused-total}
+use Rattle.listing.proofs.Sums.{node-total, refused-total}
 use Rattle.lines.specs.declared.Begun.{Begun}
 use Rattle.lines.specs.declared.Stage.{Stage}
 use Rattle.lines.specs.declared.Stage.the-variants as Stage
@@ -106,17 +106,21 @@ module _ (formula input : List ℕ) (k : ℕ) (names path program₀ names′ : 
           ap (compiled formula) (on (o .seen) (o .kept) .stand)
           ∙ compiled-kept formula (o .seen ++ take end input) (length names′) (let z = o .roomy .names in omega arith)
 
+      -- a refusal's line was written
+      ends-refused : (shown : List ℕ) → with-total shown ≡ shown ++ total-line nothing → Ends-with nothing (r .stage) → Wrote out 0 shown out′ (r .length)
+          → ((rest : List ℕ) → listed (lines-of rest) (compiled formula line) ≡ shown)
+          → (g′ : List ℕ → List ℕ) × Owed formula (memory names′ path′ program′ values regs) (r .stage) g′ × ((rest : List ℕ) → g (take (end + 1) input ++ rest) ≡ take (r .length) out′ ++ g′ rest)
+      ends-refused shown total last w e = (
+        λ rest. total-line nothing,
+        none-owed formula (memory names′ path′ program′ values regs) (r .stage) last,
+        λ rest.
+            owed-lines rest ∙ ap with-total (e rest) ∙ total ∙ ap (λ (xs : List ℕ). xs ++ total-line nothing) (sym (take-wrote out 0 shown out′ (r .length) w short)),
+      )
+
       ends-as : (X : Compiled) → compiled formula line ≡ X → Compiles X program′ r out out′
           → (g′ : List ℕ → List ℕ) × Owed formula (memory names′ path′ program′ values regs) (r .stage) g′ × ((rest : List ℕ) → g (take (end + 1) input ++ rest) ≡ take (r .length) out′ ++ g′ rest)
-      ends-as (Compile.refused n place) e c = (
-        λ rest. total-line nothing,
-        none-owed formula (memory names′ path′ program′ values regs) (r .stage) (c .0),
-        λ rest.
-            owed-lines rest
-            ∙ ap (λ (X : Compiled). with-total (listed (lines-of rest) X)) e
-            ∙ refused-total n place
-            ∙ ap (λ (xs : List ℕ). xs ++ total-line nothing) (sym (take-wrote out 0 (refusal-line n place) out′ (r .length) (c .1) short)),
-      )
+      ends-as (Compile.refused n place) e c = ends-refused (refusal-line n place) (refused-total n place) (c .0) (c .1) (λ rest. ap (λ (X : Compiled). listed (lines-of rest) X) e)
+      ends-as (Compile.refused-at n m) e c = ends-refused (node-line n m) (node-total n m) (c .0) (c .1) (λ rest. ap (λ (X : Compiled). listed (lines-of rest) X) e)
       ends-as (accepted f ss) e c =
           let t = totals-of (c .1) in
           let g′ : List ℕ → List ℕ = λ rest. output-from (program-at program′) 1 t (lines-of rest) in (
@@ -174,6 +178,11 @@ module _ (formula : List ℕ) (k : ℕ) (names path program₀ : List ℕ) (valu
           ∙ ap (λ (X : Compiled). with-total (listed [] X)) e
           ∙ refused-total n place
           ∙ with-last (refusal-line n place) (take-wrote out 0 (refusal-line n place) out′ (r .length) (c .1) short)
+      ended-as (Compile.refused-at n m) e c =
+          owed-last
+          ∙ ap (λ (X : Compiled). with-total (listed [] X)) e
+          ∙ node-total n m
+          ∙ with-last (node-line n m) (take-wrote out 0 (node-line n m) out′ (r .length) (c .1) short)
       ended-as (accepted f ss) e c =
           let P = program (own-context ss) (term f) in
           owed-last

@@ -15,7 +15,7 @@ use Rattle.machine.specs.Compile as Compile
 use Rattle.machine.specs.Lower.{program}
 use Rattle.machine.specs.Program.{Program}
 use Rattle.layout.specs.Decode.{program-at}
-use Rattle.listing.specs.Legs.{compiled, legs, line-limit, records, refusal-line, with-file, with-input}
+use Rattle.listing.specs.Legs.{compiled, legs, line-limit, node-line, records, refusal-line, with-file, with-input}
 use Rattle.listing.specs.Totals as Total
 use Rattle.listing.specs.Totals.{add-up, nothing, plus, total-line, with-total}
 use Rattle.names.specs.Lines.{free}
@@ -159,6 +159,7 @@ Begins readable formula s text =
 -- the stage after a name line: a refusal's line is written, or the lines of values begin
 abbrev pub Compiles : Compiled → List ℕ → Begun → List ℕ → List ℕ → Type 0
 Compiles (Compile.refused n place) program′ r out out′ = Ends-with nothing (r .stage) × Wrote out 0 (refusal-line n place) out′ (r .length)
+Compiles (Compile.refused-at n k) program′ r out out′ = Ends-with nothing (r .stage) × Wrote out 0 (node-line n k) out′ (r .length)
 Compiles (accepted f symbols) program′ r out out′ =
     (s : Reading) × (t : Totals) × (r .stage ≡ Values 1 s t) × Starts s × (totals-of t ≡ nothing) × (r .length ≡ 0) × Ready program′ 256 1276
     × (program-at program′ ≡ program (own-context symbols) (term f))

@@ -217,6 +217,13 @@ fn begin(formula: &[u8], names: &[u8], path: &mut [u8], program: &mut [u8], out:
                 length: length,
             }
         }
+        Answer::RefusedAt(n, node) => {
+            let length = text::put_node_refusal(out, 0, n, node);
+            Begun {
+                stage: Stage::Finished(sums::no_lines()),
+                length: length,
+            }
+        }
     }
 }
 

@@ -23,7 +23,7 @@ ghost use Rattle.machine.specs.Program.{valid};
 ghost use Rattle.layout.specs.Decode.{length-at, path-of, path-total, program-at};
 ghost use Rattle.run.specs.Views.{Writable, answer-of};
 ghost use Rattle.formula.specs.Text.{decimal};
-ghost use Rattle.listing.specs.Legs.{bits-text, line-of, printed, refused-as};
+ghost use Rattle.listing.specs.Legs.{bits-text, line-of, node-line, printed, refused-as};
 ghost use Rattle.listing.specs.Totals.{total-line};
 ghost use Rattle.lines.specs.Sums.{totals-of};
 ghost use Rattle.lines.specs.Text.{Steps-of, Wrote, shown};
@@ -155,16 +155,27 @@ pub(crate) fn put_line(
 }
 
 // "A formula refused in compiling gives, after the header, only `0,refused,N:PATH,0`, the path empty without a place."
-pub(crate) fn put_refusal(out: &mut [u8], at: usize, n: u8, path: &[u8]) -> usize
-    requires { ⌜ (at + 8209 ≤ length (now out)) × (length (now path) ≤ 8192) ⌝ }
-    ensures { λ r. ⌜ Wrote (now (out .entry)) at (printed 0 (refused-as n (now (path .entry)))) (now (out .exit)) r ⌝ }
+pub(crate) fn put_refusal(out: &mut [u8], at: usize, n: u8, place: &[u8]) -> usize
+    requires { ⌜ (at + 8209 ≤ length (now out)) × (length (now place) ≤ 8192) ⌝ }
+    ensures { λ r. ⌜ Wrote (now (out .entry)) at (printed 0 (refused-as n (now (place .entry)))) (now (out .exit)) r ⌝ }
     ensures room { λ r. ⌜ r ≤ at + 8209 ⌝ }
 {
     let number = put_bytes(out, at, b"0,refused,");
     let colon = put_decimal(out, number, n as u64);
-    let place = put_bytes(out, colon, b":");
-    let end = put_bytes(out, place, path);
+    let from = put_bytes(out, colon, b":");
+    let end = put_bytes(out, from, place);
     put_bytes(out, end, b",0\n")
+}
+
+// "`legs` shows it as `N:node`".
+pub(crate) fn put_node_refusal(out: &mut [u8], at: usize, n: u8, node: usize) -> usize
+    requires { ⌜ at + 8209 ≤ length (now out) ⌝ }
+    ensures { λ r. ⌜ Wrote (now (out .entry)) at (node-line n node) (now (out .exit)) r ⌝ }
+    ensures room { λ r. ⌜ r ≤ at + 8209 ⌝ }
+{
+    let mut digits = [0u8; 20];
+    let end = put_decimal(&mut digits, 0, node as u64);
+    put_refusal(out, at, n, &digits[..end])
 }
 
 // A number, and the byte after it.

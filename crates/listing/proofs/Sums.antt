@@ -1,6 +1,6 @@
 -- What texts add up to: whole lines before others, a record before others, a refusal, and the records of a listing, of which each is in exactly one column.
 use mathlib.Core.Path.{_≡_, refl, sym, ap, _∙_}
-use mathlib.Core.Bool.{cond}
+use mathlib.Core.Bool.{cond, true}
 use mathlib.Core.List.{List, [], _∷_, _++_, append-nil, map}
 use mathlib.Core.Logic.{inl, inr}
 use mathlib.Core.Option.{Option, none, some}
@@ -21,11 +21,11 @@ use Rattle.machine.specs.Compile.{Compiled, accepted, own-context}
 use Rattle.machine.specs.Compile as Compile
 use Rattle.machine.specs.Lower.{program}
 use Rattle.machine.proofs.Progress.{run-lawful}
-use Rattle.listing.specs.Legs.{Line, colon, compiled, formula-room, header, legs, line-limit, line-of, listed, place-text, printed, records, refusal-line, refused-as, value-record, with-file, with-input, zero-registers}
+use Rattle.listing.specs.Legs.{Line, colon, compiled, formula-room, header, legs, line-limit, line-of, listed, node-line, place-text, printed, records, refusal-line, refused-as, value-record, with-file, with-input, zero-registers}
 use Rattle.names.proofs.Splits.{lines-parted}
 use Rattle.listing.specs.Totals.{Totals, add-up, counted, nothing, one-line, plus, total-line, with-total}
 use Rattle.listing.proofs.Answers.{Known, value-known}
-use Rattle.listing.proofs.Fields.{Plain, counted-is, line-plain, of-line, plain-append, plain-decimal, plain-place, record-line}
+use Rattle.listing.proofs.Fields.{Plain, counted-is, line-plain, of-line, plain, plain-append, plain-decimal, plain-place, record-line}
 
 -- ---- sums
 
@@ -81,16 +81,22 @@ record-adds n l f rest = ap add-up (record-line n l f rest) ∙ ap (λ (t : Tota
 
 -- ---- a refusal
 
--- "A refused formula prints its total line with zeros."
-pub refusal-nothing : (n : ℕ) (place : Option Path) → add-up (lines-of (refusal-line n place)) ≡ nothing
-refusal-nothing n place =
-    let l = refused-as n (place-text place) in
-    let f : Plain l =
-    record { answer = refl; detail = plain-append (decimal n ++ colon) (place-text place) (plain-append (decimal n) colon (plain-decimal n) refl) (plain-place place) } in
-    ap (λ (xs : List ℕ). add-up (lines-of xs)) (sym (append-nil (printed 0 l))) ∙ record-adds 0 l f []
+-- "A refused formula prints its total line with zeros": whatever place or node its line has
+module _ (n : ℕ) (place : List ℕ) (p : plain place ≡ true) where
+  refusal-nothing : add-up (lines-of (printed 0 (refused-as n place))) ≡ nothing
+  refusal-nothing =
+      let l = refused-as n place in
+      let f : Plain l = record { answer = refl; detail = plain-append (decimal n ++ colon) place (plain-append (decimal n) colon (plain-decimal n) refl) p } in
+      ap (λ (xs : List ℕ). add-up (lines-of xs)) (sym (append-nil (printed 0 l))) ∙ record-adds 0 l f []
+
+  refusal-total : with-total (printed 0 (refused-as n place)) ≡ printed 0 (refused-as n place) ++ total-line nothing
+  refusal-total = ap (λ (t : Totals). printed 0 (refused-as n place) ++ total-line t) refusal-nothing
 
 pub refused-total : (n : ℕ) (place : Option Path) → with-total (refusal-line n place) ≡ refusal-line n place ++ total-line nothing
-refused-total n place = ap (λ (t : Totals). refusal-line n place ++ total-line t) (refusal-nothing n place)
+refused-total n place = refusal-total n (place-text place) (plain-place place)
+
+pub node-total : (n k : ℕ) → with-total (node-line n k) ≡ node-line n k ++ total-line nothing
+node-total n k = refusal-total n (decimal k) (plain-decimal k)
 
 -- ---- each record is in exactly one column
 
@@ -137,6 +143,7 @@ few-steps P (some bits) =
 
 listed-first : (X : Compiled) (ls : List (List ℕ)) → listed (take line-limit ls) X ≡ listed ls X
 listed-first (Compile.refused n place) ls = refl
+listed-first (Compile.refused-at n k) ls = refl
 listed-first (accepted f symbols) ls = ap (records (program (own-context symbols) (term f)) 1) (take-take line-limit line-limit ls (omega arith))
 
 input-first : (formula : List ℕ) (ls : List (List ℕ)) → with-input formula (take (suc line-limit) ls) ≡ with-input formula ls

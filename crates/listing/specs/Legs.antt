@@ -95,12 +95,17 @@ refused-as n place = record { answer = ascii "refused"; detail = decimal n ++ co
 abbrev pub refusal-line : ℕ → Option Path → List ℕ
 refusal-line n place = printed 0 (refused-as n (place-text place))
 
+-- "`legs` shows it as `N:node`"
+abbrev pub node-line : ℕ → ℕ → List ℕ
+node-line n k = printed 0 (refused-as n (decimal k))
+
 -- "`legs` reads at most 1,000,000 value lines"
 unfoldable pub line-limit : ℕ
 line-limit = 1000000
 
 abbrev pub listed : List (List ℕ) → Compiled → List ℕ
 listed value-lines (Compile.refused n place) = refusal-line n place
+listed value-lines (Compile.refused-at n k) = node-line n k
 listed value-lines (accepted f symbols) = records (program (own-context symbols) (term f)) 1 (take line-limit value-lines)
 
 -- "`legs` takes a `formula.bin` of at most 4,096 bytes"

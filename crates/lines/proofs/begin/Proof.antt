@@ -1,4 +1,4 @@
-use Rattle.lines.proofs.Begins.{begins-accepted, begins-refused}
+use Rattle.lines.proofs.Begins.{begins-accepted, begins-node, begins-refused}
 use Rattle.lines.proofs.Newlines.{drop-wrote}
 use Prim.Native.Nat.{_≤_}
 use lib.ListN.{length}
@@ -40,6 +40,15 @@ put-refusal-requires c κs =
 
 no-lines-requires-2 : tie.Need-no-lines-requires-2
 no-lines-requires-2 c κs = search needs
+
+enum-known-a-2 : tie.Need-enum-known-a-2
+enum-known-a-2 c = search needs
+
+put-node-refusal-requires : tie.Need-put-node-refusal-requires
+put-node-refusal-requires c κs = search needs
+
+no-lines-requires-3 : tie.Need-no-lines-requires-3
+no-lines-requires-3 c κs = search needs
 
 same-length : tie.Need-same-length
 same-length c = search needs
@@ -92,6 +101,32 @@ returns-2 c =
       program-is = k .ensures .2;
     }
 
+same-length-6 : tie.Need-same-length-6
+same-length-6 c = search needs
+
+same-length-7 : tie.Need-same-length-7
+same-length-7 c = search needs
+
+same-length-8 : tie.Need-same-length-8
+same-length-8 c = search needs
+
+returns-3 : tie.Need-returns-3
+returns-3 c =
+    let a = c .before .before .before .before .before .before .before .before .before .before .before .before .before .before .before .before .before .before .before .before .args in
+    let k = c .before .before .before .before .before .before .before .before .before .before .before .before .compile in
+    let w = c .before .before .before .put-node-refusal in
+    let h : w .result ≤ length (a .out .now) = omega (arith, w .ensures .1, c .before .before .before .before .before .before .before .before .before .before .before .before .before .before .before .before .before .before .before .before .pre) in
+    record {
+      built =
+          begins-node (a .formula .now) (a .names .now) (a .path .now) (a .program .now) (k .last .1 .1 .0) (k .last .1 .1 .1 .0) (a .out .now) (w .last .0)
+          _ (k .result) (k .ensures .0) (c .no-lines3 .result) (c .no-lines3 .ensures) (c .before .before .before .before .before .before .a2 .given .0 .0) (c .before .before .before .before .before .before .a2 .given .0 .1 .0) (w .result) (c .before .before .before .before .before .before .a2 .given .1)
+          (w .ensures .0) refl;
+      room = w .ensures .1;
+      beyond = drop-wrote (a .out .now) 0 _ (w .last .0) (w .result) (w .ensures .0) h;
+      path-is = k .ensures .1;
+      program-is = k .ensures .2;
+    }
+
 pub begin-spec : {M : Type 1} → statement M
 begin-spec =
     tie.close
@@ -106,10 +141,17 @@ begin-spec =
     slice-aggregate-put-refusal
     put-refusal-requires
     no-lines-requires-2
+    enum-known-a-2
+    put-node-refusal-requires
+    no-lines-requires-3
     same-length
     same-length-2
     returns
     same-length-3
     same-length-4
     same-length-5
-    returns-2)
+    returns-2
+    same-length-6
+    same-length-7
+    same-length-8
+    returns-3)

@@ -102,7 +102,7 @@ returns c =
     let put-bytes2 = c .before .before .before .before .before .before .before .before .before .before .before .put-bytes2 in
     let put-bytes3 = c .before .before .before .before .before .before .before .put-bytes3 in
     let put-bytes4 = c .before .before .put-bytes4 in (
-      refusal-wrote (args .out .now) (args .at) (args .n) (args .path .now) (put-bytes .last .0) (put-decimal .last .0) (put-bytes2 .last .0)
+      refusal-wrote (args .out .now) (args .at) (args .n) (args .place .now) (put-bytes .last .0) (put-decimal .last .0) (put-bytes2 .last .0)
           (put-bytes3 .last .0) (put-bytes4 .last .0) (put-bytes .result) (put-decimal .result) (put-bytes2 .result) (put-bytes3 .result) (put-bytes4 .result)
           (omega (arith, decimal-byte (args .n) (fits .n .fits), put-bytes .ensures .0, put-bytes .kept .0, pre .0, pre .1))
           (omega (
@@ -144,7 +144,7 @@ returns c =
           (wrote (args .out .now) (args .at) (ascii "0,refused,") (put-bytes .last .0) (put-bytes .result) (put-bytes .ensures))
           (wrote (put-bytes .last .0) (put-bytes .result) (decimal (args .n)) (put-decimal .last .0) (put-decimal .result) (put-decimal .ensures))
           (wrote (put-decimal .last .0) (put-decimal .result) (colon) (put-bytes2 .last .0) (put-bytes2 .result) (put-bytes2 .ensures))
-          (wrote (put-bytes2 .last .0) (put-bytes2 .result) (args .path .now) (put-bytes3 .last .0) (put-bytes3 .result) (put-bytes3 .ensures))
+          (wrote (put-bytes2 .last .0) (put-bytes2 .result) (args .place .now) (put-bytes3 .last .0) (put-bytes3 .result) (put-bytes3 .ensures))
           (wrote (put-bytes3 .last .0) (put-bytes3 .result) (ascii ",0\n") (put-bytes4 .last .0) (put-bytes4 .result) (put-bytes4 .ensures)),
       omega (
         arith,

@@ -1,0 +1,43 @@
+use mathlib.Core.Path.{sym}
+use native.Mathlib.Omega.{arith}
+use lib.ListN.{length}
+use lib.Seq.{length-take-le}
+use Rattle.formula.specs.Text.{decimal, zeros}
+use Rattle.lines.proofs.Texts.{decimal-long}
+use Rattle.lines.proofs.Newlines.{node-wrote}
+use borrow.Author.Needs.{needs}
+use Rattle.lines.proofs.text.put_node_refusal.Statement.{statement}
+use Rattle.lines.proofs.text.put_node_refusal.Tie as tie
+
+slice-aggregate-put-decimal : tie.Need-slice-aggregate-put-decimal
+slice-aggregate-put-decimal c = search needs
+
+put-decimal-requires : tie.Need-put-decimal-requires
+put-decimal-requires c κs = omega (arith, decimal-long (c .before .before .args .node) (c .before .before .fits .node .fits))
+
+array-share-prefix-digits : tie.Need-array-share-prefix-digits
+array-share-prefix-digits c = omega (arith, c .before .before .put-decimal .ensures .0, c .before .before .put-decimal .kept .0, decimal-long (c .before .before .before .before .before .args .node) (c .before .before .before .before .before .fits .node .fits))
+
+slice-aggregate-put-refusal : tie.Need-slice-aggregate-put-refusal
+slice-aggregate-put-refusal c = sym (length-take-le (c .before .before .before .put-decimal .result) (c .before .before .before .put-decimal .last .0) (omega (arith, c .before .before .before .put-decimal .ensures .0, c .before .before .before .put-decimal .kept .0, decimal-long (c .before .before .before .before .before .before .args .node) (c .before .before .before .before .before .before .fits .node .fits))))
+
+put-refusal-requires : tie.Need-put-refusal-requires
+put-refusal-requires c κs = (c .before .before .before .before .before .before .pre, omega (arith, length-take-le (c .before .before .before .put-decimal .result) (c .before .before .before .put-decimal .last .0) (omega (arith, c .before .before .before .put-decimal .ensures .0, c .before .before .before .put-decimal .kept .0, decimal-long (c .before .before .before .before .before .before .args .node) (c .before .before .before .before .before .before .fits .node .fits))), c .before .before .before .put-decimal .ensures .0, decimal-long (c .before .before .before .before .before .before .args .node) (c .before .before .before .before .before .before .fits .node .fits)))
+
+same-length : tie.Need-same-length
+same-length c = search needs
+
+returns : tie.Need-returns
+returns c = node-wrote (c .before .before .before .before .before .before .before .before .before .args .out .now) (c .before .before .before .before .before .before .before .before .before .args .at) (c .before .before .before .before .before .before .before .before .before .args .n) (c .before .before .before .before .before .before .before .before .before .args .node) (zeros 20) (c .before .before .before .before .before .before .put-decimal .last .0) (c .before .before .before .before .before .before .put-decimal .result) (c .before .before .put-refusal .last .0) (c .before .before .put-refusal .result) (c .before .before .before .before .before .before .put-decimal .ensures) (decimal-long (c .before .before .before .before .before .before .before .before .before .args .node) (c .before .before .before .before .before .before .before .before .before .fits .node .fits)) (c .before .before .put-refusal .ensures)
+
+pub put-node-refusal-spec : {M : Type 1} → statement M
+put-node-refusal-spec =
+    tie.close
+    (tie.spec
+    slice-aggregate-put-decimal
+    put-decimal-requires
+    array-share-prefix-digits
+    slice-aggregate-put-refusal
+    put-refusal-requires
+    same-length
+    returns)
