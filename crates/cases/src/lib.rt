@@ -145,6 +145,25 @@ pub fn same_cells(b: &[u8], at: usize, cells: &[u64]) -> bool {
     true
 }
 
+// What a report holds before a call.
+pub const HELD: u64 = 7;
+
+fn reported_at(node: u64, i: usize) -> u64 {
+    if i == 0 { node } else { HELD }
+}
+
+// Whether a node stands in a report's first place, and the other places are as they were.
+pub fn is_reported(report: &[u64], node: u64) -> bool {
+    let mut i = 0;
+    while i < report.len() {
+        if report[i] != reported_at(node, i) {
+            return false;
+        }
+        i += 1;
+    }
+    true
+}
+
 // Both of two comparisons.
 pub fn all(a: bool, b: bool) -> bool {
     a && b

@@ -2,11 +2,12 @@
 // `hosted::make_and_call`, which hands the cells from one C function to the next. The answers are the Rust reference's, and for budgets
 // and refused calls those of the model in tools/compare/machine.rs, whose whole runs agree with the reference's.
 //
-// Standard input has a record for each case; numbers are 8 bytes, the least first. A case has 11 numbers (`Head`), then formula, names and
+// Standard input has a record for each case; numbers are 8 bytes, the least first. A case has 12 numbers (`Head`), then formula, names and
 // inputs. For its calls come each one's path room, each one's budget, a byte each for whether a value is supplied, and the values; then
 // for each call 18 numbers, its answer, the cells after it and the length of the path's text, then that text and the registers after it.
 // A refusal of compile or derive stands there as the answer of one call.
 use cases::FILL;
+use cases::HELD;
 use cases::Tally;
 use cases::all;
 use cases::cell;
@@ -14,6 +15,7 @@ use cases::cut;
 use cases::fill;
 use cases::holds;
 use cases::is_left;
+use cases::is_reported;
 use cases::read_values;
 use cases::same_cells;
 use cases::same_values;
@@ -56,6 +58,7 @@ struct Head {
     registers: usize,
     held: u64,
     calls: usize,
+    node: u64,
 }
 
 fn head_of(b: &[u8]) -> Head {
@@ -71,6 +74,7 @@ fn head_of(b: &[u8]) -> Head {
         registers: size(b, 8),
         held: cell(b, 9),
         calls: size(b, 10),
+        node: cell(b, 11),
     }
 }
 
@@ -153,10 +157,21 @@ fn is_count(b: &[u8], count: usize) -> bool {
     count as u64 == cell(b, 15)
 }
 
-// The reply as recorded, or compile's or derive's refusal.
-fn is_played(b: &[u8], refusal: usize, p: Played) -> bool {
+// The node that a number is one more of, 0 where it is 0.
+fn node_of(number: u64) -> u64 {
+    if number == 0 {
+        return 0;
+    }
+    number - 1
+}
+
+// The reply as recorded, or compile's or derive's refusal; `node` is one more than its node, or 0.
+fn is_played(b: &[u8], refusal: usize, node: u64, p: Played) -> bool {
     match p {
-        Played::Refused(n) => n as usize == refusal,
+        Played::Refused(n) => n as usize == refusal && node == 0,
+        Played::RefusedAt(n, k) => {
+            n as usize == refusal && (node > 0 && k as u64 == node_of(node))
+        }
         Played::Replied(r) => {
             let answer = r.answer;
             refusal == 0 && (is_answer(b, answer) && is_count(b, r.count))
@@ -180,6 +195,7 @@ fn by_host(
     flags: &[u8],
     values: &[f64],
     cells: &mut [u64],
+    report: &mut [u64],
 ) -> usize {
     refill(h.held, tree, program, registers, path);
     let wanted = if h.symbol < 4294967296 {
@@ -187,7 +203,6 @@ fn by_host(
     } else {
         hosted::Wanted::Formula
     };
-    let mut report = [0u64; 8];
     hosted::make_and_call(
         formula,
         names,
@@ -202,7 +217,7 @@ fn by_host(
         flags,
         values,
         cells,
-        &mut report,
+        report,
     )
 }
 
@@ -253,7 +268,7 @@ fn as_played(
         flags,
         values,
     );
-    let first = is_played(b, h.answer, p);
+    let first = is_played(b, h.answer, h.node, p);
     let second = is_after(b, text, after, h.answer, registers, path);
     all(first, second)
 }
@@ -276,6 +291,7 @@ fn as_hosted(
     values: &[f64],
     cells: &mut [u64],
 ) -> bool {
+    let mut report = [HELD; 8];
     let n = by_host(
         h,
         formula,
@@ -290,8 +306,9 @@ fn as_hosted(
         flags,
         values,
         cells,
+        &mut report,
     );
-    let first = n == size(b, 0);
+    let first = all(n == size(b, 0), is_reported(&report, node_of(h.node)));
     let second = same_cells(b, 1, cells);
     let third = is_after(b, text, after, h.answer, registers, path);
     all(first, all(second, third))
@@ -590,8 +607,8 @@ fn one_case(h: Head) -> bool {
 
 // What comes after a case that is not as recorded can't be told from it.
 fn next_case(t: Tally) -> Tally {
-    let mut head = [0u8; 88];
-    let read = take(&mut head, 88);
+    let mut head = [0u8; 96];
+    let read = take(&mut head, 96);
     if !read {
         return cases::end(t);
     }

@@ -4,7 +4,7 @@ use mathlib.Core.List.{List, [], _∷_, _++_}
 use mathlib.Core.Bool.{Bool, true, false}
 use mathlib.Core.Option.{Option, none, some}
 use Prim.Native.Nat.{ℕ, _+_}
-use lib.ListN.{length, replicate}
+use lib.ListN.{length, replicate, set, take}
 use lib.Ieee.{Float, binary64, add, sub, mul, div, rem, neg, lt, le, eq, ne, ofBits, toBits, round}
 use Rattle.arithmetic.specs.Value.{0f, whole, absolute}
 use Rattle.arithmetic.specs.Round.{floor, ceil}
@@ -13,7 +13,8 @@ use Rattle.arithmetic.specs.Extremum.{hold}
 use Rattle.formula.specs.Text.{ascii, half-at, word-at, long-at}
 use Rattle.formula.specs.Operator.{Operation, unary, binary, compare, call, Binary, Add, Multiply, Divide, Power, Modulo, Lt, Exp, Hill, Sqrt, Ceil}
 use Rattle.formula.specs.Formula.{Formula, Formulas, Head, node, last, next, number, symbol, operation, conditional, size, of-list}
-use Rattle.formula.specs.Node.{encode, formula-of, tree-in, head-at, head-of, fields-at, node-bytes}
+use Rattle.formula.specs.Node.{encode, formula-of, tree-in, head-at, head-of, fields-at, inner-fields, node-bytes}
+use Rattle.formula.specs.Transfer.{transfer-of}
 use Rattle.formula.specs.Names.{Symbol, symbols-of}
 use Rattle.formula.specs.Values.{values-of}
 use Rattle.formula.specs.Path.{root, path-room}
@@ -77,6 +78,7 @@ first-answer P inputs =
 
 abbrev run-compiled : List Float → Compiled → Answer × ℕ
 run-compiled inputs (Compiled.refused n place) = (refused n, 0)
+run-compiled inputs (Compiled.refused-at n k) = (refused n, 0)
 run-compiled inputs (accepted f symbols) = first-answer (program (own-context symbols) (term f)) inputs
 
 abbrev answer-of : Formula → List ℕ → List Float → Answer × ℕ
@@ -85,12 +87,14 @@ answer-of f names inputs = run-compiled inputs (compile (encode f) names path-ro
 -- instructions and registers
 abbrev counts : Compiled → ℕ × ℕ
 counts (Compiled.refused n place) = (0, 0)
+counts (Compiled.refused-at n k) = (0, 0)
 counts (accepted f symbols) = let P = program (own-context symbols) (term f) in (length (P .code), P .registers)
 
 -- ---- (3): the derivative's nodes, its question, and what a supplied value brings
 
 abbrev run-derived : List Float → Float → Derived → ℕ × Answer × Answer
 run-derived inputs x (Derived.formula-refused n place) = (0, refused n, refused n)
+run-derived inputs x (Derived.formula-refused-at n k) = (0, refused n, refused n)
 run-derived inputs x (Derived.refused n place) = (0, refused n, refused n)
 run-derived inputs x (derived d symbols) =
     let P = program (generated-context symbols) (term d) in
@@ -127,7 +131,7 @@ pub flights :
     × (closed (node (operation (call Hill)) (of-list (lit 0 ∷ lit 2e0 ∷ lit 1e0 ∷ []))) ≡ (gives (float 0), 4))
     × (closed (node (operation (call Sqrt)) (of-list (lit 2e0 ∷ []))) ≡ (gives (float 0x3ff6a09e667f3bcd), 2))
     × (closed (node (operation (call Ceil)) (of-list (lit 0xbfe0000000000000 ∷ []))) ≡ (gives (float 0x8000000000000000), 2))
-unfolding add sub mul div rem neg lt le eq ne ofBits toBits round whole absolute floor ceil sqrt-at hold half-at word-at long-at encode formula-of tree-in head-at head-of fields-at node-bytes symbols-of values-of hill-work density-work compile less-one derive line-limit legs
+unfolding add sub mul div rem neg lt le eq ne ofBits toBits round whole absolute floor ceil sqrt-at hold half-at word-at long-at encode formula-of transfer-of tree-in head-at head-of fields-at node-bytes symbols-of values-of hill-work density-work compile less-one derive line-limit legs
 flights = (refl, refl, refl, refl, refl, refl, refl, refl, refl, refl, refl, refl, refl)
 
 -- ---- the total line
@@ -150,5 +154,46 @@ pub totals :
     × (listing-of (lit 1e0) [] ≡ ascii "no,answer,detail,steps\ntotal,0,0,0,0,0\n")
     × (listing-of (sym 0) (ascii "\n") ≡ ascii "no,answer,detail,steps\n0,refused,6:root,0\ntotal,0,0,0,0,0\n")
     × (legs none (ascii "a:p\n") ≡ ascii "no,answer,detail,steps\n0,refused,1:,0\ntotal,0,0,0,0,0\n")
-unfolding add sub mul div rem neg lt le eq ne ofBits toBits round whole absolute half-at word-at long-at encode formula-of tree-in head-at head-of fields-at node-bytes symbols-of values-of compile line-limit legs
+unfolding add sub mul div rem neg lt le eq ne ofBits toBits round whole absolute half-at word-at long-at encode formula-of transfer-of tree-in head-at head-of fields-at node-bytes symbols-of values-of compile line-limit legs
 totals = (refl, refl, refl, refl, refl)
+
+-- ---- a formula file cut in transfer
+
+abbrev flight-bytes : List ℕ
+flight-bytes = encode flight
+
+-- `legs` on a formula file and a name line: number and node of the refusal
+abbrev refused-by : List ℕ → List ℕ → List ℕ → Type 0
+refused-by file names detail =
+    legs (some file) (names ++ ascii "\n") ≡ ascii "no,answer,detail,steps\n0,refused," ++ detail ++ ascii ",0\ntotal,0,0,0,0,0\n"
+
+-- a formula is spoilt at a byte
+abbrev spoilt : ℕ → ℕ → List ℕ
+spoilt at x = set flight-bytes at x
+
+abbrev minimum : ℕ → List ℕ
+minimum n = node-bytes (inner-fields 7 11 n)
+
+abbrev leaf : List ℕ
+leaf = encode (sym 0)
+
+-- "whether bytes ended early, a field is wrong, or bytes follow the root's last child, and at which node from 0": the worked flight's formula has 9 nodes
+pub transfers :
+    refused-by [] name-line (ascii "12:0")
+    × refused-by (take 5 flight-bytes) name-line (ascii "12:0")
+    × refused-by (take 16 flight-bytes) name-line (ascii "12:1")
+    × refused-by (take 40 flight-bytes) name-line (ascii "12:2")
+    × refused-by (take 40 flight-bytes) (ascii "a:p,") (ascii "12:2")
+    × refused-by (take 128 flight-bytes) name-line (ascii "12:8")
+    × refused-by (take 143 flight-bytes) name-line (ascii "12:8")
+    × refused-by flight-bytes (ascii "a:p,") (ascii "3:")
+    × refused-by (flight-bytes ++ (0 ∷ [])) name-line (ascii "13:9")
+    × refused-by (flight-bytes ++ leaf) name-line (ascii "13:9")
+    × refused-by (spoilt 48 9) name-line (ascii "2:3")
+    × refused-by (take 70 (spoilt 48 9)) name-line (ascii "2:3")
+    × refused-by (take 50 (spoilt 48 9)) name-line (ascii "12:3")
+    × refused-by (spoilt 2 3) name-line (ascii "2:0")
+    × refused-by (minimum 2 ++ leaf ++ leaf ++ leaf) (ascii "a:p") (ascii "13:3")
+    × refused-by (minimum 4 ++ leaf ++ leaf ++ leaf) (ascii "a:p") (ascii "12:4")
+unfolding half-at word-at long-at encode formula-of transfer-of tree-in head-at head-of fields-at node-bytes symbols-of values-of compile line-limit legs
+transfers = (refl, refl, refl, refl, refl, refl, refl, refl, refl, refl, refl, refl, refl, refl, refl, refl)

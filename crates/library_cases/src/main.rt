@@ -2,16 +2,18 @@
 // program, cut by budgets, refused, and with forged states. The answers are the Rust reference's, and for budgets and states those
 // of the model in tools/compare/machine.rs, whose whole runs agree with the reference's.
 //
-// Standard input has a record for each case; numbers are 8 bytes, the least first. A case has 15 numbers (`Head`), then formula,
+// Standard input has a record for each case; numbers are 8 bytes, the least first. A case has 16 numbers (`Head`), then formula,
 // names, path text, tree and program, and for its calls the inputs. A call has 38 numbers: 0 for a run, 1 for a resume, 2 for one
 // with a value, the path slice's length, budget, value, the state's cells before, the answer, the cells after, the length of the
 // path's text; then that text and the registers before and after.
+use cases::HELD;
 use cases::Tally;
 use cases::all;
 use cases::cell;
 use cases::cut;
 use cases::fill;
 use cases::is_left;
+use cases::is_reported;
 use cases::plus;
 use cases::read_values;
 use cases::same_cells;
@@ -37,6 +39,7 @@ struct Head {
     inputs: usize,
     registers: usize,
     calls: usize,
+    node: u64,
 }
 
 fn head_of(b: &[u8]) -> Head {
@@ -56,6 +59,7 @@ fn head_of(b: &[u8]) -> Head {
         inputs: size(b, 12),
         registers: size(b, 13),
         calls: size(b, 14),
+        node: cell(b, 15),
     }
 }
 
@@ -67,11 +71,11 @@ fn made(
     path: &mut [u8],
     tree: &mut [u8],
     program: &mut [u8],
+    report: &mut [u64],
 ) -> usize {
     fill(path);
     fill(tree);
     fill(program);
-    let mut report = [0u64; 8];
     if symbol < 4294967296 {
         return vebrostin::vebrostin_derive(
             formula,
@@ -80,10 +84,10 @@ fn made(
             path,
             tree,
             program,
-            &mut report,
+            report,
         );
     }
-    vebrostin::vebrostin_compile(formula, names, path, program, &mut report)
+    vebrostin::vebrostin_compile(formula, names, path, program, report)
 }
 
 // A call as recorded, on cells and registers that hold what the record has before it.
@@ -238,11 +242,13 @@ fn compared(
     program: &mut [u8],
     text: &mut [u8],
 ) -> bool {
-    let answer = made(h.symbol, formula, names, path, tree, program);
+    let mut report = [HELD; 8];
+    let answer = made(h.symbol, formula, names, path, tree, program, &mut report);
+    let told = all(answer == h.answer, is_reported(&report, h.node));
     let first = is_read_after(path, text, h.text, false);
     let second = is_read_after(tree, text, h.tree_text, h.tree_zero);
     let third = is_read_after(program, text, h.program_text, h.program_zero);
-    all(all(answer == h.answer, first), all(second, third))
+    all(all(told, first), all(second, third))
 }
 
 // Its calls, with slices just as long as it says.
@@ -342,8 +348,8 @@ fn one_case(h: Head) -> bool {
 
 // What comes after a case that is not as recorded can't be told from it.
 fn next_case(t: Tally) -> Tally {
-    let mut head = [0u8; 120];
-    let read = take(&mut head, 120);
+    let mut head = [0u8; 128];
+    let read = take(&mut head, 128);
     if !read {
         return cases::end(t);
     }

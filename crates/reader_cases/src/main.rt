@@ -1,6 +1,7 @@
 // Reads cases from standard input, one to a line, and says how many there were and whether each came out as recorded.
-//   f111 HEX          formula bytes: whether they are a formula, and whether it is within a formula's and a derivative's limits
-//   g111 A B HEX      the same, where the first of the nodes stands A times and the last B times
+//   f111 HEX          a formula's bytes, then whether it is within a formula's and a derivative's limits
+//   f12:3 HEX         bytes that are no formula: the refusal and its node
+//   g111 A B HEX      either of these, where the first of the nodes stands A times and the last B times
 //   n1KINDS LINE      a name line and the kinds of its names, or `n0 LINE`
 //   h1 TEXT           16 hexadecimal digits, or `h0 TEXT` where a byte is none
 //   sNUMBER TEXT      a step of a path and its text, of which the length is compared
@@ -12,6 +13,7 @@ use cases::Tally;
 use cases::cut;
 use cases::holds;
 use cases::plus;
+use reader::Received;
 use std::num;
 
 // Where a byte next stands, or the end.
@@ -130,12 +132,29 @@ fn same_marks(line: &[u8], m: Marks) -> bool {
     false
 }
 
+fn same_fault(line: &[u8], refusal: u64, node: usize) -> bool {
+    let colon = find(line, 0, b':');
+    number(line, 1) == refusal
+        && (colon < line.len() && number(line, plus(colon, 1)) == node as u64)
+}
+
+// Whether bytes are what the line says of them.
+fn same_bytes(line: &[u8], b: &[u8]) -> bool {
+    let r = reader::receive(b);
+    match r {
+        Received::Whole => same_marks(line, judged(b)),
+        Received::EndedEarly(k) => same_fault(line, 12, k),
+        Received::WrongField(k) => same_fault(line, 2, k),
+        Received::LeftOver(k) => same_fault(line, 13, k),
+    }
+}
+
 fn formula_case(line: &[u8], work: &mut [u8]) -> bool {
     let at = after_space(line, 0);
     let n = unhex(&line[at..], work);
-    let m = judged(&work[0..n]);
+    let same = same_bytes(line, &work[0..n]);
     let d = cases::hex(line, at, line.len());
-    cases::all(d.fine, same_marks(line, m))
+    cases::all(d.fine, same)
 }
 
 fn repeated_case(line: &[u8], work: &mut [u8]) -> bool {
@@ -147,9 +166,9 @@ fn repeated_case(line: &[u8], work: &mut [u8]) -> bool {
     let mut nodes = [0u8; 256];
     let k = unhex(&line[at..], &mut nodes);
     let n = repeated(&nodes[0..k], first, last, work);
-    let m = judged(&work[0..n]);
+    let same = same_bytes(line, &work[0..n]);
     let d = cases::hex(line, at, line.len());
-    cases::all(d.fine, same_marks(line, m))
+    cases::all(d.fine, same)
 }
 
 // The kind i as recorded: a digit from the third byte of the line on, and zero past the count.
