@@ -155,7 +155,7 @@ mutual
 
 -- ---- written and read
 
-head-shown : (b : List ℕ) (at : ℕ) (h : Head) (n : ℕ) → writable-head h n ≡ true → Shows b at (node-bytes (fields-of h n))
+pub head-shown : (b : List ℕ) (at : ℕ) (h : Head) (n : ℕ) → writable-head h n ≡ true → Shows b at (node-bytes (fields-of h n))
     → (head-at b at ≡ some h) × (fields-at b at ≡ fields-of h n)
 unfolding head-at
 head-shown b at h n w s =

@@ -6,4 +6,5 @@ pub mod Steps
 pub mod Extents
 pub mod Bytes
 pub mod Encode
+pub mod Transfers
 pub mod Worked
