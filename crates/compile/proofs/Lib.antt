@@ -5,3 +5,4 @@ pub mod Whole
 pub mod Entries
 pub mod Own
 pub mod Back
+pub mod Cut

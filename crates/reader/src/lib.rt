@@ -152,44 +152,43 @@ pub enum Received {
     LeftOver(usize),
 }
 
-// After the root's last child.
-fn ended(at: usize, length: usize) -> Received
-    ensures { λ r. ⌜ r ≡ cond (eqb at length) Received.Whole (Received.LeftOver (at / 16)) ⌝ }
+// At the last whole node's end.
+fn ended(at: usize, owed: usize, length: usize) -> Received
+    requires { ⌜ at ≤ length ⌝ }
+    ensures { λ r. ⌜ r ≡ cond (eqb owed 0) (cond (eqb at length) Received.Whole (Received.LeftOver (at / 16))) (Received.EndedEarly (at / 16)) ⌝ }
 {
-    if at == length {
-        return Received::Whole;
+    if owed > 0 {
+        return Received::EndedEarly(at / NODE_SIZE);
     }
-    Received::LeftOver(at / NODE_SIZE)
+    if at < length {
+        return Received::LeftOver(at / NODE_SIZE);
+    }
+    Received::Whole
 }
 
 // "Nodes of 16 bytes, each followed by its children, nothing after the root's last", or the first fault in the order of the bytes.
+// Each tree that is owed takes a node or more. Where more are owed than nodes are left the bytes can only end early or have a wrong
+// field, and the count of them need not grow.
 pub fn receive(b: &[u8]) -> Received
     ensures { λ r. ⌜ r ≡ told (transfer-of (now (b .entry))) ⌝ }
 {
     let mut at = 0;
     let mut owed = 1;
-    // Each tree that is owed takes a node's bytes or more, so the count of them stays below the length.
-    while owed <= (b.len() - at) / NODE_SIZE {
+    while NODE_SIZE <= b.len() - at {
         if owed == 0 {
-            return ended(at, b.len());
+            return Received::LeftOver(at / NODE_SIZE);
         }
         let f = node(b, at);
         let ok = is_head(f);
         if !ok {
             return Received::WrongField(at / NODE_SIZE);
         }
-        owed = owed - 1 + f.children;
-        at += NODE_SIZE;
-    }
-    // More are owed than nodes are left: the bytes end early, unless one of those nodes is none.
-    while NODE_SIZE <= b.len() - at {
-        let ok = is_head(node(b, at));
-        if !ok {
-            return Received::WrongField(at / NODE_SIZE);
+        if owed <= (b.len() - at) / NODE_SIZE {
+            owed = owed - 1 + f.children;
         }
         at += NODE_SIZE;
     }
-    Received::EndedEarly(at / NODE_SIZE)
+    ended(at, owed, b.len())
 }
 
 // Whether the bytes are a formula.
