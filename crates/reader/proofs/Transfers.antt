@@ -257,8 +257,8 @@ finished b j o e =
     let t = length-take-le (node-size * j) b l in
     let z : (i : ℕ) → node-size * j ≤ i → byte-at c i ≡ 0 =
     λ i h.
-        let q : i ≡ length (nodes j b) + (i - node-size * j) = omega arith in
-        ap (λ (k : ℕ). byte-at c k) q ∙ getD-append-add (nodes j b) (zeros (node-size * o)) (i - node-size * j) 0 ∙ zero-byte (node-size * o) (i - node-size * j) in
+    let q : i ≡ length (nodes j b) + (i - node-size * j) = omega arith in
+    ap (λ (k : ℕ). byte-at c k) q ∙ getD-append-add (nodes j b) (zeros (node-size * o)) (i - node-size * j) 0 ∙ zero-byte (node-size * o) (i - node-size * j) in
     is-whole c (j + o, zeros-after c j o (owed-taken b (zeros (node-size * o)) j l ∙ e) n z, sym n)
 
 some-zeros : (n : ℕ) → (n ≡ 0 → ⊥) → zeros n ≡ [] → ⊥
@@ -374,9 +374,9 @@ module _ (b : List ℕ) (f : Formula) (is : formula-of b ≡ some f) where
       let t = length-take-le x b (omega arith) in
       let byte : (i : ℕ) → i < node-size → byte-at c (x + i) ≡ byte-at w (0 + i) =
       λ i s.
-          let q : x + i ≡ length (nodes k b) + i = omega arith in
-          let r : i ≡ 0 + i = omega arith in
-          ap (λ (j : ℕ). byte-at c j) q ∙ getD-append-add (nodes k b) (w ++ rest) i 0 ∙ List·getD-append w rest 0 i (omega arith) ∙ ap (λ (j : ℕ). byte-at w j) r in
+      let q : x + i ≡ length (nodes k b) + i = omega arith in
+      let r : i ≡ 0 + i = omega arith in
+      ap (λ (j : ℕ). byte-at c j) q ∙ getD-append-add (nodes k b) (w ++ rest) i 0 ∙ List·getD-append w rest 0 i (omega arith) ∙ ap (λ (j : ℕ). byte-at w j) r in
       let head : is-some (head-at c x) ≡ false = ap (λ (o : Option Head). is-some o) (head-alike c w x 0 byte (omega arith) (omega arith)) ∙ n in
       told-same (wrong-field k) (transfer-of c) (λ f q. let z : _≡_ {A = ℕ} 0 1 = cc in omega arith)
       (ended-is c (WrongField k) (g .0, owed-taken b (w ++ rest) k (omega arith) ∙ g .1, omega arith, head))
