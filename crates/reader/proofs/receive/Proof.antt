@@ -52,7 +52,7 @@ loop-less c = omega (arith, c .before .before .before .before .before .before .l
 loop-again : tie.Need-loop-again Inv-loop μ-loop
 loop-again c =
     let counted : ℕ → Type 0 = λ k. Counted (c .before .before .before .before .before .before .before .before .args .b .now) (c .before .before .before .before .before .before .loop .at + node-size) k in
-    ⊎-elim (λ w. subst counted (sym (w .2)) (counted-on (c .before .before .before .before .before .before .before .before .args .b .now) (c .before .before .before .before .before .before .loop .at) (c .before .before .before .before .before .before .loop .owed) (c .before .before .before .before .before .before .loop .inv) (omega (arith, c .before .before .before .before .before .before .loop .inv .owing .inside)) (written (c .before .before .before .node .result)) (c .before .before .before .node .ensures .0) (sym (c .before .before .is-head .ensures) ∙ not-false (c .before .before .is-head .result) (c .before .if2 .left)) (c .before .before .before .before .if1 .left) (w .0 .taken)))
+    ⊎-elim (λ w. subst counted (sym (w .2)) (counted-on (c .before .before .before .before .before .before .before .before .args .b .now) (c .before .before .before .before .before .before .loop .at) (c .before .before .before .before .before .before .loop .owed) (c .before .before .before .before .before .before .loop .inv) (omega (arith, c .before .before .before .before .before .before .loop .inv .owing .inside)) (written (c .before .before .before .node .result)) (c .before .before .before .node .ensures .0) (sym (c .before .before .is-head .ensures) ∙ not-false (c .before .before .is-head .result) (c .before .if2 .left)) (c .before .before .before .before .if1 .left) (omega (arith, w .0 .taken))))
     (λ w. subst counted (sym (w .1)) (counted-still (c .before .before .before .before .before .before .before .before .args .b .now) (c .before .before .before .before .before .before .loop .at) (c .before .before .before .before .before .before .loop .owed) (c .before .before .before .before .before .before .loop .inv) (omega (arith, c .before .before .before .before .before .before .loop .inv .owing .inside)) (written (c .before .before .before .node .result)) (c .before .before .before .node .ensures .0) (sym (c .before .before .is-head .ensures) ∙ not-false (c .before .before .is-head .result) (c .before .if2 .left)) (c .before .before .before .before .if1 .left) (omega (arith, w .0 .left)))) (c .if3 .came)
 
 ended-requires : tie.Need-ended-requires Inv-loop μ-loop
