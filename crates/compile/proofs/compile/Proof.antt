@@ -73,11 +73,12 @@ returns c =
     let reading2 = c .before .before .before .before .before .before .before .before .before .before .before .before .before .before .before .reading3 in
     let within = c .before .before .before .before .before .before .before .before .before .before .before .before .within in
     let if1 = c .before .before .before .before .before .before .before .before .before .if1 in
-    let S = source-of (args .formula .now) (args .names .now) (length (args .path .now)) (length (args .program .now)) (prepare .result)
-    (prepare .ensures) (reading2 .given .0 .0) (reading2 .given .1) in
+    let write = c .before .before .before .before .write in
+    let S =
+    source-of (args .formula .now) (args .names .now) (length (args .path .now)) (length (args .program .now)) (prepare .result) (prepare .ensures)
+    (reading2 .given .0 .0) (reading2 .given .1) in
     let n = reading2 .given .0 .0 in
     let K = prepare .result .kinds in
-    let write = c .before .before .before .before .write in
     let limit = limit-of S (within .result) (within .ensures .0) (if1 .taken) in
     written (args .formula .now) (S .f) (S .formed) limit (take n K) (S .symbols) (prefix n K (S .symbols) (S .count) (S .kinds-are)) (write .result)
     (args .path .now) (within .last .1 .0) (write .last .1 .1 .0) (args .program .now) (write .last .1 .0)
@@ -95,10 +96,14 @@ returns-2 c =
 
 returns-3 : tie.Need-returns-3
 returns-3 c =
-    let n = c .before .reading2 .given .0 .0 in
-    let k = c .before .reading2 .given .0 .1 .0 in
-    early-at _ n k (c .before .before .before .before .before .before .before .before .args .path .now) (c .before .before .before .before .before .before .before .before .args .program .now) (node-refusal-of (c .before .before .before .before .before .before .before .before .args .formula .now) (c .before .before .before .before .before .before .before .before .args .names .now) (length (c .before .before .before .before .before .before .before .before .args .path .now))
-    (length (c .before .before .before .before .before .before .before .before .args .program .now)) (c .before .before .before .prepare .result) (c .before .before .before .prepare .ensures) n k (c .before .reading2 .given .1))
+    let args = c .before .before .before .before .before .before .before .before .args in
+    let prepare = c .before .before .before .prepare in
+    let reading2 = c .before .reading2 in
+    let n = reading2 .given .0 .0 in
+    let k = reading2 .given .0 .1 .0 in
+    early-at _ n k (args .path .now) (args .program .now)
+    (node-refusal-of (args .formula .now) (args .names .now) (length (args .path .now)) (length (args .program .now)) (prepare .result) (prepare .ensures)
+    n k (reading2 .given .1))
 
 same-length-3 : tie.Need-same-length-3
 same-length-3 c = search needs

@@ -81,7 +81,11 @@ same-length-6 : tie.Need-same-length-6
 same-length-6 c = search needs
 
 returns-3 : tie.Need-returns-3
-returns-3 c = absurd (no-node (c .before .before .before .before .before .before .before .before .before .before .before .before .before .before .args .kinds .now) (c .before .before .before .before .before .before .before .before .before .before .before .before .before .before .args .formula .now) (c .before .a2 .given .0 .0) (c .before .a2 .given .0 .1 .0) (sym (c .before .a2 .given .1) ∙ c .before .before .before .before .before .before .before .write .ensures .0))
+returns-3 c =
+    let args = c .before .before .before .before .before .before .before .before .before .before .before .before .before .before .args in
+    let write = c .before .before .before .before .before .before .before .write in
+    let a2 = c .before .a2 in
+    absurd (no-node (args .kinds .now) (args .formula .now) (a2 .given .0 .0) (a2 .given .0 .1 .0) (sym (a2 .given .1) ∙ write .ensures .0))
 
 pub lower-into-spec : {M : Type 1} → statement M
 lower-into-spec =

@@ -12,10 +12,19 @@ unprepared-requires : tie.Need-unprepared-requires
 unprepared-requires c κs = search needs
 
 returns : tie.Need-returns
-returns c = λ f. no-names f (symbols-of (c .before .before .before .before .before .args .names .now)) (c .before .before .before .read-names .result) _ (c .before .before .before .read-names .ensures) (not-true (c .before .before .before .read-names .result .ok) (c .before .if1 .taken)) (c .unprepared .ensures)
+returns c =
+    let args = c .before .before .before .before .before .args in
+    let read-names = c .before .before .before .read-names in
+    λ f.
+    no-names f (symbols-of (args .names .now)) (read-names .result) _ (read-names .ensures) (not-true (read-names .result .ok) (c .before .if1 .taken))
+    (c .unprepared .ensures)
 
 returns-2 : tie.Need-returns-2
-returns-2 c = λ f. listed-is f (symbols-of (c .before .before .before .before .before .args .names .now)) (c .before .before .before .read-names .result) (c .before .before .before .read-names .ensures) (not-false (c .before .before .before .read-names .result .ok) (c .before .if1 .left))
+returns-2 c =
+    let args = c .before .before .before .before .before .args in
+    let read-names = c .before .before .before .read-names in
+    λ f.
+    listed-is f (symbols-of (args .names .now)) (read-names .result) (read-names .ensures) (not-false (read-names .result .ok) (c .before .if1 .left))
 
 pub named-spec : {M : Type 1} → statement M
 named-spec = tie.close (tie.spec read-names-requires unprepared-requires returns returns-2)

@@ -9,7 +9,10 @@ unprepared-requires : tie.Need-unprepared-requires
 unprepared-requires c κs = search needs
 
 returns : tie.Need-returns
-returns c = unprepared-is (c .before .before .before .before .args .formula .now) (c .before .before .before .before .args .names .now) (c .before .before .before .before .args .path) (c .before .before .before .before .args .program) 1 _ (c .unprepared .ensures) (short-path (c .before .before .before .before .args .formula .now) (c .before .before .before .before .args .names .now) (c .before .before .before .before .args .path) (c .before .before .before .before .args .program) (c .before .if1 .taken))
+returns c =
+    let args = c .before .before .before .before .args in
+    unprepared-is (args .formula .now) (args .names .now) (args .path) (args .program) 1 _ (c .unprepared .ensures)
+    (short-path (args .formula .now) (args .names .now) (args .path) (args .program) (c .before .if1 .taken))
 
 add-if2 : tie.Need-add-if2
 add-if2 c = search needs
@@ -18,7 +21,11 @@ unprepared-requires-2 : tie.Need-unprepared-requires-2
 unprepared-requires-2 c κs = search needs
 
 returns-2 : tie.Need-returns-2
-returns-2 c = unprepared-is (c .before .before .before .before .before .args .formula .now) (c .before .before .before .before .before .args .names .now) (c .before .before .before .before .before .args .path) (c .before .before .before .before .before .args .program) 1 _ (c .unprepared2 .ensures) (short-program (c .before .before .before .before .before .args .formula .now) (c .before .before .before .before .before .args .names .now) (c .before .before .before .before .before .args .path) (c .before .before .before .before .before .args .program) (omega (arith, c .before .before .if1 .left)) (c .before .if2 .taken))
+returns-2 c =
+    let args = c .before .before .before .before .before .args in
+    let if1 = c .before .before .if1 in
+    unprepared-is (args .formula .now) (args .names .now) (args .path) (args .program) 1 _ (c .unprepared2 .ensures)
+    (short-program (args .formula .now) (args .names .now) (args .path) (args .program) (omega (arith, if1 .left)) (c .before .if2 .taken))
 
 receive-requires : tie.Need-receive-requires
 receive-requires c κs = search needs
@@ -48,16 +55,43 @@ unprepared-requires-5 : tie.Need-unprepared-requires-5
 unprepared-requires-5 c κs = search needs
 
 returns-3 : tie.Need-returns-3
-returns-3 c = whole-is (c .before .before .before .before .before .before .before .before .args .formula .now) (c .before .before .before .before .before .before .before .before .args .names .now) (c .before .before .before .before .before .before .before .before .args .path) (c .before .before .before .before .before .before .before .before .args .program) (omega (arith, c .before .before .before .before .before .if1 .left)) (omega (arith, c .before .before .before .before .if2 .left)) (c .before .before .before .receive .result) (c .before .before .before .receive .ensures) (c .before .enum-told .given .1) _ (c .named .ensures)
+returns-3 c =
+    let args = c .before .before .before .before .before .before .before .before .args in
+    let if1 = c .before .before .before .before .before .if1 in
+    let if2 = c .before .before .before .before .if2 in
+    let receive = c .before .before .before .receive in
+    whole-is (args .formula .now) (args .names .now) (args .path) (args .program) (omega (arith, if1 .left)) (omega (arith, if2 .left)) (receive .result)
+    (receive .ensures) (c .before .enum-told .given .1) _ (c .named .ensures)
 
 returns-4 : tie.Need-returns-4
-returns-4 c = faulty-is (c .before .before .before .before .before .before .before .before .before .args .formula .now) (c .before .before .before .before .before .before .before .before .before .args .names .now) (c .before .before .before .before .before .before .before .before .before .args .path) (c .before .before .before .before .before .before .before .before .before .args .program) (omega (arith, c .before .before .before .before .before .before .if1 .left)) (omega (arith, c .before .before .before .before .before .if2 .left)) (c .before .before .before .before .receive .result) (c .before .before .before .before .receive .ensures) 12 (c .before .before .received .given .0 .0) _ (ap number-of (c .before .before .received .given .1)) (ap node-of (c .before .before .received .given .1)) (c .unprepared3 .ensures)
+returns-4 c =
+    let args = c .before .before .before .before .before .before .before .before .before .args in
+    let if1 = c .before .before .before .before .before .before .if1 in
+    let if2 = c .before .before .before .before .before .if2 in
+    let receive = c .before .before .before .before .receive in
+    let received = c .before .before .received in
+    faulty-is (args .formula .now) (args .names .now) (args .path) (args .program) (omega (arith, if1 .left)) (omega (arith, if2 .left)) (receive .result)
+    (receive .ensures) 12 (received .given .0 .0) _ (ap number-of (received .given .1)) (ap node-of (received .given .1)) (c .unprepared3 .ensures)
 
 returns-5 : tie.Need-returns-5
-returns-5 c = faulty-is (c .before .before .before .before .before .before .before .before .before .args .formula .now) (c .before .before .before .before .before .before .before .before .before .args .names .now) (c .before .before .before .before .before .before .before .before .before .args .path) (c .before .before .before .before .before .before .before .before .before .args .program) (omega (arith, c .before .before .before .before .before .before .if1 .left)) (omega (arith, c .before .before .before .before .before .if2 .left)) (c .before .before .before .before .receive .result) (c .before .before .before .before .receive .ensures) 2 (c .before .before .received2 .given .0 .0) _ (ap number-of (c .before .before .received2 .given .1)) (ap node-of (c .before .before .received2 .given .1)) (c .unprepared4 .ensures)
+returns-5 c =
+    let args = c .before .before .before .before .before .before .before .before .before .args in
+    let if1 = c .before .before .before .before .before .before .if1 in
+    let if2 = c .before .before .before .before .before .if2 in
+    let receive = c .before .before .before .before .receive in
+    let received2 = c .before .before .received2 in
+    faulty-is (args .formula .now) (args .names .now) (args .path) (args .program) (omega (arith, if1 .left)) (omega (arith, if2 .left)) (receive .result)
+    (receive .ensures) 2 (received2 .given .0 .0) _ (ap number-of (received2 .given .1)) (ap node-of (received2 .given .1)) (c .unprepared4 .ensures)
 
 returns-6 : tie.Need-returns-6
-returns-6 c = faulty-is (c .before .before .before .before .before .before .before .before .before .args .formula .now) (c .before .before .before .before .before .before .before .before .before .args .names .now) (c .before .before .before .before .before .before .before .before .before .args .path) (c .before .before .before .before .before .before .before .before .before .args .program) (omega (arith, c .before .before .before .before .before .before .if1 .left)) (omega (arith, c .before .before .before .before .before .if2 .left)) (c .before .before .before .before .receive .result) (c .before .before .before .before .receive .ensures) 13 (c .before .before .received3 .given .0 .0) _ (ap number-of (c .before .before .received3 .given .1)) (ap node-of (c .before .before .received3 .given .1)) (c .unprepared5 .ensures)
+returns-6 c =
+    let args = c .before .before .before .before .before .before .before .before .before .args in
+    let if1 = c .before .before .before .before .before .before .if1 in
+    let if2 = c .before .before .before .before .before .if2 in
+    let receive = c .before .before .before .before .receive in
+    let received3 = c .before .before .received3 in
+    faulty-is (args .formula .now) (args .names .now) (args .path) (args .program) (omega (arith, if1 .left)) (omega (arith, if2 .left)) (receive .result)
+    (receive .ensures) 13 (received3 .given .0 .0) _ (ap number-of (received3 .given .1)) (ap node-of (received3 .given .1)) (c .unprepared5 .ensures)
 
 pub prepare-spec : {M : Type 1} → statement M
 prepare-spec =

@@ -94,20 +94,24 @@ returns c =
     let within = c .before .before .before .before .before .before .before .before .before .before .before .before .before .before .before .within in
     let if1 = c .before .before .before .before .before .before .before .before .before .before .before .before .if1 in
     let formula = c .before .before .before .before .before .before .derive-formula in
+    let the-formula = formula .last .1 .1 .1 .1 .1 .0 in
+    let the-formula2 = formula .last .1 .1 .1 .1 .0 in
     let n = reading2 .given .0 .0 in
-    let S = source-of (args .formula .now) (args .names .now) (length (args .path .now)) (length (args .program .now)) (prepare .result)
-    (prepare .ensures) n (reading2 .given .1) in
+    let S =
+    source-of (args .formula .now) (args .names .now) (length (args .path .now)) (length (args .program .now)) (prepare .result) (prepare .ensures) n
+    (reading2 .given .1) in
     let limit = limit-of S (within .result) (within .ensures .0) (if1 .taken) in
     let kept = path-kept (args .path .now) (within .last .1 .0) (within .result) (within .ensures .1) (if1 .taken) in
     let listed = prefix n (prepare .result .kinds) (S .symbols) (S .count) (S .kinds-are) in
     let q = args .path .now in
     let tree = args .tree .now in
     let program = args .program .now in
-    leaves _ _ _ q (formula .last .1 .1 .1 .0) tree (formula .last .1 .1 .1 .1 .0) program (formula .last .1 .1 .1 .1 .1 .0) (goes-on
-    (args .formula .now) (args .names .now) (args .symbol) q q (length tree) (length program) _
-    (faults-left S (within .result) (within .ensures .0) (if1 .taken))) (from-path (continued (length tree) (length program) (args .symbol)
-    (lowered-or (S .f) (S .symbols) (fault (own-context (S .symbols)) (term (S .f)) root))) (formula .result) q (within .last .1 .0)
-    (formula .last .1 .1 .1 .0) tree (formula .last .1 .1 .1 .1 .0) program (formula .last .1 .1 .1 .1 .1 .0) kept
+    leaves _ _ _ q (formula .last .1 .1 .1 .0) tree the-formula2 program the-formula
+    (goes-on (args .formula .now) (args .names .now) (args .symbol) q q (length tree) (length program) _
+    (faults-left S (within .result) (within .ensures .0) (if1 .taken)))
+    (from-path
+    (continued (length tree) (length program) (args .symbol) (lowered-or (S .f) (S .symbols) (fault (own-context (S .symbols)) (term (S .f)) root)))
+    (formula .result) q (within .last .1 .0) (formula .last .1 .1 .1 .0) tree the-formula2 program the-formula kept
     (formula .ensures (S .f) (S .symbols) (record { formed = S .formed; limit = limit; listed = listed })))
 
 returns-2 : tie.Need-returns-2
@@ -122,11 +126,15 @@ returns-2 c =
 
 returns-3 : tie.Need-returns-3
 returns-3 c =
-    let n = c .before .reading2 .given .0 .0 in
-    let k = c .before .reading2 .given .0 .1 .0 in
-    refused-at-node (c .before .before .before .before .before .before .before .before .before .args .formula .now) (c .before .before .before .before .before .before .before .before .before .args .names .now) (c .before .before .before .before .before .before .before .before .before .args .symbol) (c .before .before .before .before .before .before .before .before .before .args .path .now) (length (c .before .before .before .before .before .before .before .before .before .args .tree .now)) (length (c .before .before .before .before .before .before .before .before .before .args .program .now))
-    n k (c .before .before .before .before .before .before .before .before .before .args .tree .now) (c .before .before .before .before .before .before .before .before .before .args .program .now) (node-refusal-of (c .before .before .before .before .before .before .before .before .before .args .formula .now) (c .before .before .before .before .before .before .before .before .before .args .names .now) (length (c .before .before .before .before .before .before .before .before .before .args .path .now))
-    (length (c .before .before .before .before .before .before .before .before .before .args .program .now)) (c .before .before .before .prepare .result) (c .before .before .before .prepare .ensures) n k (c .before .reading2 .given .1))
+    let args = c .before .before .before .before .before .before .before .before .before .args in
+    let prepare = c .before .before .before .prepare in
+    let reading2 = c .before .reading2 in
+    let n = reading2 .given .0 .0 in
+    let k = reading2 .given .0 .1 .0 in
+    refused-at-node (args .formula .now) (args .names .now) (args .symbol) (args .path .now) (length (args .tree .now)) (length (args .program .now)) n k
+    (args .tree .now) (args .program .now)
+    (node-refusal-of (args .formula .now) (args .names .now) (length (args .path .now)) (length (args .program .now)) (prepare .result) (prepare .ensures)
+    n k (reading2 .given .1))
 
 same-length-4 : tie.Need-same-length-4
 same-length-4 c = search needs

@@ -31,12 +31,17 @@ slice-reshare-prefix-put-refusal : tie.Need-slice-reshare-prefix-put-refusal
 slice-reshare-prefix-put-refusal c = search needs
 
 slice-aggregate-put-refusal : tie.Need-slice-aggregate-put-refusal
-slice-aggregate-put-refusal c = sym (length-take-le (c .before .before .text-length .result) (c .before .before .before .before .before .before .before .before .before .before .before .compile .last .1 .1 .0) (c .before .before .text-length .ensures .0))
+slice-aggregate-put-refusal c =
+    let compile = c .before .before .before .before .before .before .before .before .before .before .before .compile in
+    let text-length = c .before .before .text-length in
+    sym (length-take-le (text-length .result) (compile .last .1 .1 .0) (text-length .ensures .0))
 
 put-refusal-requires : tie.Need-put-refusal-requires
 put-refusal-requires c κs =
+    let pre = c .before .before .before .before .before .before .before .before .before .before .before .before .before .before .before .before .before .before .before .pre in
+    let compile = c .before .before .before .before .before .before .before .before .before .before .before .compile in
     let at-text-length = c .before .before .text-length in
-    (c .before .before .before .before .before .before .before .before .before .before .before .before .before .before .before .before .before .before .before .pre, omega (arith, length-take-le (at-text-length .result) (c .before .before .before .before .before .before .before .before .before .before .before .compile .last .1 .1 .0) (at-text-length .ensures .0), at-text-length .ensures .1))
+    (pre, omega (arith, length-take-le (at-text-length .result) (compile .last .1 .1 .0) (at-text-length .ensures .0), at-text-length .ensures .1))
 
 no-lines-requires-2 : tie.Need-no-lines-requires-2
 no-lines-requires-2 c κs = search needs
@@ -61,11 +66,13 @@ returns c =
     let a = c .before .before .before .before .before .before .before .before .before .before .before .before .before .before .before .before .args in
     let shared-slice-known = c .before .before .before .before .before .before .before .before .before .before .before .before .before .before .before .shared-slice-known in
     let k = c .before .before .before .before .before .before .before .before .compile in
+    let enum-told = c .before .before .enum-told in
+    let fresh = c .before .fresh in
     record {
       built =
           begins-accepted (a .formula .now) (a .names .now) (a .path .now) (a .program .now) (k .last .1 .1 .0) (k .last .1 .1 .1 .0) (a .out .now)
-          (a .out .now) _ (k .result) (k .ensures .0) (c .no-lines .result) (c .no-lines .ensures) (c .before .before .enum-told .given .1) (λ i. omega (arith, shared-slice-known .given i)) (k .ensures .2)
-          (c .before .fresh .result) (c .before .fresh .ensures) refl;
+          (a .out .now) _ (k .result) (k .ensures .0) (c .no-lines .result) (c .no-lines .ensures) (enum-told .given .1)
+          (λ i. omega (arith, shared-slice-known .given i)) (k .ensures .2) (fresh .result) (fresh .ensures) refl;
       room = omega arith;
       beyond = refl;
       path-is = k .ensures .1;
@@ -93,8 +100,8 @@ returns-2 c =
     record {
       built =
           begins-refused (a .formula .now) (a .names .now) (a .path .now) (a .program .now) (k .last .1 .1 .0) (k .last .1 .1 .1 .0) (a .out .now) (w .last .0)
-          _ (k .result) (k .ensures .0) (c .no-lines2 .result) (c .no-lines2 .ensures) (a′ .given .0 .0) (text-length .result) (w .result) (a′ .given .1) (k .ensures .1) (k .kept .1 .1 .0)
-          (text-length .ensures) (w .ensures .0) refl;
+          _ (k .result) (k .ensures .0) (c .no-lines2 .result) (c .no-lines2 .ensures) (a′ .given .0 .0) (text-length .result) (w .result) (a′ .given .1)
+          (k .ensures .1) (k .kept .1 .1 .0) (text-length .ensures) (w .ensures .0) refl;
       room = w .ensures .1;
       beyond = drop-wrote (a .out .now) 0 _ (w .last .0) (w .result) (w .ensures .0) h;
       path-is = k .ensures .1;
@@ -113,13 +120,15 @@ same-length-8 c = search needs
 returns-3 : tie.Need-returns-3
 returns-3 c =
     let a = c .before .before .before .before .before .before .before .before .before .before .before .before .before .before .before .before .before .before .before .before .args in
+    let pre = c .before .before .before .before .before .before .before .before .before .before .before .before .before .before .before .before .before .before .before .before .pre in
     let k = c .before .before .before .before .before .before .before .before .before .before .before .before .compile in
+    let a2 = c .before .before .before .before .before .before .a2 in
     let w = c .before .before .before .put-node-refusal in
-    let h : w .result ≤ length (a .out .now) = omega (arith, w .ensures .1, c .before .before .before .before .before .before .before .before .before .before .before .before .before .before .before .before .before .before .before .before .pre) in
+    let h : w .result ≤ length (a .out .now) = omega (arith, w .ensures .1, pre) in
     record {
       built =
-          begins-node (a .formula .now) (a .names .now) (a .path .now) (a .program .now) (k .last .1 .1 .0) (k .last .1 .1 .1 .0) (a .out .now) (w .last .0)
-          _ (k .result) (k .ensures .0) (c .no-lines3 .result) (c .no-lines3 .ensures) (c .before .before .before .before .before .before .a2 .given .0 .0) (c .before .before .before .before .before .before .a2 .given .0 .1 .0) (w .result) (c .before .before .before .before .before .before .a2 .given .1)
+          begins-node (a .formula .now) (a .names .now) (a .path .now) (a .program .now) (k .last .1 .1 .0) (k .last .1 .1 .1 .0) (a .out .now) (w .last .0) _
+          (k .result) (k .ensures .0) (c .no-lines3 .result) (c .no-lines3 .ensures) (a2 .given .0 .0) (a2 .given .0 .1 .0) (w .result) (a2 .given .1)
           (w .ensures .0) refl;
       room = w .ensures .1;
       beyond = drop-wrote (a .out .now) 0 _ (w .last .0) (w .result) (w .ensures .0) h;

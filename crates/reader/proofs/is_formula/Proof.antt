@@ -25,13 +25,22 @@ returns : tie.Need-returns
 returns c = whole-some (c .before .before .before .before .args .b .now) (c .before .before .receive .result) (c .before .before .receive .ensures) (c .enum-told .given .1)
 
 returns-2 : tie.Need-returns-2
-returns-2 c = fault-none (c .before .before .before .before .before .args .b .now) (c .before .before .before .receive .result) (c .before .before .before .receive .ensures) (λ w. let e = c .before .r .given .1 in let z : _≡_ {A = ℕ} 0 1 = cc in omega arith)
+returns-2 c =
+    let args = c .before .before .before .before .before .args in
+    let receive = c .before .before .before .receive in
+    fault-none (args .b .now) (receive .result) (receive .ensures) (λ w. let e = c .before .r .given .1 in let z : _≡_ {A = ℕ} 0 1 = cc in omega arith)
 
 returns-3 : tie.Need-returns-3
-returns-3 c = fault-none (c .before .before .before .before .before .args .b .now) (c .before .before .before .receive .result) (c .before .before .before .receive .ensures) (λ w. let e = c .before .r2 .given .1 in let z : _≡_ {A = ℕ} 0 1 = cc in omega arith)
+returns-3 c =
+    let args = c .before .before .before .before .before .args in
+    let receive = c .before .before .before .receive in
+    fault-none (args .b .now) (receive .result) (receive .ensures) (λ w. let e = c .before .r2 .given .1 in let z : _≡_ {A = ℕ} 0 1 = cc in omega arith)
 
 returns-4 : tie.Need-returns-4
-returns-4 c = fault-none (c .before .before .before .before .before .args .b .now) (c .before .before .before .receive .result) (c .before .before .before .receive .ensures) (λ w. let e = c .before .r3 .given .1 in let z : _≡_ {A = ℕ} 0 1 = cc in omega arith)
+returns-4 c =
+    let args = c .before .before .before .before .before .args in
+    let receive = c .before .before .before .receive in
+    fault-none (args .b .now) (receive .result) (receive .ensures) (λ w. let e = c .before .r3 .given .1 in let z : _≡_ {A = ℕ} 0 1 = cc in omega arith)
 
 pub is-formula-spec : {M : Type 1} → statement M
 is-formula-spec =

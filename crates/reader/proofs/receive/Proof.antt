@@ -23,7 +23,12 @@ sub-loop : tie.Need-sub-loop Inv-loop μ-loop
 sub-loop c = c .loop .inv .owing .inside
 
 returns : tie.Need-returns Inv-loop μ-loop
-returns c = sym (rw (ne-eqb (c .before .before .loop .at) (length (c .before .before .before .before .args .b .now)) (λ e. omega (arith, c .before .before .loop .inv .owing .inside)))) ∙ owing-end (c .before .before .before .before .args .b .now) (c .before .before .loop .at) (c .before .before .loop .inv .owed) (c .before .before .loop .inv .owing) (none-owed (c .before .before .before .before .args .b .now) (c .before .before .loop .at) (c .before .before .loop .owed) (c .before .before .loop .inv) (c .if1 .taken))
+returns c =
+    let args = c .before .before .before .before .args in
+    let loop = c .before .before .loop in
+    sym (rw (ne-eqb (loop .at) (length (args .b .now)) (λ e. omega (arith, loop .inv .owing .inside))))
+    ∙ owing-end (args .b .now) (loop .at) (loop .inv .owed) (loop .inv .owing)
+    (none-owed (args .b .now) (loop .at) (loop .owed) (loop .inv) (c .if1 .taken))
 
 node-requires : tie.Need-node-requires Inv-loop μ-loop
 node-requires c κs = omega (arith, c .before .before .loop .inv .owing .inside)
@@ -32,7 +37,15 @@ is-head-requires : tie.Need-is-head-requires Inv-loop μ-loop
 is-head-requires c κs = tt
 
 returns-2 : tie.Need-returns-2 Inv-loop μ-loop
-returns-2 c = owing-wrong (c .before .before .before .before .before .before .before .args .b .now) (c .before .before .before .before .before .loop .at) (c .before .before .before .before .before .loop .inv .owed) (c .before .before .before .before .before .loop .inv .owing) (some-owed (c .before .before .before .before .before .before .before .args .b .now) (c .before .before .before .before .before .loop .at) (c .before .before .before .before .before .loop .owed) (c .before .before .before .before .before .loop .inv) (c .before .before .before .if1 .left)) (omega (arith, c .before .before .before .before .before .loop .inv .owing .inside)) (written (c .before .before .node .result)) (c .before .before .node .ensures .0) (sym (c .before .is-head .ensures) ∙ not-true (c .before .is-head .result) (c .if2 .taken))
+returns-2 c =
+    let args = c .before .before .before .before .before .before .before .args in
+    let loop = c .before .before .before .before .before .loop in
+    let if1 = c .before .before .before .if1 in
+    let node = c .before .before .node in
+    let is-head = c .before .is-head in
+    owing-wrong (args .b .now) (loop .at) (loop .inv .owed) (loop .inv .owing) (some-owed (args .b .now) (loop .at) (loop .owed) (loop .inv) (if1 .left))
+    (omega (arith, loop .inv .owing .inside)) (written (node .result)) (node .ensures .0)
+    (sym (is-head .ensures) ∙ not-true (is-head .result) (c .if2 .taken))
 
 sub-if3 : tie.Need-sub-if3 Inv-loop μ-loop
 sub-if3 c = c .before .before .before .before .before .loop .inv .owing .inside
@@ -51,15 +64,33 @@ loop-less c = omega (arith, c .before .before .before .before .before .before .l
 
 loop-again : tie.Need-loop-again Inv-loop μ-loop
 loop-again c =
-    let counted : ℕ → Type 0 = λ k. Counted (c .before .before .before .before .before .before .before .before .args .b .now) (c .before .before .before .before .before .before .loop .at + node-size) k in
-    ⊎-elim (λ w. subst counted (sym (w .2)) (counted-on (c .before .before .before .before .before .before .before .before .args .b .now) (c .before .before .before .before .before .before .loop .at) (c .before .before .before .before .before .before .loop .owed) (c .before .before .before .before .before .before .loop .inv) (omega (arith, c .before .before .before .before .before .before .loop .inv .owing .inside)) (written (c .before .before .before .node .result)) (c .before .before .before .node .ensures .0) (sym (c .before .before .is-head .ensures) ∙ not-false (c .before .before .is-head .result) (c .before .if2 .left)) (c .before .before .before .before .if1 .left) (omega (arith, w .0 .taken))))
-    (λ w. subst counted (sym (w .1)) (counted-still (c .before .before .before .before .before .before .before .before .args .b .now) (c .before .before .before .before .before .before .loop .at) (c .before .before .before .before .before .before .loop .owed) (c .before .before .before .before .before .before .loop .inv) (omega (arith, c .before .before .before .before .before .before .loop .inv .owing .inside)) (written (c .before .before .before .node .result)) (c .before .before .before .node .ensures .0) (sym (c .before .before .is-head .ensures) ∙ not-false (c .before .before .is-head .result) (c .before .if2 .left)) (c .before .before .before .before .if1 .left) (omega (arith, w .0 .left)))) (c .if3 .came)
+    let args = c .before .before .before .before .before .before .before .before .args in
+    let loop = c .before .before .before .before .before .before .loop in
+    let if1 = c .before .before .before .before .if1 in
+    let node = c .before .before .before .node in
+    let is-head = c .before .before .is-head in
+    let if2 = c .before .if2 in
+    let the-proof = sym (is-head .ensures) ∙ not-false (is-head .result) (if2 .left) in
+    let counted : ℕ → Type 0 = λ k. Counted (args .b .now) (loop .at + node-size) k in
+    ⊎-elim
+    (λ w.
+    subst counted (sym (w .2))
+    (counted-on (args .b .now) (loop .at) (loop .owed) (loop .inv) (omega (arith, loop .inv .owing .inside)) (written (node .result)) (node .ensures .0)
+    the-proof (if1 .left) (omega (arith, w .0 .taken))))
+    (λ w.
+    subst counted (sym (w .1))
+    (counted-still (args .b .now) (loop .at) (loop .owed) (loop .inv) (omega (arith, loop .inv .owing .inside)) (written (node .result)) (node .ensures .0)
+    the-proof (if1 .left) (omega (arith, w .0 .left))))
+    (c .if3 .came)
 
 ended-requires : tie.Need-ended-requires Inv-loop μ-loop
 ended-requires c κs = c .before .loop .inv .owing .inside
 
 returns-3 : tie.Need-returns-3 Inv-loop μ-loop
-returns-3 c = c .ended .ensures ∙ counted-end (c .before .before .before .before .args .b .now) (c .before .before .loop .at) (c .before .before .loop .owed) (c .before .before .loop .inv) (omega (arith, c .before .before .loop .inv .owing .inside))
+returns-3 c =
+    let args = c .before .before .before .before .args in
+    let loop = c .before .before .loop in
+    c .ended .ensures ∙ counted-end (args .b .now) (loop .at) (loop .owed) (loop .inv) (omega (arith, loop .inv .owing .inside))
 
 pub receive-spec : {M : Type 1} → statement M
 receive-spec =

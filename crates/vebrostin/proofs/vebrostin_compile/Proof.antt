@@ -34,9 +34,11 @@ same-length-3 c = search needs
 returns-2 : tie.Need-returns-2
 returns-2 c =
     let a = c .before .before .before .before .before .before .before .before .before .before .before .before .before .before .args in
+    let if1 = c .before .before .before .before .before .before .before .before .if1 in
     let r = c .before .before .before .before .before .compile in
-    compile-leaves (a .formula .now) (a .names .now) (a .path .now) (a .program .now) (a .report .now) (c .before .before .before .before .before .before .before .before .if1 .left) _ (c .compile-told .result .node) _ _
-    (c .compile-told .ensures .0 ∙ ap compile-number (r .ensures .0)) (c .compile-told .ensures .1 ∙ ap compile-node (r .ensures .0)) (r .ensures .1) (r .ensures .2)
+    compile-leaves (a .formula .now) (a .names .now) (a .path .now) (a .program .now) (a .report .now) (if1 .left) _ (c .compile-told .result .node) _ _
+    (c .compile-told .ensures .0 ∙ ap compile-number (r .ensures .0)) (c .compile-told .ensures .1 ∙ ap compile-node (r .ensures .0)) (r .ensures .1)
+    (r .ensures .2)
 
 pub vebrostin-compile-spec : {M : Type 1} → statement M
 vebrostin-compile-spec =

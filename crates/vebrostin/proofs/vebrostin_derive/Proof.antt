@@ -37,9 +37,11 @@ same-length-4 c = search needs
 returns-2 : tie.Need-returns-2
 returns-2 c =
     let a = c .before .before .before .before .before .before .before .before .before .before .before .before .before .before .before .before .before .before .args in
+    let if1 = c .before .before .before .before .before .before .before .before .before .before .before .if1 in
     let r = c .before .before .before .before .before .before .before .derive in
-    derive-leaves (a .formula .now) (a .names .now) (a .symbol) (a .path .now) (a .tree .now) (a .program .now) (a .report .now) (c .before .before .before .before .before .before .before .before .before .before .before .if1 .left) _ (c .derive-told .result .node) _ _ _
-    (c .derive-told .ensures .0 ∙ ap derive-number (r .ensures .0)) (c .derive-told .ensures .1 ∙ ap derive-node (r .ensures .0)) (r .ensures .1) (r .ensures .2) (r .ensures .3)
+    derive-leaves (a .formula .now) (a .names .now) (a .symbol) (a .path .now) (a .tree .now) (a .program .now) (a .report .now) (if1 .left) _
+    (c .derive-told .result .node) _ _ _ (c .derive-told .ensures .0 ∙ ap derive-number (r .ensures .0))
+    (c .derive-told .ensures .1 ∙ ap derive-node (r .ensures .0)) (r .ensures .1) (r .ensures .2) (r .ensures .3)
 
 pub vebrostin-derive-spec : {M : Type 1} → statement M
 vebrostin-derive-spec =

@@ -16,19 +16,47 @@ put-decimal-requires : tie.Need-put-decimal-requires
 put-decimal-requires c κs = omega (arith, decimal-long (c .before .before .args .node) (c .before .before .fits .node .fits))
 
 array-share-prefix-digits : tie.Need-array-share-prefix-digits
-array-share-prefix-digits c = omega (arith, c .before .before .put-decimal .ensures .0, c .before .before .put-decimal .kept .0, decimal-long (c .before .before .before .before .before .args .node) (c .before .before .before .before .before .fits .node .fits))
+array-share-prefix-digits c =
+    let args = c .before .before .before .before .before .args in
+    let fits = c .before .before .before .before .before .fits in
+    let put-decimal = c .before .before .put-decimal in
+    omega (arith, put-decimal .ensures .0, put-decimal .kept .0, decimal-long (args .node) (fits .node .fits))
 
 slice-aggregate-put-refusal : tie.Need-slice-aggregate-put-refusal
-slice-aggregate-put-refusal c = sym (length-take-le (c .before .before .before .put-decimal .result) (c .before .before .before .put-decimal .last .0) (omega (arith, c .before .before .before .put-decimal .ensures .0, c .before .before .before .put-decimal .kept .0, decimal-long (c .before .before .before .before .before .before .args .node) (c .before .before .before .before .before .before .fits .node .fits))))
+slice-aggregate-put-refusal c =
+    let args = c .before .before .before .before .before .before .args in
+    let fits = c .before .before .before .before .before .before .fits in
+    let put-decimal = c .before .before .before .put-decimal in
+    sym (length-take-le (put-decimal .result) (put-decimal .last .0)
+    (omega (arith, put-decimal .ensures .0, put-decimal .kept .0, decimal-long (args .node) (fits .node .fits))))
 
 put-refusal-requires : tie.Need-put-refusal-requires
-put-refusal-requires c κs = (c .before .before .before .before .before .before .pre, omega (arith, length-take-le (c .before .before .before .put-decimal .result) (c .before .before .before .put-decimal .last .0) (omega (arith, c .before .before .before .put-decimal .ensures .0, c .before .before .before .put-decimal .kept .0, decimal-long (c .before .before .before .before .before .before .args .node) (c .before .before .before .before .before .before .fits .node .fits))), c .before .before .before .put-decimal .ensures .0, decimal-long (c .before .before .before .before .before .before .args .node) (c .before .before .before .before .before .before .fits .node .fits)))
+put-refusal-requires c κs =
+    let args = c .before .before .before .before .before .before .args in
+    let fits = c .before .before .before .before .before .before .fits in
+    let pre = c .before .before .before .before .before .before .pre in
+    let put-decimal = c .before .before .before .put-decimal in (
+      pre,
+      omega (
+        arith,
+        length-take-le (put-decimal .result) (put-decimal .last .0)
+            (omega (arith, put-decimal .ensures .0, put-decimal .kept .0, decimal-long (args .node) (fits .node .fits))),
+        put-decimal .ensures .0,
+        decimal-long (args .node) (fits .node .fits),
+      ),
+    )
 
 same-length : tie.Need-same-length
 same-length c = search needs
 
 returns : tie.Need-returns
-returns c = node-wrote (c .before .before .before .before .before .before .before .before .before .args .out .now) (c .before .before .before .before .before .before .before .before .before .args .at) (c .before .before .before .before .before .before .before .before .before .args .n) (c .before .before .before .before .before .before .before .before .before .args .node) (zeros 20) (c .before .before .before .before .before .before .put-decimal .last .0) (c .before .before .before .before .before .before .put-decimal .result) (c .before .before .put-refusal .last .0) (c .before .before .put-refusal .result) (c .before .before .before .before .before .before .put-decimal .ensures) (decimal-long (c .before .before .before .before .before .before .before .before .before .args .node) (c .before .before .before .before .before .before .before .before .before .fits .node .fits)) (c .before .before .put-refusal .ensures)
+returns c =
+    let args = c .before .before .before .before .before .before .before .before .before .args in
+    let fits = c .before .before .before .before .before .before .before .before .before .fits in
+    let put-decimal = c .before .before .before .before .before .before .put-decimal in
+    let put-refusal = c .before .before .put-refusal in
+    node-wrote (args .out .now) (args .at) (args .n) (args .node) (zeros 20) (put-decimal .last .0) (put-decimal .result) (put-refusal .last .0)
+    (put-refusal .result) (put-decimal .ensures) (decimal-long (args .node) (fits .node .fits)) (put-refusal .ensures)
 
 pub put-node-refusal-spec : {M : Type 1} → statement M
 put-node-refusal-spec =

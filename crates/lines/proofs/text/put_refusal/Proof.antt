@@ -10,7 +10,11 @@ slice-aggregate-put-bytes : tie.Need-slice-aggregate-put-bytes
 slice-aggregate-put-bytes c = search needs
 
 put-bytes-requires : tie.Need-put-bytes-requires
-put-bytes-requires c κs = omega (arith, decimal-byte (c .before .before .before .before .args .n) (c .before .before .before .before .fits .n .fits), c .before .before .before .before .pre .0, c .before .before .before .before .pre .1)
+put-bytes-requires c κs =
+    let args = c .before .before .before .before .args in
+    let fits = c .before .before .before .before .fits in
+    let pre = c .before .before .before .before .pre in
+    omega (arith, decimal-byte (args .n) (fits .n .fits), pre .0, pre .1)
 
 put-decimal-requires : tie.Need-put-decimal-requires
 put-decimal-requires c κs =
