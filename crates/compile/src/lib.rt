@@ -281,6 +281,7 @@ fn lower_into(formula: &[u8], kinds: &[u8], path: &mut [u8], own: &mut [u8]) -> 
     match a {
         Answer::Program => Lowered::Kind(own[KIND_AT] == 1),
         Answer::Refused(n) => Lowered::Refused(n),
+        // `write` gives no node
         Answer::RefusedAt(n, k) => Lowered::Refused(n),
     }
 }

@@ -3,8 +3,8 @@
 //
 // Standard input is the number of cases, then the cases. A case has ten numbers: the lengths of formula, name line, path slice
 // and program slice; the answer, 0 for a program, else the refusal; the path text's length and the byte after the text; the
-// program's length and the byte after the program; one more than the node of a refusal, 0 without one. Then come the formula, the name line, the text and the program. Numbers
-// have 4 bytes, the least first.
+// program's length and the byte after the program; one more than the node of a refusal, 0 without one. Then come the formula, the
+// name line, the text and the program. Numbers have 4 bytes, the least first.
 use cases::Tally;
 use cases::all;
 use cases::cut;

@@ -18,9 +18,10 @@ use Rattle.demand.specs.Made.{Made, made, refused, refused-at}
 use Rattle.demand.specs.declared.Played.{Played}
 use Rattle.demand.specs.declared.Played.the-variants.{Refused, RefusedAt, Replied}
 
--- A refusal: its number, its place or its node, and registers as they were; without a place the path slice is as it was too. Else the last reply of the list, with registers and path slice after it, is the machine's;
--- and "finite inputs of the declared count and the registers that 01 asks for" given, it owes what the tree reading gives, and the counts add up to at
--- most the instructions that the code holds. Every beginning of a list is a list, so each reply of it does.
+-- A refusal: its number, its place or its node, and registers as they were; without a place the path slice is as it was too. Else the last reply of the
+-- list, with registers and path slice after it, is the machine's; and "finite inputs of the declared count and the registers that 01 asks for" given, it
+-- owes what the tree reading gives, and the counts add up to at most the instructions that the code holds. Every beginning of a list is a list, so each
+-- reply of it does.
 abbrev pub Owes : Made → List ℕ → List Float → List ℕ → List ℕ → List ℕ → List Float → List Float → List Float → List ℕ → List ℕ → Played → Type 0
 Owes (refused n place) program inputs rooms budgets flags values regs regs′ path path′ r = (r ≡ Refused n) × (path′ ≡ placed place path) × (regs′ ≡ regs)
 Owes (refused-at n k) program inputs rooms budgets flags values regs regs′ path path′ r = (r ≡ RefusedAt n k) × (path′ ≡ path) × (regs′ ≡ regs)

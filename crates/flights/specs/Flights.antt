@@ -167,7 +167,7 @@ abbrev refused-by : List ℕ → List ℕ → List ℕ → Type 0
 refused-by file names detail =
     legs (some file) (names ++ ascii "\n") ≡ ascii "no,answer,detail,steps\n0,refused," ++ detail ++ ascii ",0\ntotal,0,0,0,0,0\n"
 
--- a formula is spoilt at a byte
+-- the flight's formula with another byte at a place
 abbrev spoilt : ℕ → ℕ → List ℕ
 spoilt at x = set flight-bytes at x
 

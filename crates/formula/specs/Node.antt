@@ -103,7 +103,7 @@ tree-in (suc d) b at = rooted (λ a. tree-in d b a) (fields-at b at .children) (
 abbrev pub tree-at : List ℕ → ℕ → Formula
 tree-at b at = tree-in (length b) b at
 
--- "formula bytes not as above (size and depth apart)" are none: refusal 2
+-- "formula bytes not as above (size and depth apart)" are none: Transfer says what is wrong with them
 unfoldable pub formula-of : List ℕ → Option Formula
 unfolding tree-in
 formula-of b = let t = tree-at b 0 in cond (well-formed t && eqb (node-size * size t) (length b)) (some t) none

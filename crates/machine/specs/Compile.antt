@@ -72,8 +72,8 @@ path-after c slice = placed (place-of c) slice
 abbrev pub filled : List ℕ → List ℕ → List ℕ
 filled image slice = image ++ zeros (length slice - length image)
 
--- "Refusals 1 to 4 change no program byte; 5 to 9 leave the slice all zero." A refusal with a node stands before 3, and changes none. The layout gives
--- the bytes of a program.
+-- "Refusals 1 to 4 change no program byte; 5 to 9 leave the slice all zero." One with a node changes none, as 2 did. The layout gives the bytes of a
+-- program.
 abbrev pub program-after : (Context → Formula → List ℕ) → Compiled → List ℕ → List ℕ
 program-after layout (refused n place) slice = cond (ltb n invalid-input) slice (zeros (length slice))
 program-after layout (refused-at n k) slice = slice

@@ -11,7 +11,7 @@ use borrow.Author.Tests.{eqb-true, le-leb}
 use Rattle.formula.specs.Formula.{Head, malformed, Formula, Formulas, node, last, next, size, sizes, depth, is-node, well-formed, all-well-formed}
 use Rattle.formula.specs.Text.{half-at}
 use Rattle.formula.specs.Node.{Fields, fields-at, head-of, head-at, children-at, rooted, tree-in, tree-at, formula-of, node-size}
-use Rattle.formula.specs.Transfer as TransferMade
+use Rattle.formula.specs.Transfer as Transfer
 use Rattle.formula.specs.Transfer.{all-good-nodes, ended-early, fault-in, good-nodes, left-over, received, transfer-of, wrong-field}
 use Rattle.reader.specs.Read.{is-some, told}
 use Rattle.reader.specs.declared.Received.{Received}
@@ -271,15 +271,15 @@ formula-in b f d e l =
     )
 
 -- a formula was received just where the bytes are one
-whole-by : (b : List ℕ) (f : Formula) (o : Option Formula) → received b o ≡ TransferMade.whole f → o ≡ some f
+whole-by : (b : List ℕ) (f : Formula) (o : Option Formula) → received b o ≡ Transfer.whole f → o ≡ some f
 whole-by b f none e = absurd (fault-not-whole b (tree-at b 0) (ap told e))
 whole-by b f (some g) e = let q : g ≡ f = cc in ap (λ (x : Formula). some x) q
 
-pub whole-formula : (b : List ℕ) (f : Formula) → transfer-of b ≡ TransferMade.whole f → formula-of b ≡ some f
+pub whole-formula : (b : List ℕ) (f : Formula) → transfer-of b ≡ Transfer.whole f → formula-of b ≡ some f
 unfolding transfer-of
 whole-formula b f e = whole-by b f (formula-of b) e
 
-pub formula-whole : (b : List ℕ) (f : Formula) → formula-of b ≡ some f → transfer-of b ≡ TransferMade.whole f
+pub formula-whole : (b : List ℕ) (f : Formula) → formula-of b ≡ some f → transfer-of b ≡ Transfer.whole f
 unfolding transfer-of
 formula-whole b f e = ap (received b) e
 

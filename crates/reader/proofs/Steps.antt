@@ -11,7 +11,6 @@ use borrow.Author.Tests.{eqb-false, eqb-true, le-leb, lt-leb}
 use Rattle.formula.specs.Node.{Fields, fields-at, head-of, head-at, node-size}
 use Rattle.formula.specs.Transfer.{transfer-of}
 use Rattle.reader.specs.Read.{is-some, told}
-use Rattle.reader.specs.declared.Received.{Received}
 use Rattle.reader.specs.declared.Received.the-variants.{Whole, EndedEarly, WrongField, LeftOver}
 use Rattle.reader.proofs.Scan.{is-there, past-none, scan-bad, scan-end, scan-start, scan-step, scanned}
 

@@ -11,17 +11,16 @@ use lib.Dec.{eqb, leb}
 use borrow.Author.Tests.{eq-eqb, eqb-false, eqb-true, le-leb, leb-false, leb-true, lt-leb, ne-eqb}
 use Rattle.formula.specs.Text.{byte-at, half-at, word-at, long-at, zeros}
 use Rattle.formula.specs.Formula.{Formula, Head, depth, number, size}
-use Rattle.formula.specs.Node.{Fields, fields-at, fields-of, formula-of, head-at, head-of, node-bytes, node-size, tree-at}
+use Rattle.formula.specs.Node.{Fields, fields-at, fields-of, formula-of, head-at, head-of, node-bytes, node-size}
 use Rattle.formula.specs.Transfer.{Transfer, ended-early, left-over, transfer-of, whole, wrong-field}
 use Rattle.reader.specs.Read.{is-some, told}
 use Rattle.reader.specs.Transfers.{Is-formula, Says, Spoilt, Unfinished, nodes}
 use Rattle.reader.specs.declared.Received.{Received}
 use Rattle.reader.specs.declared.Received.the-variants.{Whole, EndedEarly, WrongField, LeftOver}
 use Rattle.reader.proofs.Heads.{no-true}
-use Rattle.reader.proofs.Trees.{head-past}
 use Rattle.reader.proofs.Bytes.{Shows}
 use Rattle.reader.proofs.Scan.{fault-none, formula-in, formula-whole, past-none, scan-bad, scan-end, scan-start, scan-step, scanned, whole-formula, whole-some}
-use Rattle.reader.proofs.Encode.{head-shown, node-length}
+use Rattle.reader.proofs.Encode.{head-shown}
 
 -- ---- sixteen bytes that are alike are the same node
 

@@ -1,8 +1,7 @@
 use mathlib.Core.Path.{sym}
 use native.Mathlib.Omega.{arith}
-use lib.ListN.{length}
 use lib.Seq.{length-take-le}
-use Rattle.formula.specs.Text.{decimal, zeros}
+use Rattle.formula.specs.Text.{zeros}
 use Rattle.lines.proofs.Texts.{decimal-long}
 use Rattle.lines.proofs.Newlines.{node-wrote}
 use borrow.Author.Needs.{needs}
