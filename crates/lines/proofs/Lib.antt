@@ -15,4 +15,5 @@ pub mod NameLines
 pub mod Stages
 pub mod Calls
 pub mod Compose
+pub mod Cut
 pub mod Feeding

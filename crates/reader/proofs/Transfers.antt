@@ -6,7 +6,7 @@ use mathlib.Core.Option.{Option, none, some}
 use Prim.Native.Nat.{ℕ, zero, suc, _+_, _-_, _*_, _/_, _≤_, _<_}
 use native.Mathlib.Omega.{arith}
 use lib.ListN.{length, take, drop, length-append, length-drop, length-replicate, take-append-drop, List·getD-append, List·getD-eq-default}
-use lib.Seq.{getD-append-add, getD-take, length-take-le, take-at, take-take}
+use lib.Seq.{getD-append-add, getD-take, length-take-le, take-append-le, take-at, take-take}
 use lib.Dec.{eqb, leb}
 use borrow.Author.Tests.{eq-eqb, eqb-false, eqb-true, le-leb, leb-false, leb-true, lt-leb, ne-eqb}
 use Rattle.formula.specs.Text.{byte-at, half-at, word-at, long-at, zeros}
@@ -336,6 +336,27 @@ only b (wrong-field k) s =
     let p = owes-on b k (omega arith) (s .1) in
     told-same (wrong-field k) (transfer-of b) (λ f q. let z : _≡_ {A = ℕ} 0 1 = cc in omega arith)
     (ended-is b (WrongField k) (wrong-by b k (p .0) (p .1) l (s .2) (is-some (head-at b (node-size * k))) refl))
+
+-- ---- a wrong field and bytes left over are told whatever comes later
+
+same-nodes : (b more : List ℕ) (k : ℕ) → node-size * k ≤ length b → nodes k (b ++ more) ≡ nodes k b
+same-nodes b more k h = take-append-le (node-size * k) b more h
+
+pub wrong-stays : (b more : List ℕ) (k : ℕ) → transfer-of b ≡ wrong-field k → transfer-of (b ++ more) ≡ wrong-field k
+wrong-stays b more k e =
+    let s = subst (λ (X : Transfer). Says b X) e (says b) in
+    let l = s .0 in
+    only (b ++ more) (wrong-field k) (
+      omega (arith, length-append b more),
+      subst Unfinished (sym (same-nodes b more k (omega arith))) (s .1),
+      subst Spoilt (sym (same-nodes b more (suc k) l)) (s .2),
+    )
+
+pub left-over-stays : (b more : List ℕ) (k : ℕ) → transfer-of b ≡ left-over k → transfer-of (b ++ more) ≡ left-over k
+left-over-stays b more k e =
+    let s = subst (λ (X : Transfer). Says b X) e (says b) in
+    let l = s .1 in
+    only (b ++ more) (left-over k) (subst Is-formula (sym (same-nodes b more k (omega arith))) (s .0), omega (arith, length-append b more))
 
 -- ---- what operators ask for
 
