@@ -117,6 +117,48 @@ fn fault(formula: &[u8], names: &[u8]) -> (Refusal, Option<u64>) {
     (compiled.refusal, compiled.node)
 }
 
+/// The bytes with another one at a place.
+fn with(bytes: &[u8], at: usize, byte: u8) -> Vec<u8> {
+    let mut bytes = bytes.to_vec();
+    bytes[at] = byte;
+    bytes
+}
+
+/// The head of a Min of so many arguments.
+fn minimum(count: u16) -> Vec<u8> {
+    let [low, high] = count.to_le_bytes();
+    with(&with(&node(7, 11, 0, 0, &[]), 2, low), 3, high)
+}
+
+/// Files cut and damaged in transfer: the refusal's number and its node.
+#[test]
+fn transfers() {
+    let (f, one, none) = (flight(), symbol(0), vec![9; 16]);
+    let told = |formula: &[u8], names: &[u8]| {
+        let (refusal, node) = fault(formula, names);
+        (refusal.number(), node)
+    };
+    for (count, node) in [(0, 0), (5, 0), (16, 1), (40, 2), (128, 8), (143, 8)] {
+        assert_eq!(told(&f[..count], NAMES), (12, Some(node)));
+    }
+    assert_eq!(told(&f[..40], b"a:p,"), (12, Some(2)));
+    assert_eq!(told(&f, b"a:p,"), (3, None));
+    assert_eq!(told(&[&f[..], &[0]].concat(), NAMES), (13, Some(9)));
+    assert_eq!(told(&[&f[..], &one].concat(), NAMES), (13, Some(9)));
+    assert_eq!(told(&with(&f, 48, 9), NAMES), (2, Some(3)));
+    assert_eq!(told(&with(&f, 48, 9)[..70], NAMES), (2, Some(3)));
+    assert_eq!(told(&with(&f, 48, 9)[..50], NAMES), (12, Some(3)));
+    assert_eq!(told(&with(&f, 2, 3), NAMES), (2, Some(0)));
+    let three = one.repeat(3);
+    assert_eq!(told(&[minimum(2), three.clone()].concat(), NAMES), (13, Some(3)));
+    assert_eq!(told(&[minimum(4), three.clone()].concat(), NAMES), (12, Some(4)));
+    assert_eq!(told(&[minimum(65535), three].concat(), NAMES), (12, Some(4)));
+    assert_eq!(told(&[minimum(65535), one.repeat(2), none, one.clone()].concat(), NAMES), (2, Some(3)));
+    assert_eq!(told(&minimum(65535).repeat(256), NAMES), (12, Some(256)));
+    let deep = [node(3, 1, 0, 0, &[vec![]]).repeat(200), one].concat();
+    assert_eq!(told(&deep[..deep.len() - 1], NAMES), (12, Some(200)));
+}
+
 #[test]
 fn faults() {
     use Refusal::{EndedEarly, LeftOver, Names, WrongField};
