@@ -3,3 +3,4 @@ pub mod Extremes
 pub mod Opcodes
 pub mod Done
 pub mod Stores
+pub mod Once

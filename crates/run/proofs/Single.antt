@@ -180,15 +180,21 @@ few-counted inputs b budget at regs regs′ r e =
     let c = ap (λ (x : Machine.Reply). x .count) e in
     omega (arith, w, c)
 
--- the run goes on after it, and it counts
+-- the run goes on after it
+pub answered-reaches : (inputs : List Float) (b : List ℕ) (regs : List Float) {regs′ : List Float} (budget at d : ℕ) (v : Float) → 0 < budget → at < code-count b → finite v ≡ true
+    → effect-at inputs b at (v ∷ []) regs ≡ Work (Value v) → d ≡ destination-at b at → regs′ ≡ set regs d v → Reaches inputs b budget at (v ∷ []) regs (budget - 1) (at + 1) [] regs′
+answered-reaches inputs b regs {regs′} budget at d v l h f e ed es =
+    let T : Progressed b at (machine-effect inputs b at (v ∷ []) regs) (P.Next (at + 1)) regs regs′ = value-done inputs b at (v ∷ []) regs (sym e) v d refl f ed es in
+    reaches-next inputs b (reaches-start inputs b budget at (v ∷ []) regs) (code-count b) (at + 1) l h refl refl T
+
+-- and it counts
 pub answered-reply : (inputs : List Float) (b : List ℕ) (regs regs′ regs″ : List Float) (budget at d : ℕ) (v : Float) (r : Reply) → 0 < budget → at < code-count b
     → finite v ≡ true → effect-at inputs b at (v ∷ []) regs ≡ Work (Value v) → d ≡ destination-at b at → regs′ ≡ set regs d v
     → reply-of b r regs″ ≡ steps-at inputs b (budget - 1) (at + 1) [] regs′
     → reply-of b (record { answer = r .answer; count = r .count + 1; state = r .state }) regs″ ≡ steps-at inputs b budget at (v ∷ []) regs
 unfolding after
 answered-reply inputs b regs regs′ regs″ budget at d v r l h f e ed es er =
-    let T : Progressed b at (machine-effect inputs b at (v ∷ []) regs) (P.Next (at + 1)) regs regs′ = value-done inputs b at (v ∷ []) regs (sym e) v d refl f ed es in
-    let R = reaches-next inputs b (reaches-start inputs b budget at (v ∷ []) regs) (code-count b) (at + 1) l h refl refl T in
+    let R = answered-reaches inputs b regs budget at d v l h f e ed es in
     let c : r .count + 1 ≡ (budget - (budget - 1)) + r .count = omega arith in
     ap (λ (n : ℕ). record { answer = answer-of b (r .answer); count = n; state = reply-of b r regs″ .state; registers = regs″ }) c
     ∙ ap (after (budget - (budget - 1))) er ∙ R .rest

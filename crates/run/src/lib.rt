@@ -3,7 +3,7 @@ ghost use mathlib.Core.Path.{_≡_};
 ghost use mathlib.Core.Bool.{true, false, not, _||_};
 ghost use mathlib.Core.List.{[], _∷_};
 ghost use mathlib.Core.Option.{none, some};
-ghost use Prim.Native.Nat.{_<_, _≤_};
+ghost use Prim.Native.Nat.{_+_, _<_, _≤_};
 ghost use lib.ListN.{length};
 ghost use lib.Dec.{ltb};
 ghost use lib.Ieee.{binary64};
@@ -20,7 +20,7 @@ ghost use Rattle.work.specs.declared.Outcome.the-variants.{Value};
 ghost use Rattle.instruction.specs.Effects.{effect-at};
 ghost use Rattle.instruction.specs.declared.Effect.the-variants.{Work};
 ghost use Rattle.run.specs.Views.{Hands-back, Writable, answer-of, pending-of, refusal-number, reply-of, state-of, supplied-of};
-ghost use Rattle.run.specs.Calls.{Finished, Known-place, Reaches, Results, putting, refusing, replying, resume-at, run-at, Long-enough, Settled, single, stale-at, steps-at, stopping, supplying, unasked, unfit-at};
+ghost use Rattle.run.specs.Calls.{after, Finished, Known-place, Reaches, Results, putting, refusing, replying, resume-at, run-at, Long-enough, Settled, single, stale-at, steps-at, stopping, supplying, unasked, unfit-at};
 use instruction::Effect;
 use instruction::Progress;
 use instruction::common::NOT_DONE;
@@ -122,9 +122,9 @@ fn stopped(t: Progress, code: usize, done: usize, at: usize, kept: Kept, none: K
 }
 
 // Where a run stands, and what is left of its budget.
-struct Place {
-    at: usize,
-    left: usize,
+pub struct Place {
+    pub at: usize,
+    pub left: usize,
 }
 
 // Common instructions from a position on, nothing kept: to the code's end, the budget's, or the first that is another.
@@ -156,7 +156,7 @@ fn straight(
 }
 
 // The same to a question, a Domain, Hill or the density. Where slots are missing, nothing is done.
-fn along(
+pub fn along(
     p: &[u8],
     inputs: &[f64],
     regs: &mut [f64],
@@ -252,7 +252,7 @@ fn all_finite(xs: &[f64]) -> bool
 }
 
 // "5 at `root`, input count wrong, too few registers, an input not finite, or budget 0"
-fn unfit(p: &[u8], inputs: &[f64], regs: &[f64], budget: usize) -> bool
+pub fn unfit(p: &[u8], inputs: &[f64], regs: &[f64], budget: usize) -> bool
     ensures { λ r. ⌜ r ≡ unfit-at (now (inputs .entry)) (now (p .entry)) (now (regs .entry)) budget ⌝ }
 {
     let count = word(p, INPUTS_AT);
@@ -478,6 +478,31 @@ fn write_place(p: &[u8], answer: Answer, path: &mut [u8])
         Answer::Elementary(f, x) => {}
         Answer::Power(x, y) => {}
         Answer::Spent => {}
+    }
+}
+
+// The end of a call that came to a place, nothing kept, with so many instructions completed; and the text of its place.
+pub fn rest(
+    p: &[u8],
+    inputs: &[f64],
+    regs: &mut [f64],
+    path: &mut [u8],
+    done: usize,
+    s: Place,
+) -> Reply
+    requires { ⌜ (8192 ≤ length (now path)) × (done + s .left < 18446744073709551616) ⌝ }
+    ensures reply { λ r. ⌜ reply-of (now (p .entry)) r (now (regs .exit)) ≡ after done (steps-at (now (inputs .entry)) (now (p .entry)) (s .left) (s .at) [] (now (regs .entry))) ⌝ }
+    ensures place { λ r. ⌜ (valid (program-at (now (p .entry))) ≡ true → now (path .exit) ≡ placed (place-of (answer-of (now (p .entry)) (r .answer))) (now (path .entry))) ⌝ }
+{
+    let none = work::fresh();
+    let r = steps(p, inputs, regs, s.left, s.at, none);
+    let answer = r.answer;
+    let state = r.state;
+    write_place(p, answer, path);
+    Reply {
+        answer: answer,
+        count: done + r.count,
+        state: state,
     }
 }
 

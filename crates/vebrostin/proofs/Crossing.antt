@@ -58,7 +58,7 @@ module _ (at : ℕ) (q : List ℕ) where
       rw (h .0, h .1 .0, h .1 .1 .0, h .1 .1 .1 .0, h .1 .1 .1 .1 .0, h .1 .1 .1 .1 .1 .0, h .1 .1 .1 .1 .1 .1 .0, h .1 .1 .1 .1 .1 .1 .1 .0, h .1 .1 .1 .1 .1 .1 .1 .1 .0)
   kept-back (a ∷ b ∷ c ∷ d ∷ e ∷ f ∷ g ∷ i ∷ j ∷ k ∷ ks) l h = absurd (omega arith)
 
-question-back : (o : Option Question) → Askable o → Arguments-back o → (rest : List ℕ)
+pub question-back : (o : Option Question) → Askable o → Arguments-back o → (rest : List ℕ)
     → (let c = question-cells o ++ rest in question-in (getD c 0 0) (getD c 1 0) (getD c 2 0) ≡ o)
 question-back none a h rest = refl
 question-back (some (elementary f x)) a h rest =

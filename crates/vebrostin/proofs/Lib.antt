@@ -2,3 +2,4 @@ pub mod Written
 pub mod Asking
 pub mod Crossing
 pub mod Outcomes
+pub mod Straight

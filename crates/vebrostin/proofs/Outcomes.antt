@@ -1,16 +1,18 @@
 -- What a call leaves, from what run and resume promise.
 use mathlib.Core.Path.{_≡_, refl, sym, ap, _∙_, subst}
 use mathlib.Core.Bool.{Bool, true, false, true≢false}
-use mathlib.Core.List.{List, [], _∷_, _++_}
+use mathlib.Core.List.{List, [], _∷_, _++_, append-assoc}
 use mathlib.Core.Logic.{⊎-elim}
-use mathlib.Core.Option.{Option}
+use mathlib.Core.Option.{Option, none}
 use Prim.Native.Nat.{ℕ, _<_, _≤_}
 use lib.ListN.{length, drop, set}
 use lib.Ieee.{Float}
+use native.Mathlib.Omega.{arith}
 use borrow.Author.Tests.{le-ltb, lt-ltb, ltb-false}
 use Rattle.refusals.specs.Numbers.{no-program, slice-too-short}
-use Rattle.formula.specs.Path.{path-room, placed}
+use Rattle.formula.specs.Path.{Path, path-room, placed}
 use Rattle.formula.proofs.Tests.{or-none}
+use Rattle.meaning.specs.Work.{Question}
 use Rattle.machine.specs.Program.{valid}
 use Rattle.machine.specs.Machine.{place-of}
 use Rattle.machine.specs.Machine as Machine
@@ -28,10 +30,12 @@ use Rattle.run.specs.declared.Reply.{Reply}
 use Rattle.run.specs.declared.State.{State}
 use Rattle.run.specs.Views.{Hands-back, answer-of, pending-of, reply-of, state-of}
 use Rattle.run.specs.Calls.{Settled, resume-at, run-at}
+use Rattle.run.proofs.Plain.{plain}
 use Rattle.run.proofs.Whole.{resume-10}
-use Rattle.vebrostin.specs.Cells.{Askable, number-of, state-cells, state-in, value-cell}
-use Rattle.vebrostin.specs.Calls.{Carries, Compiles, Derives, Leaves, Outcome, Settles, after, compile-node, compile-number, compile-outcome, derive-node, derive-number, derive-outcome, is-refused, node-place, report-length, report-short, reported, resume-outcome, run-outcome, short, state-length, told, untouched, with-room, written}
+use Rattle.vebrostin.specs.Cells.{Arguments-back, Askable, number-of, question-cells, state-cells, state-in, value-cell}
+use Rattle.vebrostin.specs.Calls.{Carries, Compiles, Derives, Leaves, Outcome, Settles, after, compile-node, compile-number, compile-outcome, derive-node, derive-number, derive-outcome, Ends, is-refused, node-place, report-length, report-short, reported, resume-outcome, run-outcome, short, state-length, told, untouched, with-room, written}
 use Rattle.vebrostin.proofs.Asking.{resume-asks, run-asks}
+use Rattle.vebrostin.proofs.Crossing.{state-back}
 
 -- ---- the numbers of an answer don't go by the program
 
@@ -70,18 +74,46 @@ handed r (Answer.Refused n) st e t h = h n e
 
 -- ---- one reply
 
-module _ (b : List ℕ) (r : Reply) (regs′ : List Float) (path cells′ path′ report : List ℕ) (n : ℕ)
-    (hn : n ≡ number-of (answer-of [] (r .answer)))
-    (hp : path′ ≡ placed (place-of (answer-of b (r .answer))) path) where
-  leaves : Leaves (told (reply-of b r regs′) cells′ path report) n cells′ regs′ path′ report
-  leaves = (hn ∙ same-number b (r .answer), refl, refl, hp, refl)
-
--- the sixteen cells are those of the machine's reply
-shown : (b : List ℕ) (r : Reply) (regs′ : List Float) (cells cells′ : List ℕ)
+-- the number, the cells and the registers are those of the machine's reply
+pub reply-ends : (b : List ℕ) (r : Reply) (regs′ : List Float) (R : Machine.Reply) (cells cells′ : List ℕ) (n : ℕ) → reply-of b r regs′ ≡ R
+    → n ≡ number-of (answer-of [] (r .answer))
     → cells′ ≡ (state-cells (state-of (r .state)) ++ (r .count ∷ value-cell (answer-of [] (r .answer)) ∷ [])) ++ drop 16 cells
-    → cells′ ≡ written (reply-of b r regs′) cells
-shown b r regs′ cells cells′ h =
-    h ∙ ap (λ (v : ℕ). (state-cells (state-of (r .state)) ++ (r .count ∷ v ∷ [])) ++ drop 16 cells) (same-value b (r .answer))
+    → (Askable (pending-of (r .state .pending)) → state-in cells′ ≡ state-of (r .state)) → Ends R n cells cells′ regs′
+reply-ends b r regs′ R cells cells′ n e hn hc hs =
+    record {
+      number = hn ∙ same-number b (r .answer) ∙ ap (λ (x : Machine.Reply). number-of (x .answer)) e;
+      left = hc ∙ ap (λ (v : ℕ). (state-cells (state-of (r .state)) ++ (r .count ∷ v ∷ [])) ++ drop 16 cells) (same-value b (r .answer))
+          ∙ ap (λ (x : Machine.Reply). written x cells) e;
+      registers = ap (λ (x : Machine.Reply). x .registers) e;
+      state = λ a. hs (subst (λ (x : Machine.Reply). Askable (x .state .pending)) (sym e) a) ∙ ap (λ (x : Machine.Reply). x .state) e;
+    }
+
+-- and so is the path slice
+pub reply-place : (b : List ℕ) (r : Reply) (regs′ : List Float) (R : Machine.Reply) (path path′ : List ℕ) → reply-of b r regs′ ≡ R
+    → path′ ≡ placed (place-of (answer-of b (r .answer))) path → path′ ≡ placed (place-of (R .answer)) path
+reply-place b r regs′ R path path′ e hp = hp ∙ ap (λ (x : Machine.Reply). placed (place-of (x .answer)) path) e
+
+-- a reply that keeps nothing
+module _ (R : Machine.Reply) (a : Machine.Answer) (count at : ℕ) (o : Option Question) (regs : List Float) (e : plain a count at o regs ≡ R) where
+  abbrev row : List ℕ → ℕ → List ℕ → List ℕ
+  row q v cells = (at ∷ 0 ∷ 0 ∷ 0 ∷ 0 ∷ 0 ∷ 0 ∷ 0 ∷ 0 ∷ 0 ∷ 0 ∷ q ++ (count ∷ v ∷ [])) ++ drop 16 cells
+
+  pub plain-ends : (n v : ℕ) (q cells cells′ : List ℕ) → n ≡ number-of a → v ≡ value-cell a → q ≡ question-cells o → Arguments-back o → cells′ ≡ row q v cells
+      → Ends R n cells cells′ regs
+  plain-ends n v q cells cells′ en ev eq back ec =
+      let w : cells′ ≡ written (plain a count at o regs) cells = ec ∙ ap (λ (x : List ℕ). row x v cells) eq ∙ ap (λ (x : ℕ). row (question-cells o) x cells) ev in
+      record {
+        number = en ∙ ap (λ (x : Machine.Reply). number-of (x .answer)) e;
+        left = w ∙ ap (λ (x : Machine.Reply). written x cells) e;
+        registers = ap (λ (x : Machine.Reply). x .registers) e;
+        state = λ k.
+            ap state-in (w ∙ append-assoc (state-cells (plain a count at o regs .state)) (count ∷ value-cell a ∷ []) (drop 16 cells))
+            ∙ state-back (plain a count at o regs .state) (omega arith) tt (subst (λ (x : Machine.Reply). Askable (x .state .pending)) (sym e) k) back _
+            ∙ ap (λ (x : Machine.Reply). x .state) e;
+      }
+
+  pub plain-place : (path : List ℕ) → place-of a ≡ none → path ≡ placed (place-of (R .answer)) path
+  plain-place path z = ap (λ (x : Option Path). placed x path) (sym z) ∙ ap (λ (x : Machine.Reply). placed (place-of (x .answer)) path) e
 
 pub enough : (cells report : List ℕ) → short cells report ≡ false → state-length ≤ length cells
 enough cells report h = ltb-false (length cells) state-length (or-none (report-short report) _ h .1)
@@ -155,22 +187,14 @@ module _ (inputs : List Float) (b : List ℕ) (budget : ℕ) (regs : List Float)
   unfolding run-outcome
   run-short h = (nothing-left cells regs path report _ h, λ l. absurd (true≢false (sym h ∙ l)))
 
-  module _ (r : Reply) (regs′ : List Float) (cells′ path′ : List ℕ) (n : ℕ)
-      (h : short cells report ≡ false)
-      (hr : reply-of b r regs′ ≡ run-at inputs b (length path) budget regs)
-      (hp : path′ ≡ placed (place-of (answer-of b (r .answer))) path)
-      (hc : cells′ ≡ (state-cells (state-of (r .state)) ++ (r .count ∷ value-cell (answer-of [] (r .answer)) ∷ [])) ++ drop 16 cells)
-      (hs : Askable (pending-of (r .state .pending)) → state-in cells′ ≡ state-of (r .state))
-      (hn : n ≡ number-of (answer-of [] (r .answer))) where
-    pub run-leaves : Leaves (run-outcome inputs b budget regs cells path report) n cells′ regs′ path′ report × Carries cells′ report (run-at inputs b (length path) budget regs)
-    unfolding run-outcome
-    run-leaves = (
-      subst (λ (o : Outcome). Leaves o n cells′ regs′ path′ report)
-          (ap (λ (x : List ℕ). told (reply-of b r regs′) x path report) (shown b r regs′ cells cells′ hc)
-          ∙ ap (λ (x : Machine.Reply). told x (written x cells) path report) hr ∙ roomy (short cells report) _ _ h)
-          (leaves b r regs′ path cells′ path′ report n hn hp),
-      λ l. hs (subst (λ (x : Machine.Reply). Askable (x .state .pending)) (sym hr) (run-asks inputs b (length path) budget regs .0)) ∙ ap (λ (x : Machine.Reply). x .state) hr,
-    )
+  pub run-ends : (regs′ : List Float) (cells′ path′ : List ℕ) (n : ℕ) → short cells report ≡ false → (let R = run-at inputs b (length path) budget regs in
+      Ends R n cells cells′ regs′ → path′ ≡ placed (place-of (R .answer)) path
+      → Leaves (run-outcome inputs b budget regs cells path report) n cells′ regs′ path′ report × Carries cells′ report R)
+  unfolding run-outcome
+  run-ends regs′ cells′ path′ n h E hp = (
+    subst (λ (o : Outcome). Leaves o n cells′ regs′ path′ report) (roomy (short cells report) _ _ h) (E .number, E .left, E .registers, hp, refl),
+    λ l. E .state (run-asks inputs b (length path) budget regs .0),
+  )
 
 -- ---- resume
 
@@ -193,6 +217,17 @@ module _ (inputs : List Float) (b : List ℕ) (budget : ℕ) (given : Option Flo
         λ f. ap (λ (x : Machine.Reply). x .state) e,
       )
 
+  module _ (regs′ : List Float) (cells′ path′ : List ℕ) (n : ℕ) (h : short cells report ≡ false)
+      (E : Ends answered n cells cells′ regs′)
+      (f : is-refused (answered .answer) ≡ false)
+      (hp : path′ ≡ placed (place-of (answered .answer)) path) where
+    pub resume-ends : Leaves (resume-outcome inputs b budget given regs cells path report) n cells′ regs′ path′ report × Carries cells′ report answered
+    unfolding resume-outcome
+    resume-ends = (
+      subst (λ (o : Outcome). Leaves o n cells′ regs′ path′ report) (roomy (short cells report) _ _ h) (E .number, E .left ∙ rw f, E .registers, hp, refl),
+      λ l. E .state (resume-asks inputs b (length path) budget given (state-in cells) regs f .0),
+    )
+
   module _ (r : Reply) (regs′ : List Float) (cells′ path′ : List ℕ) (n : ℕ)
       (h : short cells report ≡ false)
       (st : State)
@@ -203,19 +238,13 @@ module _ (inputs : List Float) (b : List ℕ) (budget : ℕ) (given : Option Flo
     is-answered : reply-of b r regs′ ≡ answered
     is-answered = hr ∙ ap (λ (x : Machine.State). resume-at inputs b (length path) budget given x regs) hs
 
-    resume-leaves : cells′ ≡ after (reply-of b r regs′) cells → Leaves (resume-outcome inputs b budget given regs cells path report) n cells′ regs′ path′ report
-    unfolding resume-outcome
-    resume-leaves e =
-        subst (λ (o : Outcome). Leaves o n cells′ regs′ path′ report)
-        (ap (λ (x : List ℕ). told (reply-of b r regs′) x path report) e
-        ∙ ap (λ (x : Machine.Reply). told x (after x cells) path report) is-answered
-        ∙ roomy (short cells report) _ _ h)
-        (leaves b r regs′ path cells′ path′ report n hn hp)
-
     pub resume-refused : is-refused (answer-of [] (r .answer)) ≡ true → Hands-back st r → cells′ ≡ cells
         → Leaves (resume-outcome inputs b budget given regs cells path report) n cells′ regs′ path′ report × Carries cells′ report answered
+    unfolding resume-outcome
     resume-refused t hb hc = (
-      resume-leaves (hc ∙ rw (sym (same-refusal b (r .answer)), t)),
+      subst (λ (o : Outcome). Leaves o n cells′ regs′ path′ report)
+          (ap (λ (x : Machine.Reply). told x (after x cells) path report) is-answered ∙ roomy (short cells report) _ _ h)
+          (hn ∙ same-number b (r .answer), hc ∙ rw (sym (same-refusal b (r .answer)), t), refl, hp, refl),
       λ l. ap state-in hc ∙ sym hs ∙ ap state-of (sym (handed r (r .answer) st refl t hb)) ∙ ap (λ (x : Machine.Reply). x .state) is-answered,
     )
 
@@ -224,8 +253,6 @@ module _ (inputs : List Float) (b : List ℕ) (budget : ℕ) (given : Option Flo
         → (Askable (pending-of (r .state .pending)) → state-in cells′ ≡ state-of (r .state))
         → Leaves (resume-outcome inputs b budget given regs cells path report) n cells′ regs′ path′ report × Carries cells′ report answered
     resume-goes-on t hc ha =
-        let f : is-refused (answer-of b (r .answer)) ≡ false = sym (same-refusal b (r .answer)) ∙ t in
-        let a : Askable (answered .state .pending) = resume-asks inputs b (length path) budget given (state-in cells) regs (ap (λ (x : Machine.Reply). is-refused (x .answer)) (sym is-answered) ∙ f) .0 in (
-          resume-leaves (shown b r regs′ cells cells′ hc ∙ rw f),
-          λ l. ha (subst (λ (x : Machine.Reply). Askable (x .state .pending)) (sym is-answered) a) ∙ ap (λ (x : Machine.Reply). x .state) is-answered,
-        )
+        resume-ends regs′ cells′ path′ n h (reply-ends b r regs′ answered cells cells′ n is-answered hn hc ha)
+        (ap (λ (x : Machine.Reply). is-refused (x .answer)) (sym is-answered) ∙ sym (same-refusal b (r .answer)) ∙ t)
+        (reply-place b r regs′ answered path path′ is-answered hp)

@@ -1,16 +1,18 @@
 -- What the exported functions answer and leave.
 use mathlib.Core.Path.{_≡_}
 use mathlib.Core.Bool.{Bool, true, false, cond, _||_}
-use mathlib.Core.List.{List, _++_}
+use mathlib.Core.List.{List, [], _∷_, _++_}
 use mathlib.Core.Logic.{_⊎_}
-use mathlib.Core.Option.{Option, none}
-use Prim.Native.Nat.{ℕ}
-use lib.ListN.{length, drop, set}
+use mathlib.Core.Option.{Option, none, some}
+use Prim.Native.Nat.{ℕ, _<_}
+use lib.ListN.{length, drop, getD, set}
 use lib.Dec.{ltb}
 use lib.Ieee.{Float}
+use Rattle.arithmetic.specs.Value.{finite}
 use Rattle.refusals.specs.Numbers.{slice-too-short}
 use Rattle.formula.specs.Path.{placed}
 use Rattle.machine.specs.Machine.{Answer, Reply, place-of, refused, gives, asks, spent, outside}
+use Rattle.layout.specs.Decode.{code-count}
 use Rattle.layout.specs.Image.{image}
 use Rattle.machine.specs.Compile as Compile
 use Rattle.compile.specs.Entry as Entry
@@ -20,8 +22,11 @@ use Rattle.derivative.specs.Derive as Derive
 use Rattle.derive.specs.Outcome as Entered
 use Rattle.derive.specs.declared.Answer as DeriveAnswer
 use Rattle.derive.specs.declared.Answer.the-variants as Derived
-use Rattle.run.specs.Calls.{Settled, resume-at, run-at}
-use Rattle.vebrostin.specs.Cells.{number-of, outcome-cells, state-cells, state-in}
+use Rattle.work.specs.declared.Outcome.the-variants.{Value}
+use Rattle.instruction.specs.Effects.{effect-at}
+use Rattle.instruction.specs.declared.Effect.the-variants.{Work}
+use Rattle.run.specs.Calls.{Settled, resume-at, run-at, stale-at}
+use Rattle.vebrostin.specs.Cells.{Askable, kept-in, number-of, outcome-cells, state-cells, state-in}
 
 -- ---- numbers that cross in slices
 
@@ -132,6 +137,25 @@ is-refused (refused n) = true
 -- a reply in the first sixteen cells; what follows them stays
 abbrev pub written : Reply → List ℕ → List ℕ
 written r cells = (state-cells (r .state) ++ outcome-cells r) ++ drop 16 cells
+
+-- a call ended with this reply: the number answered, the cells before and after, and the registers after
+pub record Ends (r : Reply) (n : ℕ) (cells cells′ : List ℕ) (regs′ : List Float) : Type 0 where
+  pub number : n ≡ number-of (r .answer)
+  pub left : cells′ ≡ written r cells
+  pub registers : regs′ ≡ r .registers
+  pub state : Askable (r .state .pending) → state-in cells′ ≡ r .state
+
+-- the cells hold a question in these numbers
+abbrev pub Pends : List ℕ → List ℕ → Type 0
+Pends cells q = getD cells 11 0 ∷ getD cells 12 0 ∷ getD cells 13 0 ∷ [] ≡ q
+
+-- the value answers the question that the cells hold, which is the only one of its instruction
+pub record Answers (b : List ℕ) (regs : List Float) (cells : List ℕ) (v : Float) : Type 0 where
+  pub there : getD cells 0 0 < code-count b
+  pub none-kept : kept-in cells ≡ []
+  pub fresh : (inputs : List Float) → stale-at inputs b regs (getD cells 0 0) [] (state-in cells .pending) (some v) ≡ false
+  pub result : (inputs : List Float) → effect-at inputs b (getD cells 0 0) (v ∷ []) regs ≡ Work (Value v)
+  pub is-finite : finite v ≡ true
 
 -- the cells after a resume: "hand the state back unaltered", count and value too
 abbrev pub after : Reply → List ℕ → List ℕ

@@ -1,30 +1,39 @@
 // The library for C and Rust: compile, derive, run and resume over numbers and slices, each under a C name. include/vebrostin.h declares
 // them. No caller owes anything but slices that are there.
 ghost use mathlib.Core.Path.{_≡_};
-ghost use mathlib.Core.Bool.{cond};
+ghost use mathlib.Core.Bool.{true, cond, _||_};
 ghost use mathlib.Core.List.{[], _∷_, _++_};
 ghost use mathlib.Core.Option.{none, some};
-ghost use Prim.Native.Nat.{_≤_, min};
+ghost use Prim.Native.Nat.{_+_, _<_, _≤_, min};
 ghost use lib.ListN.{drop, getD, length};
 ghost use lib.Dec.{ltb};
 ghost use Rattle.formula.specs.Text.{word-at};
+ghost use Rattle.formula.specs.Path.{placed};
 ghost use Rattle.machine.specs.Program.{valid};
-ghost use Rattle.layout.specs.Decode.{program-at};
+ghost use Rattle.machine.specs.Machine.{place-of};
+ghost use Rattle.layout.specs.Decode.{code-count, program-at};
 ghost use Rattle.work.specs.View.{kept-values, places};
 ghost use Rattle.run.specs.Views.{answer-of, pending-of, state-of, supplied-of};
-ghost use Rattle.run.specs.Calls.{resume-at, run-at};
+ghost use Rattle.run.specs.Calls.{after, resume-at, run-at, steps-at, unfit-at};
 ghost use Rattle.vebrostin.specs.Cells.{Arguments-back, Askable, Comes-back, Held, bits, kept-in, number-of, padded, question-cells, question-in, state-cells, state-in, value-at, value-cell};
-ghost use Rattle.vebrostin.specs.Calls.{Carries, Compiles, Derives, Leaves, compile-node, compile-number, compile-outcome, derive-node, derive-number, derive-outcome, is-refused, resume-outcome, run-outcome, Settles, short};
+ghost use Rattle.vebrostin.specs.Calls.{Answers, Carries, Compiles, Derives, Ends, Leaves, Pends, compile-node, compile-number, compile-outcome, derive-node, derive-number, derive-outcome, is-refused, resume-outcome, run-outcome, Settles, short};
 use floats::value::bits_of;
 use floats::value::of_bits;
+use instruction::value_at;
 use layout::CODE_AT;
+use layout::HEADER_SIZE;
 use layout::INPUTS_AT;
 use layout::REGISTERS_AT;
+use layout::RESULT_AT;
+use layout::SLOT_SIZE;
+use reader::known_word;
+use reader::word;
 use refusals::NO_PROGRAM;
 use refusals::OUTSIDE_DOMAIN;
 use refusals::SLICE_TOO_SHORT;
 use run::Answer;
 use run::Pending;
+use run::Place;
 use run::Reply;
 use run::State;
 use run::Supplied;
@@ -392,6 +401,132 @@ fn is_refused(given: Answer) -> bool
     }
 }
 
+// ---- calls that keep nothing, straight on the cells
+
+// Whether 1 or 5 refuses a call.
+fn is_early(
+    program: &[u8],
+    inputs: &[f64],
+    registers: &[f64],
+    room: usize,
+    budget: usize,
+) -> bool
+    ensures { λ r. ⌜ r ≡ (ltb room 8192 || unfit-at (now (inputs .entry)) (now (program .entry)) (now (registers .entry)) budget) ⌝ }
+{
+    room < 8192 || run::unfit(program, inputs, registers, budget)
+}
+
+// Ends a call that came to an instruction which isn't done at once: a question, or what takes the long way.
+fn stops(
+    program: &[u8],
+    inputs: &[f64],
+    registers: &mut [f64],
+    path: &mut [u8],
+    cells: &mut [u64],
+    count: usize,
+    s: Place,
+) -> usize
+    requires { ⌜ (16 ≤ length (now cells)) × (8192 ≤ length (now path)) × (count + s .left < 18446744073709551616) × (s .at < code-count (now program)) × (s .at < 4294967296) × (0 < s .left) ⌝ }
+    ensures reply { λ r. ⌜ Ends (after count (steps-at (now (inputs .entry)) (now (program .entry)) (s .left) (s .at) [] (now (registers .entry)))) r (now (cells .entry)) (now (cells .exit)) (now (registers .exit)) ⌝ }
+    ensures place { λ r. ⌜ (valid (program-at (now (program .entry))) ≡ true → now (path .exit) ≡ placed (place-of (after count (steps-at (now (inputs .entry)) (now (program .entry)) (s .left) (s .at) [] (now (registers .entry))) .answer)) (now (path .entry))) ⌝ }
+{
+    let slot = HEADER_SIZE + SLOT_SIZE * s.at;
+    if slot + SLOT_SIZE <= program.len() {
+        let op = program[slot];
+        let x = value_at(registers, known_word(program, slot + 8));
+        let y = value_at(registers, known_word(program, slot + 12));
+        let power = work::puts_power(op, x, y);
+        if power {
+            let q = question_cells(Pending::Power(x, y));
+            put_plain(cells, s.at, q, count, 0);
+            return 100;
+        }
+        let function = work::puts_function(op);
+        if function {
+            let q = question_cells(Pending::Elementary(op - 20, x));
+            put_plain(cells, s.at, q, count, 0);
+            return 100;
+        }
+    }
+    let r = run::rest(program, inputs, registers, path, count, s);
+    let state = r.state;
+    let given = r.answer;
+    put_reply(cells, state, given, r.count);
+    number_of(given)
+}
+
+// Ends a call that came to a place with so many instructions completed.
+fn ends(
+    program: &[u8],
+    inputs: &[f64],
+    registers: &mut [f64],
+    path: &mut [u8],
+    cells: &mut [u64],
+    count: usize,
+    s: Place,
+) -> usize
+    requires { ⌜ (16 ≤ length (now cells)) × (8192 ≤ length (now path)) × (count + s .left < 18446744073709551616) ⌝ }
+    ensures reply { λ r. ⌜ Ends (after count (steps-at (now (inputs .entry)) (now (program .entry)) (s .left) (s .at) [] (now (registers .entry)))) r (now (cells .entry)) (now (cells .exit)) (now (registers .exit)) ⌝ }
+    ensures place { λ r. ⌜ (valid (program-at (now (program .entry))) ≡ true → now (path .exit) ≡ placed (place-of (after count (steps-at (now (inputs .entry)) (now (program .entry)) (s .left) (s .at) [] (now (registers .entry))) .answer)) (now (path .entry))) ⌝ }
+{
+    let none = question_cells(Pending::Nothing);
+    let code = word(program, CODE_AT);
+    if code <= s.at {
+        let value = value_at(registers, word(program, RESULT_AT));
+        put_plain(cells, code, none, count, bits_of(value));
+        return 0;
+    }
+    if s.left == 0 {
+        put_plain(cells, s.at, none, count, 0);
+        return 101;
+    }
+    stops(program, inputs, registers, path, cells, count, s)
+}
+
+// Whether the cells hold this question.
+fn is_pending(cells: &[u64], q: Cells) -> bool
+    requires { ⌜ 16 ≤ length (now cells) ⌝ }
+    ensures { λ r. ⌜ (r ≡ true → Pends (now (cells .entry)) (q .question ∷ q .first ∷ q .second ∷ [])) ⌝ }
+{
+    cells[11] == q.question && (cells[12] == q.first && cells[13] == q.second)
+}
+
+// Whether the value is the result of the instruction whose question pends, nothing kept. Where it isn't, the long way
+// tells why.
+fn is_answer(program: &[u8], registers: &[f64], cells: &[u64], value: f64) -> bool
+    requires { ⌜ 16 ≤ length (now cells) ⌝ }
+    ensures { λ r. ⌜ (r ≡ true → Answers (now (program .entry)) (now (registers .entry)) (now (cells .entry)) value) ⌝ }
+{
+    let at = cells[0] as usize;
+    if word(program, CODE_AT) <= at {
+        return false;
+    }
+    let slot = HEADER_SIZE + SLOT_SIZE * at;
+    if program.len() < slot + SLOT_SIZE {
+        return false;
+    }
+    if cells[1] != 0 {
+        return false;
+    }
+    let fine = floats::value::is_finite(value);
+    if fine {
+        let op = program[slot];
+        let x = value_at(registers, known_word(program, slot + 8));
+        let y = value_at(registers, known_word(program, slot + 12));
+        let power = work::puts_power(op, x, y);
+        if power {
+            let q = question_cells(Pending::Power(x, y));
+            return is_pending(cells, q);
+        }
+        let function = work::puts_function(op);
+        if function {
+            let q = question_cells(Pending::Elementary(op - 20, x));
+            return is_pending(cells, q);
+        }
+    }
+    false
+}
+
 // ---- runs
 
 // Whether the cells or the report have fewer numbers than a run needs.
@@ -419,11 +554,13 @@ pub extern "C" fn vebrostin_run(
     if few {
         return SLICE_TOO_SHORT as usize;
     }
-    let r = run::run(program, inputs, registers, path, budget);
-    let state = r.state;
-    let given = r.answer;
-    put_reply(cells, state, given, r.count);
-    number_of(given)
+    let ok = run::goes_on(program, path.len());
+    if ok {
+        return vebrostin_run_unchecked(program, inputs, registers, path, budget, cells, report);
+    }
+    let none = question_cells(Pending::Nothing);
+    put_plain(cells, 0, none, 0, 0);
+    NO_PROGRAM as usize
 }
 
 fn resumed(
@@ -534,11 +671,17 @@ pub extern "C" fn vebrostin_run_unchecked(
     if few {
         return SLICE_TOO_SHORT as usize;
     }
-    let r = run::run_unchecked(program, inputs, registers, path, budget);
-    let state = r.state;
-    let given = r.answer;
-    put_reply(cells, state, given, r.count);
-    number_of(given)
+    let early = is_early(program, inputs, registers, path.len(), budget);
+    if early {
+        let r = run::run_unchecked(program, inputs, registers, path, budget);
+        let state = r.state;
+        let given = r.answer;
+        put_reply(cells, state, given, r.count);
+        return number_of(given);
+    }
+    let code = word(program, CODE_AT);
+    let s = run::along(program, inputs, registers, code, budget, 0);
+    ends(program, inputs, registers, path, cells, budget - s.left, s)
 }
 
 fn resumed_unchecked(
@@ -614,6 +757,20 @@ pub extern "C" fn vebrostin_answer_unchecked(
     ensures state { λ r. ⌜ (Settles (now (program .entry)) (now (path .entry)) (now (cells .entry)) (now (report .entry)) → Carries (now (cells .exit)) (now (report .exit)) (resume-at (now (inputs .entry)) (now (program .entry)) (length (now (path .entry))) budget (some value) (state-in (now (cells .entry))) (now (registers .entry)))) ⌝ }
     ensures report { λ r. ⌜ now (report .exit) ≡ now (report .entry) ⌝ }
 {
+    let few = is_short(cells, report);
+    if few {
+        return SLICE_TOO_SHORT as usize;
+    }
+    let early = is_early(program, inputs, registers, path.len(), budget);
+    let direct = !early && is_answer(program, registers, cells, value);
+    if direct {
+        let at = cells[0] as usize;
+        let to = word(program, HEADER_SIZE + SLOT_SIZE * at + 4);
+        instruction::store(registers, to, value);
+        let code = word(program, CODE_AT);
+        let s = run::along(program, inputs, registers, code, budget - 1, at + 1);
+        return ends(program, inputs, registers, path, cells, budget - s.left, s);
+    }
     let given = Supplied::Value(value);
     resumed_unchecked(
         program,

@@ -5,12 +5,15 @@ mod hill;
 mod operator;
 
 ghost use mathlib.Core.Path.{_≡_};
+ghost use mathlib.Core.Bool.{_&&_};
 ghost use mathlib.Core.List.{[], _∷_, _++_};
+ghost use lib.Dec.{eqb};
+ghost use lib.Ieee.{binary64};
 ghost use lib.ListN.{take};
 ghost use Rattle.arithmetic.specs.Value.{truth-value};
-ghost use Rattle.meaning.specs.Work.{advance};
+ghost use Rattle.meaning.specs.Work.{advance, power-defined};
 ghost use Rattle.work.specs.View.{shown, kept-values};
-ghost use Rattle.work.specs.Opcode.{work-of};
+ghost use Rattle.work.specs.Opcode.{puts-function, work-of};
 
 // "A half-done Hill or density keeps the values supplied to it, logarithms and the density's first exp":
 // the first `count` of nine, as no node puts more than nine questions.
@@ -97,4 +100,18 @@ pub fn work(opcode: usize, x: f64, y: f64, z: f64, kept: Kept) -> Outcome
         return operator::compare(opcode, x, y, z, kept);
     }
     call::call(opcode, x, y, z, kept)
+}
+
+// "Power within its domain" puts a question.
+pub fn puts_power(opcode: u8, x: f64, y: f64) -> bool
+    ensures { λ r. ⌜ r ≡ (eqb opcode 12 && power-defined binary64 x y) ⌝ }
+{
+    opcode == 12 && operator::is_power_defined(x, y)
+}
+
+// "Exp, Log, Log10, Sin, Cos, Tan, Tanh" put one.
+pub fn puts_function(opcode: u8) -> bool
+    ensures { λ r. ⌜ r ≡ puts-function opcode ⌝ }
+{
+    20 <= opcode && (opcode < 28 && opcode != 23)
 }

@@ -23,7 +23,7 @@ pub fn unary(opcode: usize, x: f64, y: f64, z: f64, kept: Kept) -> Outcome
 }
 
 // "Power with base 0 and exponent <= 0, or a negative base and a fractional exponent, ... are Domain."
-fn is_power_defined(a: f64, b: f64) -> bool
+pub fn is_power_defined(a: f64, b: f64) -> bool
     ensures { λ r. ⌜ r ≡ power-defined binary64 a b ⌝ }
 {
     if a == 0.0 {
