@@ -88,10 +88,12 @@ reply-ends b r regs′ R cells cells′ n e hn hc hs =
       state = λ a. hs (subst (λ (x : Machine.Reply). Askable (x .state .pending)) (sym e) a) ∙ ap (λ (x : Machine.Reply). x .state) e;
     }
 
--- and so is the path slice
-pub reply-place : (b : List ℕ) (r : Reply) (regs′ : List Float) (R : Machine.Reply) (path path′ : List ℕ) → reply-of b r regs′ ≡ R
-    → path′ ≡ placed (place-of (answer-of b (r .answer))) path → path′ ≡ placed (place-of (R .answer)) path
-reply-place b r regs′ R path path′ e hp = hp ∙ ap (λ (x : Machine.Reply). placed (place-of (x .answer)) path) e
+-- the cells and the path slice by the same reply
+pub ends-as : {R R′ : Machine.Reply} {n : ℕ} {cells cells′ : List ℕ} {regs′ : List Float} → R ≡ R′ → Ends R n cells cells′ regs′ → Ends R′ n cells cells′ regs′
+ends-as {n = n} {cells} {cells′} {regs′} e E = subst (λ (x : Machine.Reply). Ends x n cells cells′ regs′) e E
+
+pub placed-as : {R R′ : Machine.Reply} (path : List ℕ) {path′ : List ℕ} → R ≡ R′ → path′ ≡ placed (place-of (R .answer)) path → path′ ≡ placed (place-of (R′ .answer)) path
+placed-as path e hp = hp ∙ ap (λ (x : Machine.Reply). placed (place-of (x .answer)) path) e
 
 -- a reply that keeps nothing
 module _ (R : Machine.Reply) (a : Machine.Answer) (count at : ℕ) (o : Option Question) (regs : List Float) (e : plain a count at o regs ≡ R) where
@@ -255,4 +257,4 @@ module _ (inputs : List Float) (b : List ℕ) (budget : ℕ) (given : Option Flo
     resume-goes-on t hc ha =
         resume-ends regs′ cells′ path′ n h (reply-ends b r regs′ answered cells cells′ n is-answered hn hc ha)
         (ap (λ (x : Machine.Reply). is-refused (x .answer)) (sym is-answered) ∙ sym (same-refusal b (r .answer)) ∙ t)
-        (reply-place b r regs′ answered path path′ is-answered hp)
+        (placed-as path is-answered hp)

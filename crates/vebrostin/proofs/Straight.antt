@@ -1,16 +1,18 @@
 -- The answer to a question that the cells hold, nothing kept, goes straight on.
 use mathlib.Core.Path.{_≡_, refl, sym, ap, _∙_}
-use mathlib.Core.Bool.{true, false, _&&_}
+use mathlib.Core.Bool.{Bool, true, false, _&&_, _||_}
 use mathlib.Core.List.{List, [], _∷_}
 use mathlib.Core.Option.{some}
 use Prim.Native.Nat.{ℕ, _+_, _-_, _≤_, _<_}
 use native.Mathlib.Omega.{arith}
+use borrow.Author.Tests.{ltb-false}
 use lib.ListN.{getD, set}
-use lib.Dec.{eqb}
+use lib.Dec.{eqb, ltb}
 use lib.Ieee.{Float, binary64}
 use Rattle.arithmetic.specs.Value.{0f, finite}
 use Rattle.formula.specs.Path.{path-room}
 use Rattle.formula.specs.Text.{byte-at, word-at}
+use Rattle.formula.proofs.Tests.{or-none}
 use Rattle.meaning.specs.Work.{Question, elementary, power, power-defined}
 use Rattle.machine.specs.Program.{valid}
 use Rattle.machine.specs.Machine as Machine
@@ -64,6 +66,10 @@ module _ (b : List ℕ) (regs : List Float) (cells : List ℕ) (v : Float) (at c
 
 -- ---- the reply
 
+-- neither 1 nor 5
+pub not-early : (room : ℕ) (u : Bool) → (ltb room 8192 || u) ≡ false → (8192 ≤ room) × (u ≡ false)
+not-early room u e = (ltb-false room 8192 (or-none (ltb room 8192) u e .0), or-none (ltb room 8192) u e .1)
+
 not-refused : (a : Machine.Answer) → ((n : ℕ) → a ≡ refused n → ⊥) → is-refused a ≡ false
 not-refused (gives v) f = refl
 not-refused (asks q) f = refl
@@ -79,6 +85,11 @@ module _ (inputs : List Float) (b : List ℕ) (regs : List Float) (cells : List 
       resume-goes inputs b room budget regs (some v) (state-in cells) (v ∷ []) (rw (A .none-kept)) l w u
       (rw (A .none-kept) (A .fresh inputs))
 
+  pub answer-stands : valid (program-at b) ≡ true → is-refused (resume-at inputs b room budget (some v) (state-in cells) regs .answer) ≡ false
+  answer-stands w =
+      ap (λ (x : Machine.Reply). is-refused (x .answer)) (sym (is-resume w))
+      ∙ not-refused _ (steps-refuse inputs b budget (getD cells 0 0) (v ∷ []) regs)
+
   -- after its result is stored, and as far as the run comes at once
   module _ (d : ℕ) {regs′ regs″ : List Float} (left at : ℕ) (ed : d ≡ destination-at b (getD cells 0 0)) (es : regs′ ≡ set regs d v)
       (R : Reaches inputs b (budget - 1) (getD cells 0 0 + 1) [] regs′ left at [] regs″) where
@@ -87,8 +98,3 @@ module _ (inputs : List Float) (b : List ℕ) (regs : List Float) (cells : List 
 
     pub answer-goes : valid (program-at b) ≡ true → after (budget - left) (steps-at inputs b left at [] regs″) ≡ resume-at inputs b room budget (some v) (state-in cells) regs
     answer-goes w = come .rest ∙ is-resume w
-
-    pub answer-stands : valid (program-at b) ≡ true → is-refused (resume-at inputs b room budget (some v) (state-in cells) regs .answer) ≡ false
-    answer-stands w =
-        ap (λ (x : Machine.Reply). is-refused (x .answer)) (sym (is-resume w))
-        ∙ not-refused _ (steps-refuse inputs b budget (getD cells 0 0) (v ∷ []) regs)

@@ -1,7 +1,7 @@
 // The library for C and Rust: compile, derive, run and resume over numbers and slices, each under a C name. include/vebrostin.h declares
 // them. No caller owes anything but slices that are there.
 ghost use mathlib.Core.Path.{_≡_};
-ghost use mathlib.Core.Bool.{true, cond, _||_};
+ghost use mathlib.Core.Bool.{true, false, cond, _||_};
 ghost use mathlib.Core.List.{[], _∷_, _++_};
 ghost use mathlib.Core.Option.{none, some};
 ghost use Prim.Native.Nat.{_+_, _<_, _≤_, min};
@@ -404,13 +404,7 @@ fn is_refused(given: Answer) -> bool
 // ---- calls that keep nothing, straight on the cells
 
 // Whether 1 or 5 refuses a call.
-fn is_early(
-    program: &[u8],
-    inputs: &[f64],
-    registers: &[f64],
-    room: usize,
-    budget: usize,
-) -> bool
+fn is_early(program: &[u8], inputs: &[f64], registers: &[f64], room: usize, budget: usize) -> bool
     ensures { λ r. ⌜ r ≡ (ltb room 8192 || unfit-at (now (inputs .entry)) (now (program .entry)) (now (registers .entry)) budget) ⌝ }
 {
     room < 8192 || run::unfit(program, inputs, registers, budget)
@@ -525,6 +519,26 @@ fn is_answer(program: &[u8], registers: &[f64], cells: &[u64], value: f64) -> bo
         }
     }
     false
+}
+
+// The same of a call that neither 1 nor 5 refuses.
+fn is_direct(
+    program: &[u8],
+    inputs: &[f64],
+    registers: &[f64],
+    room: usize,
+    budget: usize,
+    cells: &[u64],
+    value: f64,
+) -> bool
+    requires { ⌜ 16 ≤ length (now cells) ⌝ }
+    ensures { λ r. ⌜ (r ≡ true → (8192 ≤ room) × (unfit-at (now (inputs .entry)) (now (program .entry)) (now (registers .entry)) budget ≡ false) × Answers (now (program .entry)) (now (registers .entry)) (now (cells .entry)) value) ⌝ }
+{
+    let early = is_early(program, inputs, registers, room, budget);
+    if early {
+        return false;
+    }
+    is_answer(program, registers, cells, value)
 }
 
 // ---- runs
@@ -761,13 +775,12 @@ pub extern "C" fn vebrostin_answer_unchecked(
     if few {
         return SLICE_TOO_SHORT as usize;
     }
-    let early = is_early(program, inputs, registers, path.len(), budget);
-    let direct = !early && is_answer(program, registers, cells, value);
+    let direct = is_direct(program, inputs, registers, path.len(), budget, cells, value);
     if direct {
+        let code = word(program, CODE_AT);
         let at = cells[0] as usize;
         let to = word(program, HEADER_SIZE + SLOT_SIZE * at + 4);
         instruction::store(registers, to, value);
-        let code = word(program, CODE_AT);
         let s = run::along(program, inputs, registers, code, budget - 1, at + 1);
         return ends(program, inputs, registers, path, cells, budget - s.left, s);
     }

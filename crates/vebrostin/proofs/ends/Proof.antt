@@ -1,8 +1,14 @@
+use mathlib.Core.Path.{refl}
+use mathlib.Core.List.{[], _∷_}
+use mathlib.Core.Option.{none}
+use native.Mathlib.Omega.{arith}
+use Rattle.machine.specs.Machine.{gives, spent}
+use Rattle.layout.specs.Decode.{code-count, result-at}
+use Rattle.run.proofs.Plain.{plain-spent, plain-value}
+use Rattle.vebrostin.proofs.Outcomes.{plain-ends, plain-place}
 use borrow.Author.Needs.{needs}
 use Rattle.vebrostin.proofs.ends.Statement.{statement}
 use Rattle.vebrostin.proofs.ends.Tie as tie
-use Rattle.vebrostin.proofs.ends.Reads as reads
-use Rattle.vebrostin.proofs.ends.Lts as lts
 use Rattle.floats.proofs.value.bits_of.Reads as bits-of-reads
 use Rattle.instruction.proofs.value_at.Reads as value-at-reads
 use Rattle.reader.proofs.word.Reads as word-reads
@@ -10,71 +16,76 @@ use Rattle.vebrostin.proofs.put_plain.Reads as put-plain-reads
 use Rattle.vebrostin.proofs.question_cells.Reads as question-cells-reads
 use Rattle.vebrostin.proofs.stops.Reads as stops-reads
 
--- src/lib.rt:472:9
 question-cells-requires : tie.Need-question-cells-requires
 question-cells-requires c κs = search needs
 
--- src/lib.rt:473:9
 word-requires : tie.Need-word-requires
 word-requires c κs = search needs
 
--- src/lib.rt:475:41
 word-requires-2 : tie.Need-word-requires-2
 word-requires-2 c κs = search needs
 
--- src/lib.rt:475:13
 value-at-requires : tie.Need-value-at-requires
 value-at-requires c κs = search needs
 
--- src/lib.rt:476:45
 bits-of-requires : tie.Need-bits-of-requires
 bits-of-requires c κs = search needs
 
--- src/lib.rt:476:9
 put-plain-requires : tie.Need-put-plain-requires
 put-plain-requires c κs = search needs
 
--- src/lib.rt:477:9
 same-length : tie.Need-same-length
 same-length c = search needs
 
--- src/lib.rt:477:9
 same-length-2 : tie.Need-same-length-2
 same-length-2 c = search needs
 
--- src/lib.rt:477:9
 returns : tie.Need-returns
-returns c = ?
+unfolding code-count result-at
+returns c =
+    let a = c .before .before .before .before .before .before .before .before .before .before .before .before .before .before .before .before .before .args in
+    let v = c .before .before .before .before .before .value-at .result in
+    let q = c .before .before .before .before .before .before .before .before .before .before .before .question-cells .result in
+    let e = plain-value (a .inputs .now) (a .program .now) (a .s .left) (a .count) (a .s .at) (c .before .before .before .before .before .before .before .before .before .before .word .result) (a .registers .now) (c .before .before .before .before .before .before .before .before .before .before .word .ensures .0)
+    (c .before .before .before .before .before .before .word2 .result) v (c .before .before .before .before .before .before .before .before .if1 .taken) (c .before .before .before .before .before .before .word2 .ensures .0) (c .before .before .before .before .before .value-at .ensures) in (
+      plain-ends _ (gives v) (a .count) (c .before .before .before .before .before .before .before .before .before .before .word .result) none (a .registers .now) e 0 (c .before .before .before .bits-of .result) (q .question ∷ q .first ∷ q .second ∷ []) (a .cells .now) _
+          refl (c .before .before .before .bits-of .ensures) (c .before .before .before .before .before .before .before .before .before .before .before .question-cells .ensures .0) tt (c .before .before .put-plain .ensures),
+      λ w. plain-place _ (gives v) (a .count) (c .before .before .before .before .before .before .before .before .before .before .word .result) none (a .registers .now) e (a .path .now) refl,
+    )
 
--- src/lib.rt:480:9
 put-plain-requires-2 : tie.Need-put-plain-requires-2
 put-plain-requires-2 c κs = search needs
 
--- src/lib.rt:481:9
 same-length-3 : tie.Need-same-length-3
 same-length-3 c = search needs
 
--- src/lib.rt:481:9
 returns-2 : tie.Need-returns-2
-returns-2 c = ?
+unfolding code-count
+returns-2 c =
+    let a = c .before .before .before .before .before .before .before .before .before .before .before .before .before .before .before .args in
+    let q = c .before .before .before .before .before .before .before .before .before .question-cells .result in
+    let e = plain-spent (a .inputs .now) (a .program .now) (a .s .left) (a .count) (a .s .at) (c .before .before .before .before .before .before .before .before .word .result) (a .registers .now) (c .before .before .before .before .before .before .before .before .word .ensures .0)
+    (c .before .before .before .before .before .before .if1 .left) (c .before .before .before .before .if2 .taken) in (
+      plain-ends _ spent (a .count) (a .s .at) none (a .registers .now) e 101 0 (q .question ∷ q .first ∷ q .second ∷ []) (a .cells .now) _
+          refl refl (c .before .before .before .before .before .before .before .before .before .question-cells .ensures .0) tt (c .before .before .put-plain2 .ensures),
+      λ w. plain-place _ spent (a .count) (a .s .at) none (a .registers .now) e (a .path .now) refl,
+    )
 
--- src/lib.rt:483:5
 stops-requires : tie.Need-stops-requires
-stops-requires c κs = ?
+unfolding code-count
+stops-requires c κs =
+    let word = c .before .before .before .before .before .before .before .word in
+    (c .before .before .before .before .before .before .before .before .before .before .before .before .before .before .pre .0, c .before .before .before .before .before .before .before .before .before .before .before .before .before .before .pre .1, c .before .before .before .before .before .before .before .before .before .before .before .before .before .before .pre .2, omega (arith, word .ensures .0, c .before .before .before .before .before .if1 .left), omega (arith, word .ensures .1, c .before .before .before .before .before .if1 .left), omega (arith, c .before .before .before .if2 .left))
 
--- src/lib.rt:459:1
 same-length-4 : tie.Need-same-length-4
 same-length-4 c = search needs
 
--- src/lib.rt:459:1
 same-length-5 : tie.Need-same-length-5
 same-length-5 c = search needs
 
--- src/lib.rt:459:1
 same-length-6 : tie.Need-same-length-6
 same-length-6 c = search needs
 
--- src/lib.rt:459:1
 returns-3 : tie.Need-returns-3
 returns-3 c = search needs
 

@@ -1,8 +1,15 @@
+use mathlib.Core.Path.{refl, sym, _∙_}
+use mathlib.Core.Bool.{true≢false}
+use mathlib.Core.List.{[], _∷_}
+use native.Mathlib.Omega.{arith}
+use Prim.Native.Nat.{_+_, _*_}
+use lib.ListN.{getD}
+use Rattle.layout.specs.Decode.{code-count}
+use Rattle.instruction.proofs.Once.{function-range}
+use Rattle.vebrostin.proofs.Straight.{function-answers, power-answers}
 use borrow.Author.Needs.{needs}
 use Rattle.vebrostin.proofs.is_answer.Statement.{statement}
 use Rattle.vebrostin.proofs.is_answer.Tie as tie
-use Rattle.vebrostin.proofs.is_answer.Reads as reads
-use Rattle.vebrostin.proofs.is_answer.Lts as lts
 use Rattle.floats.proofs.value.is_finite.Reads as is-finite-reads
 use Rattle.instruction.proofs.value_at.Reads as value-at-reads
 use Rattle.reader.proofs.known_word.Reads as known-word-reads
@@ -12,117 +19,105 @@ use Rattle.vebrostin.proofs.question_cells.Reads as question-cells-read
 use Rattle.work.proofs.puts_function.Reads as puts-function-reads
 use Rattle.work.proofs.puts_power.Reads as puts-power-reads
 
--- src/lib.rt:500:14
 shared-slice-read-at : tie.Need-shared-slice-read-at
 shared-slice-read-at c = search needs
 
--- src/lib.rt:501:8
 word-requires : tie.Need-word-requires
 word-requires c κs = search needs
 
--- src/lib.rt:502:9
 returns : tie.Need-returns
-returns c = ?
+returns c = λ e. absurd (true≢false (sym e))
 
--- src/lib.rt:504:30
 mul-slot : tie.Need-mul-slot
 mul-slot c = search needs
 
--- src/lib.rt:504:16
 add-slot : tie.Need-add-slot
 add-slot c = search needs
 
--- src/lib.rt:505:24
 add-if2 : tie.Need-add-if2
 add-if2 c = search needs
 
--- src/lib.rt:506:9
 returns-2 : tie.Need-returns-2
-returns-2 c = ?
+returns-2 c = λ e. absurd (true≢false (sym e))
 
--- src/lib.rt:508:8
 shared-slice-read-if3 : tie.Need-shared-slice-read-if3
 shared-slice-read-if3 c = search needs
 
--- src/lib.rt:509:9
 returns-3 : tie.Need-returns-3
-returns-3 c = ?
+returns-3 c = λ e. absurd (true≢false (sym e))
 
--- src/lib.rt:511:9
 is-finite-requires : tie.Need-is-finite-requires
 is-finite-requires c κs = search needs
 
--- src/lib.rt:513:18
 shared-slice-read-op : tie.Need-shared-slice-read-op
 shared-slice-read-op c = search needs
 
--- src/lib.rt:514:57
 add-known-word : tie.Need-add-known-word
 add-known-word c = search needs
 
--- src/lib.rt:514:37
 known-word-requires : tie.Need-known-word-requires
 known-word-requires c κs = search needs
 
--- src/lib.rt:514:13
 value-at-requires : tie.Need-value-at-requires
 value-at-requires c κs = search needs
 
--- src/lib.rt:515:57
 add-known-word-2 : tie.Need-add-known-word-2
 add-known-word-2 c = search needs
 
--- src/lib.rt:515:37
 known-word-requires-2 : tie.Need-known-word-requires-2
 known-word-requires-2 c κs = search needs
 
--- src/lib.rt:515:13
 value-at-requires-2 : tie.Need-value-at-requires-2
 value-at-requires-2 c κs = search needs
 
--- src/lib.rt:516:13
 puts-power-requires : tie.Need-puts-power-requires
 puts-power-requires c κs = search needs
 
--- src/lib.rt:518:17
 question-cells-requires : tie.Need-question-cells-requires
 question-cells-requires c κs = search needs
 
--- src/lib.rt:519:13
 is-pending-requires : tie.Need-is-pending-requires
 is-pending-requires c κs = search needs
 
--- src/lib.rt:519:13
 returns-4 : tie.Need-returns-4
-returns-4 c = ?
+unfolding code-count
+returns-4 c =
+    let cells = c .before .before .before .before .before .before .before .before .before .before .before .before .before .before .before .before .before .before .before .before .args .cells .now in
+    let q = c .before .question-cells .result in
+    λ e.
+    power-answers (c .before .before .before .before .before .before .before .before .before .before .before .before .before .before .before .before .before .before .before .before .args .program .now) (c .before .before .before .before .before .before .before .before .before .before .before .before .before .before .before .before .before .before .before .before .args .registers .now) cells (c .before .before .before .before .before .before .before .before .before .before .before .before .before .before .before .before .before .before .before .before .args .value) (getD cells 0 0) (c .before .before .before .before .before .before .before .before .before .before .before .before .before .before .before .word .result) refl (c .before .before .before .before .before .before .before .before .before .before .before .before .before .before .if1 .left) (c .before .before .before .before .before .before .before .before .before .before .before .before .before .before .before .word .ensures .0)
+    (c .before .before .before .before .before .before .before .before .before .before .before .if3 .left) (sym (c .before .before .before .before .before .before .before .before .before .before .is-finite .ensures) ∙ c .before .before .before .before .before .before .before .before .before .if4 .taken) _ (c .before .before .before .before .before .before .before .known-word .result) (c .before .before .before .before .before .before .value-at .result) refl (c .before .before .before .before .before .before .before .known-word .ensures .0) (c .before .before .before .before .before .before .value-at .ensures)
+    (q .question ∷ q .first ∷ q .second ∷ []) (c .is-pending .ensures e) (c .before .before .before .before .before .known-word2 .result) (c .before .before .before .before .value-at2 .result) (c .before .before .before .before .before .known-word2 .ensures .0) (c .before .before .before .before .value-at2 .ensures)
+    (sym (c .before .before .before .puts-power .ensures) ∙ c .before .before .if5 .taken) (c .before .question-cells .ensures .0) (c .before .question-cells .ensures .1)
 
--- src/lib.rt:521:13
 puts-function-requires : tie.Need-puts-function-requires
 puts-function-requires c κs = search needs
 
--- src/lib.rt:523:56
 sub-t27 : tie.Need-sub-t27
-sub-t27 c = ?
+sub-t27 c = omega (arith, function-range (getD (c .before .before .before .before .before .before .before .before .before .before .before .before .before .before .before .before .before .before .before .before .args .program .now) (32 + 24 * getD (c .before .before .before .before .before .before .before .before .before .before .before .before .before .before .before .before .before .before .before .before .args .cells .now) 0 0) 0) (sym (c .before .puts-function .ensures) ∙ c .if6 .taken) .0)
 
--- src/lib.rt:523:17
 question-cells-requires-2 : tie.Need-question-cells-requires-2
 question-cells-requires-2 c κs = search needs
 
--- src/lib.rt:524:13
 is-pending-requires-2 : tie.Need-is-pending-requires-2
 is-pending-requires-2 c κs = search needs
 
--- src/lib.rt:524:13
 returns-5 : tie.Need-returns-5
-returns-5 c = ?
+unfolding code-count
+returns-5 c =
+    let cells = c .before .before .before .before .before .before .before .before .before .before .before .before .before .before .before .before .before .before .before .before .before .before .args .cells .now in
+    let q = c .before .question-cells2 .result in
+    λ e.
+    function-answers (c .before .before .before .before .before .before .before .before .before .before .before .before .before .before .before .before .before .before .before .before .before .before .args .program .now) (c .before .before .before .before .before .before .before .before .before .before .before .before .before .before .before .before .before .before .before .before .before .before .args .registers .now) cells (c .before .before .before .before .before .before .before .before .before .before .before .before .before .before .before .before .before .before .before .before .before .before .args .value) (getD cells 0 0) (c .before .before .before .before .before .before .before .before .before .before .before .before .before .before .before .before .before .word .result) refl (c .before .before .before .before .before .before .before .before .before .before .before .before .before .before .before .before .if1 .left) (c .before .before .before .before .before .before .before .before .before .before .before .before .before .before .before .before .before .word .ensures .0)
+    (c .before .before .before .before .before .before .before .before .before .before .before .before .before .if3 .left) (sym (c .before .before .before .before .before .before .before .before .before .before .before .before .is-finite .ensures) ∙ c .before .before .before .before .before .before .before .before .before .before .before .if4 .taken) _ (c .before .before .before .before .before .before .before .before .before .known-word .result) (c .before .before .before .before .before .before .before .before .value-at .result) refl (c .before .before .before .before .before .before .before .before .before .known-word .ensures .0) (c .before .before .before .before .before .before .before .before .value-at .ensures)
+    (q .question ∷ q .first ∷ q .second ∷ []) (c .is-pending2 .ensures e)
+    (sym (c .before .before .before .puts-function .ensures) ∙ c .before .before .if6 .taken) (c .before .question-cells2 .ensures .0) (c .before .question-cells2 .ensures .1)
 
--- src/lib.rt:496:1
 returns-6 : tie.Need-returns-6
-returns-6 c = ?
+returns-6 c = λ e. absurd (true≢false (sym e))
 
--- src/lib.rt:496:1
 returns-7 : tie.Need-returns-7
-returns-7 c = ?
+returns-7 c = λ e. absurd (true≢false (sym e))
 
 pub is-answer-spec : {M : Type 1} → statement M
 is-answer-spec =

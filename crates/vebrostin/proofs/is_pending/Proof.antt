@@ -1,32 +1,33 @@
+use mathlib.Core.Path.{_≡_}
+use lib.ListN.{getD}
+use borrow.Author.Tests.{eqb-true}
 use borrow.Author.Needs.{needs}
 use Rattle.vebrostin.proofs.is_pending.Statement.{statement}
 use Rattle.vebrostin.proofs.is_pending.Tie as tie
-use Rattle.vebrostin.proofs.is_pending.Reads as reads
-use Rattle.vebrostin.proofs.is_pending.Lts as lts
 
--- src/lib.rt:491:5
 shared-slice-read-if1 : tie.Need-shared-slice-read-if1
 shared-slice-read-if1 c = search needs
 
--- src/lib.rt:491:33
 shared-slice-read-if2 : tie.Need-shared-slice-read-if2
 shared-slice-read-if2 c = search needs
 
--- src/lib.rt:491:57
 shared-slice-read-result : tie.Need-shared-slice-read-result
 shared-slice-read-result c = search needs
 
--- src/lib.rt:487:1
 returns : tie.Need-returns
-returns c = ?
+returns c =
+    let q = c .before .before .before .before .before .before .before .before .args .q in
+    let cells = c .before .before .before .before .before .before .before .before .args .cells .now in
+    λ e.
+    let a : getD cells 11 0 ≡ q .question = c .before .before .before .before .before .if1 .taken in
+    let b : getD cells 12 0 ≡ q .first = c .before .before .if2 .taken in
+    let d : getD cells 13 0 ≡ q .second = eqb-true _ _ e in cc
 
--- src/lib.rt:487:1
 returns-2 : tie.Need-returns-2
-returns-2 c = ?
+returns-2 c = λ e. absurd (c .if2 .left (eqb-true _ _ e))
 
--- src/lib.rt:487:1
 returns-3 : tie.Need-returns-3
-returns-3 c = ?
+returns-3 c = λ e. absurd (c .if1 .left (eqb-true _ _ e))
 
 pub is-pending-spec : {M : Type 1} → statement M
 is-pending-spec =

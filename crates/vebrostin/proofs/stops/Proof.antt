@@ -1,8 +1,18 @@
+use mathlib.Core.Path.{refl, sym, _∙_}
+use mathlib.Core.List.{[], _∷_}
+use mathlib.Core.Option.{some}
+use Prim.Native.Nat.{_+_, _*_, _-_}
+use native.Mathlib.Omega.{arith}
+use lib.ListN.{getD}
+use Rattle.meaning.specs.Work.{elementary, power}
+use Rattle.machine.specs.Machine.{asks}
+use Rattle.layout.specs.Decode.{code-count}
+use Rattle.instruction.proofs.Once.{function-puts, function-range, power-puts}
+use Rattle.run.proofs.Plain.{plain-function, plain-power}
+use Rattle.vebrostin.proofs.Outcomes.{placed-as, plain-ends, plain-place, reply-ends}
 use borrow.Author.Needs.{needs}
 use Rattle.vebrostin.proofs.stops.Statement.{statement}
 use Rattle.vebrostin.proofs.stops.Tie as tie
-use Rattle.vebrostin.proofs.stops.Reads as reads
-use Rattle.vebrostin.proofs.stops.Lts as lts
 use Rattle.instruction.proofs.value_at.Reads as value-at-reads
 use Rattle.reader.proofs.known_word.Reads as known-word-reads
 use Rattle.run.proofs.rest.Reads as rest-reads
@@ -13,125 +23,128 @@ use Rattle.vebrostin.proofs.question_cells.Reads as question-cells-read
 use Rattle.work.proofs.puts_function.Reads as puts-function-reads
 use Rattle.work.proofs.puts_power.Reads as puts-power-reads
 
--- src/lib.rt:433:30
 mul-slot : tie.Need-mul-slot
 mul-slot c = search needs
 
--- src/lib.rt:433:16
 add-slot : tie.Need-add-slot
 add-slot c = search needs
 
--- src/lib.rt:434:8
 add-if1 : tie.Need-add-if1
 add-if1 c = search needs
 
--- src/lib.rt:435:18
 shared-slice-read-op : tie.Need-shared-slice-read-op
 shared-slice-read-op c = search needs
 
--- src/lib.rt:436:57
 add-known-word : tie.Need-add-known-word
 add-known-word c = search needs
 
--- src/lib.rt:436:37
 known-word-requires : tie.Need-known-word-requires
 known-word-requires c κs = search needs
 
--- src/lib.rt:436:13
 value-at-requires : tie.Need-value-at-requires
 value-at-requires c κs = search needs
 
--- src/lib.rt:437:57
 add-known-word-2 : tie.Need-add-known-word-2
 add-known-word-2 c = search needs
 
--- src/lib.rt:437:37
 known-word-requires-2 : tie.Need-known-word-requires-2
 known-word-requires-2 c κs = search needs
 
--- src/lib.rt:437:13
 value-at-requires-2 : tie.Need-value-at-requires-2
 value-at-requires-2 c κs = search needs
 
--- src/lib.rt:438:13
 puts-power-requires : tie.Need-puts-power-requires
 puts-power-requires c κs = search needs
 
--- src/lib.rt:440:17
 question-cells-requires : tie.Need-question-cells-requires
 question-cells-requires c κs = search needs
 
--- src/lib.rt:441:13
 put-plain-requires : tie.Need-put-plain-requires
 put-plain-requires c κs = search needs
 
--- src/lib.rt:442:13
 same-length : tie.Need-same-length
 same-length c = search needs
 
--- src/lib.rt:442:13
 same-length-2 : tie.Need-same-length-2
 same-length-2 c = search needs
 
--- src/lib.rt:442:13
 returns : tie.Need-returns
-returns c = ?
+returns c =
+    let b = c .before .before .before .before .before .before .before .before .before .before .before .before .before .before .before .before .before .before .before .before .before .args .program .now in
+    let inputs = c .before .before .before .before .before .before .before .before .before .before .before .before .before .before .before .before .before .before .before .before .before .args .inputs .now in
+    let regs = c .before .before .before .before .before .before .before .before .before .before .before .before .before .before .before .before .before .before .before .before .before .args .registers .now in
+    let s = c .before .before .before .before .before .before .before .before .before .before .before .before .before .before .before .before .before .before .before .before .before .args .s in
+    let x = c .before .before .before .before .before .before .before .before .before .before .value-at .result in
+    let y = c .before .before .before .before .before .before .before .value-at2 .result in
+    let q = c .before .before .before .before .question-cells .result in
+    let e = plain-power inputs b (s .left) (c .before .before .before .before .before .before .before .before .before .before .before .before .before .before .before .before .before .before .before .before .before .args .count) (s .at) (code-count b) regs refl (c .before .before .before .before .before .before .before .before .before .before .before .before .before .before .before .before .before .before .before .before .before .pre .3) (λ z. omega (arith, c .before .before .before .before .before .before .before .before .before .before .before .before .before .before .before .before .before .before .before .before .before .pre .5)) x y
+    (power-puts inputs b (s .at) regs _ (c .before .before .before .before .before .before .before .before .before .before .before .known-word .result) x refl (c .before .before .before .before .before .before .before .before .before .before .before .known-word .ensures .0) (c .before .before .before .before .before .before .before .before .before .before .value-at .ensures) (c .before .before .before .before .before .before .before .before .known-word2 .result) y
+    (c .before .before .before .before .before .before .before .before .known-word2 .ensures .0) (c .before .before .before .before .before .before .before .value-at2 .ensures) (sym (c .before .before .before .before .before .before .puts-power .ensures) ∙ c .before .before .before .before .before .if2 .taken)) in (
+      plain-ends _ (asks (power x y)) (c .before .before .before .before .before .before .before .before .before .before .before .before .before .before .before .before .before .before .before .before .before .args .count) (s .at) (some (power x y)) regs e 100 0 (q .question ∷ q .first ∷ q .second ∷ []) (c .before .before .before .before .before .before .before .before .before .before .before .before .before .before .before .before .before .before .before .before .before .args .cells .now) _
+          refl refl (c .before .before .before .before .question-cells .ensures .0) (c .before .before .before .before .question-cells .ensures .1) (c .before .before .put-plain .ensures),
+      λ v. plain-place _ (asks (power x y)) (c .before .before .before .before .before .before .before .before .before .before .before .before .before .before .before .before .before .before .before .before .before .args .count) (s .at) (some (power x y)) regs e (c .before .before .before .before .before .before .before .before .before .before .before .before .before .before .before .before .before .before .before .before .before .args .path .now) refl,
+    )
 
--- src/lib.rt:444:13
 puts-function-requires : tie.Need-puts-function-requires
 puts-function-requires c κs = search needs
 
--- src/lib.rt:446:56
 sub-t35 : tie.Need-sub-t35
-sub-t35 c = ?
+sub-t35 c = omega (arith, function-range (getD (c .before .before .before .before .before .before .before .before .before .before .before .before .before .before .before .before .before .before .args .program .now) (32 + 24 * c .before .before .before .before .before .before .before .before .before .before .before .before .before .before .before .before .before .before .args .s .at) 0) (sym (c .before .puts-function .ensures) ∙ c .if3 .taken) .0)
 
--- src/lib.rt:446:17
 question-cells-requires-2 : tie.Need-question-cells-requires-2
 question-cells-requires-2 c κs = search needs
 
--- src/lib.rt:447:13
 put-plain-requires-2 : tie.Need-put-plain-requires-2
 put-plain-requires-2 c κs = search needs
 
--- src/lib.rt:448:13
 same-length-3 : tie.Need-same-length-3
 same-length-3 c = search needs
 
--- src/lib.rt:448:13
 same-length-4 : tie.Need-same-length-4
 same-length-4 c = search needs
 
--- src/lib.rt:448:13
 returns-2 : tie.Need-returns-2
-returns-2 c = ?
+returns-2 c =
+    let b = c .before .before .before .before .before .before .before .before .before .before .before .before .before .before .before .before .before .before .before .before .before .before .before .args .program .now in
+    let inputs = c .before .before .before .before .before .before .before .before .before .before .before .before .before .before .before .before .before .before .before .before .before .before .before .args .inputs .now in
+    let regs = c .before .before .before .before .before .before .before .before .before .before .before .before .before .before .before .before .before .before .before .before .before .before .before .args .registers .now in
+    let s = c .before .before .before .before .before .before .before .before .before .before .before .before .before .before .before .before .before .before .before .before .before .before .before .args .s in
+    let op = getD b (32 + 24 * s .at) 0 in
+    let x = c .before .before .before .before .before .before .before .before .before .before .before .before .value-at .result in
+    let q = c .before .before .before .before .question-cells2 .result in
+    let e = plain-function inputs b (s .left) (c .before .before .before .before .before .before .before .before .before .before .before .before .before .before .before .before .before .before .before .before .before .before .before .args .count) (s .at) (code-count b) regs refl (c .before .before .before .before .before .before .before .before .before .before .before .before .before .before .before .before .before .before .before .before .before .before .before .pre .3) (λ z. omega (arith, c .before .before .before .before .before .before .before .before .before .before .before .before .before .before .before .before .before .before .before .before .before .before .before .pre .5)) (op - 20) x
+    (function-puts inputs b (s .at) regs op (c .before .before .before .before .before .before .before .before .before .before .before .before .before .known-word .result) x refl (c .before .before .before .before .before .before .before .before .before .before .before .before .before .known-word .ensures .0) (c .before .before .before .before .before .before .before .before .before .before .before .before .value-at .ensures)
+    (sym (c .before .before .before .before .before .before .puts-function .ensures) ∙ c .before .before .before .before .before .if3 .taken)) in (
+      plain-ends _ (asks (elementary (op - 20) x)) (c .before .before .before .before .before .before .before .before .before .before .before .before .before .before .before .before .before .before .before .before .before .before .before .args .count) (s .at) (some (elementary (op - 20) x)) regs e 100 0 (q .question ∷ q .first ∷ q .second ∷ [])
+          (c .before .before .before .before .before .before .before .before .before .before .before .before .before .before .before .before .before .before .before .before .before .before .before .args .cells .now) _ refl refl (c .before .before .before .before .question-cells2 .ensures .0) (c .before .before .before .before .question-cells2 .ensures .1) (c .before .before .put-plain2 .ensures),
+      λ v. plain-place _ (asks (elementary (op - 20) x)) (c .before .before .before .before .before .before .before .before .before .before .before .before .before .before .before .before .before .before .before .before .before .before .before .args .count) (s .at) (some (elementary (op - 20) x)) regs e (c .before .before .before .before .before .before .before .before .before .before .before .before .before .before .before .before .before .before .before .before .before .before .before .args .path .now) refl,
+    )
 
--- src/lib.rt:451:9
 rest-requires : tie.Need-rest-requires
 rest-requires c κs = search needs
 
--- src/lib.rt:454:5
 put-reply-requires : tie.Need-put-reply-requires
 put-reply-requires c κs = search needs
 
--- src/lib.rt:455:5
 number-of-requires : tie.Need-number-of-requires
 number-of-requires c κs = search needs
 
--- src/lib.rt:420:1
 same-length-5 : tie.Need-same-length-5
 same-length-5 c = search needs
 
--- src/lib.rt:420:1
 same-length-6 : tie.Need-same-length-6
 same-length-6 c = search needs
 
--- src/lib.rt:420:1
 same-length-7 : tie.Need-same-length-7
 same-length-7 c = search needs
 
--- src/lib.rt:420:1
 returns-3 : tie.Need-returns-3
-returns-3 c = ?
+returns-3 c =
+    let b = c .before .before .before .before .before .before .before .before .before .before .before .before .before .before .before .before .before .before .before .before .args .program .now in
+    let r = c .before .before .before .before .before .before .before .before .before .before .rest .result in (
+      reply-ends b r _ _ (c .before .before .before .before .before .before .before .before .before .before .before .before .before .before .before .before .before .before .before .before .args .cells .now) _ _ (c .before .before .before .before .before .before .before .before .before .before .rest .ensures .0) (c .number-of .ensures) (c .before .before .before .put-reply .ensures .0) (c .before .before .before .put-reply .ensures .1),
+      λ v. placed-as (c .before .before .before .before .before .before .before .before .before .before .before .before .before .before .before .before .before .before .before .before .args .path .now) (c .before .before .before .before .before .before .before .before .before .before .rest .ensures .0) (c .before .before .before .before .before .before .before .before .before .before .rest .ensures .1 v),
+    )
 
 pub stops-spec : {M : Type 1} → statement M
 stops-spec =

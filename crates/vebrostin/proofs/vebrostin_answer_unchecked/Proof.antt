@@ -1,134 +1,139 @@
+use mathlib.Core.Path.{refl, sym, _∙_}
+use mathlib.Core.Option.{some}
+use native.Mathlib.Omega.{arith}
+use lib.ListN.{length}
+use Rattle.layout.specs.Decode.{code-count, destination-at}
+use Rattle.run.proofs.Single.{budget-left}
+use Rattle.run.proofs.Whole.{settled-valid}
+use Rattle.vebrostin.proofs.Outcomes.{apart, ends-as, enough, placed-as, resume-ends, resume-short, settled}
+use Rattle.vebrostin.proofs.Straight.{answer-goes, answer-stands}
 use borrow.Author.Needs.{needs}
 use Rattle.vebrostin.proofs.vebrostin_answer_unchecked.Statement.{statement}
 use Rattle.vebrostin.proofs.vebrostin_answer_unchecked.Tie as tie
-use Rattle.vebrostin.proofs.vebrostin_answer_unchecked.Reads as reads
-use Rattle.vebrostin.proofs.vebrostin_answer_unchecked.Lts as lts
 use Rattle.instruction.proofs.store.Reads as store-reads
 use Rattle.reader.proofs.word.Reads as word-reads
 use Rattle.run.proofs.along.Reads as along-reads
 use Rattle.vebrostin.proofs.ends.Reads as ends-reads
-use Rattle.vebrostin.proofs.is_answer.Reads as is-answer-reads
-use Rattle.vebrostin.proofs.is_early.Reads as is-early-reads
+use Rattle.vebrostin.proofs.is_direct.Reads as is-direct-reads
 use Rattle.vebrostin.proofs.is_short.Reads as is-short-reads
 use Rattle.vebrostin.proofs.resumed_unchecked.Reads as resumed-unchecked-reads
 
--- src/lib.rt:760:9
 is-short-requires : tie.Need-is-short-requires
 is-short-requires c κs = search needs
 
--- src/lib.rt:762:16
 cast-result : tie.Need-cast-result
 cast-result c = search needs
 
--- src/lib.rt:762:9
 same-length : tie.Need-same-length
 same-length c = search needs
 
--- src/lib.rt:762:9
 same-length-2 : tie.Need-same-length-2
 same-length-2 c = search needs
 
--- src/lib.rt:762:9
 returns : tie.Need-returns
-returns c = ?
+returns c =
+    let a = c .before .before .before .before .before .before .before .before .before .before .args in
+    let e = resume-short (a .inputs .now) (a .program .now) (a .budget) (some (a .value)) (a .registers .now) (a .cells .now) (a .path .now) (a .report .now) (sym (c .before .is-short .ensures) ∙ c .if1 .taken) in
+    (λ s. e .0, (λ s. e .1, refl))
 
--- src/lib.rt:764:9
-is-early-requires : tie.Need-is-early-requires
-is-early-requires c κs = search needs
+is-direct-requires : tie.Need-is-direct-requires
+is-direct-requires c κs = enough (c .before .before .before .before .before .before .before .before .before .before .before .before .args .cells .now) (c .before .before .before .before .before .before .before .before .before .before .before .before .args .report .now) (sym (c .before .before .before .is-short .ensures) ∙ c .before .before .if1 .left)
 
--- src/lib.rt:765:28
-is-answer-requires : tie.Need-is-answer-requires
-is-answer-requires c κs = ?
-
--- src/lib.rt:767:18
-slice-read-at : tie.Need-slice-read-at
-slice-read-at c = ?
-
--- src/lib.rt:768:46
-mul-word : tie.Need-mul-word
-mul-word c = ?
-
--- src/lib.rt:768:32
-add-word : tie.Need-add-word
-add-word c = ?
-
--- src/lib.rt:768:32
-add-word-2 : tie.Need-add-word-2
-add-word-2 c = ?
-
--- src/lib.rt:768:13
 word-requires : tie.Need-word-requires
 word-requires c κs = search needs
 
--- src/lib.rt:769:9
-store-requires : tie.Need-store-requires
-store-requires c κs = search needs
+slice-read-at : tie.Need-slice-read-at
+slice-read-at c = let l = enough (c .before .before .before .before .before .before .before .before .before .before .before .before .before .before .before .before .args .cells .now) (c .before .before .before .before .before .before .before .before .before .before .before .before .before .before .before .before .args .report .now) (sym (c .before .before .before .before .before .before .before .is-short .ensures) ∙ c .before .before .before .before .before .before .if1 .left) in omega arith
 
--- src/lib.rt:770:13
+mul-word : tie.Need-mul-word
+unfolding code-count
+mul-word c = omega (arith, c .before .before .before .is-direct .ensures (c .before .before .if2 .taken) .2 .there, c .before .word .ensures .0, c .before .word .ensures .1)
+
+add-word : tie.Need-add-word
+unfolding code-count
+add-word c = omega (arith, c .before .before .before .is-direct .ensures (c .before .before .if2 .taken) .2 .there, c .before .word .ensures .0, c .before .word .ensures .1)
+
+add-word-2 : tie.Need-add-word-2
+unfolding code-count
+add-word-2 c = omega (arith, c .before .before .before .is-direct .ensures (c .before .before .if2 .taken) .2 .there, c .before .word .ensures .0, c .before .word .ensures .1)
+
 word-requires-2 : tie.Need-word-requires-2
 word-requires-2 c κs = search needs
 
--- src/lib.rt:771:62
+store-requires : tie.Need-store-requires
+store-requires c κs = search needs
+
 sub-along : tie.Need-sub-along
-sub-along c = ?
+sub-along c = omega (arith, budget-left (c .before .before .before .before .before .before .before .before .before .before .before .before .before .before .before .before .before .before .before .before .before .before .args .inputs .now) (c .before .before .before .before .before .before .before .before .before .before .before .before .before .before .before .before .before .before .before .before .before .before .args .program .now) (c .before .before .before .before .before .before .before .before .before .before .before .before .before .before .before .before .before .before .before .before .before .before .args .registers .now) (c .before .before .before .before .before .before .before .before .before .before .before .before .before .before .before .before .before .before .before .before .before .before .args .budget) (c .before .before .before .before .before .before .before .before .before .is-direct .ensures (c .before .before .before .before .before .before .before .before .if2 .taken) .1))
 
--- src/lib.rt:771:74
 add-along : tie.Need-add-along
-add-along c = ?
+unfolding code-count
+add-along c = omega (arith, c .before .before .before .before .before .before .before .before .before .is-direct .ensures (c .before .before .before .before .before .before .before .before .if2 .taken) .2 .there, c .before .before .before .before .before .before .before .word .ensures .0, c .before .before .before .before .before .before .before .word .ensures .1)
 
--- src/lib.rt:771:13
 along-requires : tie.Need-along-requires
-along-requires c κs = ?
+unfolding code-count
+along-requires c κs = (c .before .before .before .before .before .before .before .word .ensures .0, c .before .before .before .before .before .before .before .word .ensures .1)
 
--- src/lib.rt:772:62
 sub-ends : tie.Need-sub-ends
 sub-ends c = search needs
 
--- src/lib.rt:772:9
 ends-requires : tie.Need-ends-requires
-ends-requires c κs = ?
+ends-requires c κs =
+    let a = c .before .before .before .before .before .before .before .before .before .before .before .before .before .before .before .before .before .before .before .before .before .before .before .before .before .before .before .before .before .args in
+    let w = c .before .before .before .before .before .before .along .ensures .within in
+    let f = c .before .before .before .before .before .before .before .before .before .before .before .before .before .before .before .before .before .before .before .before .before .before .before .before .before .before .before .before .before .fits .budget in
+    let d = c .before .before .before .before .before .before .before .before .before .before .before .before .before .before .before .before .is-direct .ensures (c .before .before .before .before .before .before .before .before .before .before .before .before .before .before .before .if2 .taken) in
+    let l = budget-left (a .inputs .now) (a .program .now) (a .registers .now) (a .budget) (d .1) in
+    (enough (a .cells .now) (a .report .now) (sym (c .before .before .before .before .before .before .before .before .before .before .before .before .before .before .before .before .before .before .before .before .is-short .ensures) ∙ c .before .before .before .before .before .before .before .before .before .before .before .before .before .before .before .before .before .before .before .if1 .left), d .0, omega arith)
 
--- src/lib.rt:772:9
 same-length-3 : tie.Need-same-length-3
 same-length-3 c = search needs
 
--- src/lib.rt:772:9
 same-length-4 : tie.Need-same-length-4
 same-length-4 c = search needs
 
--- src/lib.rt:772:9
 same-length-5 : tie.Need-same-length-5
 same-length-5 c = search needs
 
--- src/lib.rt:772:9
 same-length-6 : tie.Need-same-length-6
 same-length-6 c = search needs
 
--- src/lib.rt:772:9
 returns-2 : tie.Need-returns-2
-returns-2 c = ?
+unfolding destination-at
+returns-2 c =
+    let a = c .before .before .before .before .before .before .before .before .before .before .before .before .before .before .before .before .before .before .before .before .before .before .before .before .before .before .before .before .before .before .before .before .before .before .before .before .args in
+    let b = a .program .now in
+    let inputs = a .inputs .now in
+    let regs = a .registers .now in
+    let cells = a .cells .now in
+    let room = length (a .path .now) in
+    let h = sym (c .before .before .before .before .before .before .before .before .before .before .before .before .before .before .before .before .before .before .before .before .before .before .before .before .before .before .before .is-short .ensures) ∙ c .before .before .before .before .before .before .before .before .before .before .before .before .before .before .before .before .before .before .before .before .before .before .before .before .before .before .if1 .left in
+    let d = c .before .before .before .before .before .before .before .before .before .before .before .before .before .before .before .before .before .before .before .before .before .before .before .is-direct .ensures (c .before .before .before .before .before .before .before .before .before .before .before .before .before .before .before .before .before .before .before .before .before .before .if2 .taken) in
+    let s = c .before .before .before .before .before .before .before .before .before .before .before .before .before .along .result in
+    let ends = c .before .before .before .before .before .before .ends in
+    apart (settled b (a .path .now) cells (a .report .now) h) (λ w.
+    let v = settled-valid b room (d .0) w in
+    let e = answer-goes inputs b regs cells (a .value) room (a .budget) (d .2) (d .0) (d .1) (c .before .before .before .before .before .before .before .before .before .before .before .before .before .before .before .before .before .before .before .word2 .result) (s .left) (s .at) (c .before .before .before .before .before .before .before .before .before .before .before .before .before .before .before .before .before .before .before .word2 .ensures .0)
+    (c .before .before .before .before .before .before .before .before .before .before .before .before .before .before .before .before .before .store .ensures) (c .before .before .before .before .before .before .before .before .before .before .before .before .before .along .ensures) v in
+    resume-ends inputs b (a .budget) (some (a .value)) regs cells (a .path .now) (a .report .now) _ _ _ _ h (ends-as e (ends .ensures .0))
+    (answer-stands inputs b regs cells (a .value) room (a .budget) (d .2) (d .0) (d .1) v)
+    (placed-as (a .path .now) e (ends .ensures .1 v))) refl
 
--- src/lib.rt:775:5
 resumed-unchecked-requires : tie.Need-resumed-unchecked-requires
 resumed-unchecked-requires c κs = search needs
 
--- src/lib.rt:745:1
 same-length-7 : tie.Need-same-length-7
 same-length-7 c = search needs
 
--- src/lib.rt:745:1
 same-length-8 : tie.Need-same-length-8
 same-length-8 c = search needs
 
--- src/lib.rt:745:1
 same-length-9 : tie.Need-same-length-9
 same-length-9 c = search needs
 
--- src/lib.rt:745:1
 same-length-10 : tie.Need-same-length-10
 same-length-10 c = search needs
 
--- src/lib.rt:745:1
 returns-3 : tie.Need-returns-3
 returns-3 c = search needs
 
@@ -141,15 +146,14 @@ vebrostin-answer-unchecked-spec =
     same-length
     same-length-2
     returns
-    is-early-requires
-    is-answer-requires
+    is-direct-requires
+    word-requires
     slice-read-at
     mul-word
     add-word
     add-word-2
-    word-requires
-    store-requires
     word-requires-2
+    store-requires
     sub-along
     add-along
     along-requires

@@ -1,8 +1,14 @@
+use mathlib.Core.Path.{refl, sym, _∙_}
+use mathlib.Core.List.{[]}
+use native.Mathlib.Omega.{arith}
+use lib.ListN.{length}
+use Rattle.layout.specs.Decode.{code-count}
+use Rattle.run.proofs.Whole.{run-goes, settled-valid}
+use Rattle.vebrostin.proofs.Outcomes.{apart, ends-as, enough, placed-as, reply-ends, run-ends, run-short, settled}
+use Rattle.vebrostin.proofs.Straight.{not-early}
 use borrow.Author.Needs.{needs}
 use Rattle.vebrostin.proofs.vebrostin_run_unchecked.Statement.{statement}
 use Rattle.vebrostin.proofs.vebrostin_run_unchecked.Tie as tie
-use Rattle.vebrostin.proofs.vebrostin_run_unchecked.Reads as reads
-use Rattle.vebrostin.proofs.vebrostin_run_unchecked.Lts as lts
 use Rattle.reader.proofs.word.Reads as word-reads
 use Rattle.run.proofs.along.Reads as along-reads
 use Rattle.run.proofs.run_unchecked.Reads as run-unchecked-reads
@@ -12,97 +18,100 @@ use Rattle.vebrostin.proofs.is_short.Reads as is-short-reads
 use Rattle.vebrostin.proofs.number_of.Reads as number-of-reads
 use Rattle.vebrostin.proofs.put_reply.Reads as put-reply-reads
 
--- src/lib.rt:670:9
 is-short-requires : tie.Need-is-short-requires
 is-short-requires c κs = search needs
 
--- src/lib.rt:672:16
 cast-result : tie.Need-cast-result
 cast-result c = search needs
 
--- src/lib.rt:672:9
 same-length : tie.Need-same-length
 same-length c = search needs
 
--- src/lib.rt:672:9
 same-length-2 : tie.Need-same-length-2
 same-length-2 c = search needs
 
--- src/lib.rt:672:9
 returns : tie.Need-returns
-returns c = ?
+returns c =
+    let a = c .before .before .before .before .before .before .before .before .before .before .args in
+    let e = run-short (a .inputs .now) (a .program .now) (a .budget) (a .registers .now) (a .cells .now) (a .path .now) (a .report .now) (sym (c .before .is-short .ensures) ∙ c .if1 .taken) in
+    (λ s. e .0, (λ s. e .1, refl))
 
--- src/lib.rt:674:9
 is-early-requires : tie.Need-is-early-requires
 is-early-requires c κs = search needs
 
--- src/lib.rt:676:13
 run-unchecked-requires : tie.Need-run-unchecked-requires
 run-unchecked-requires c κs = search needs
 
--- src/lib.rt:679:9
 put-reply-requires : tie.Need-put-reply-requires
-put-reply-requires c κs = ?
+put-reply-requires c κs = enough (c .before .before .before .before .before .before .before .before .before .before .before .before .before .before .before .before .before .before .before .before .before .before .args .cells .now) (c .before .before .before .before .before .before .before .before .before .before .before .before .before .before .before .before .before .before .before .before .before .before .args .report .now) (sym (c .before .before .before .before .before .before .before .before .before .before .before .before .before .is-short .ensures) ∙ c .before .before .before .before .before .before .before .before .before .before .before .before .if1 .left)
 
--- src/lib.rt:680:9
 number-of-requires : tie.Need-number-of-requires
 number-of-requires c κs = search needs
 
--- src/lib.rt:680:9
 same-length-3 : tie.Need-same-length-3
 same-length-3 c = search needs
 
--- src/lib.rt:680:9
 same-length-4 : tie.Need-same-length-4
 same-length-4 c = search needs
 
--- src/lib.rt:680:9
 same-length-5 : tie.Need-same-length-5
 same-length-5 c = search needs
 
--- src/lib.rt:680:9
 same-length-6 : tie.Need-same-length-6
 same-length-6 c = search needs
 
--- src/lib.rt:680:9
 returns-2 : tie.Need-returns-2
-returns-2 c = ?
+returns-2 c =
+    let a = c .before .before .before .before .before .before .before .before .before .before .before .before .before .before .before .before .before .before .before .before .before .before .before .before .before .before .args in
+    let h = sym (c .before .before .before .before .before .before .before .before .before .before .before .before .before .before .before .before .before .is-short .ensures) ∙ c .before .before .before .before .before .before .before .before .before .before .before .before .before .before .before .before .if1 .left in
+    let r = c .before .before .before .before .before .before .before .before .before .before .run-unchecked in
+    apart (settled (a .program .now) (a .path .now) (a .cells .now) (a .report .now) h) (λ s.
+    run-ends (a .inputs .now) (a .program .now) (a .budget) (a .registers .now) (a .cells .now) (a .path .now) (a .report .now) _ _ _ _ h
+    (reply-ends (a .program .now) (r .result) _ _ (a .cells .now) _ _ (r .ensures .0 s) (c .number-of .ensures) (c .before .before .before .put-reply .ensures .0) (c .before .before .before .put-reply .ensures .1))
+    (placed-as (a .path .now) (r .ensures .0 s) (r .ensures .1 .0 s))) refl
 
--- src/lib.rt:682:9
 word-requires : tie.Need-word-requires
 word-requires c κs = search needs
 
--- src/lib.rt:683:9
 along-requires : tie.Need-along-requires
-along-requires c κs = ?
+unfolding code-count
+along-requires c κs = (c .before .word .ensures .0, c .before .word .ensures .1)
 
--- src/lib.rt:684:51
 sub-ends : tie.Need-sub-ends
 sub-ends c = search needs
 
--- src/lib.rt:684:5
 ends-requires : tie.Need-ends-requires
-ends-requires c κs = ?
+ends-requires c κs =
+    let a = c .before .before .before .before .before .before .before .before .before .before .before .before .before .before .before .before .before .before .before .before .before .before .args in
+    let w = c .before .before .before .before .before .before .along .ensures .within in
+    let f = c .before .before .before .before .before .before .before .before .before .before .before .before .before .before .before .before .before .before .before .before .before .before .fits .budget in
+    (enough (a .cells .now) (a .report .now) (sym (c .before .before .before .before .before .before .before .before .before .before .before .before .before .is-short .ensures) ∙ c .before .before .before .before .before .before .before .before .before .before .before .before .if1 .left), not-early (length (a .path .now)) _ (sym (c .before .before .before .before .before .before .before .before .before .before .is-early .ensures) ∙ c .before .before .before .before .before .before .before .before .before .if2 .left) .0, omega arith)
 
--- src/lib.rt:656:1
 same-length-7 : tie.Need-same-length-7
 same-length-7 c = search needs
 
--- src/lib.rt:656:1
 same-length-8 : tie.Need-same-length-8
 same-length-8 c = search needs
 
--- src/lib.rt:656:1
 same-length-9 : tie.Need-same-length-9
 same-length-9 c = search needs
 
--- src/lib.rt:656:1
 same-length-10 : tie.Need-same-length-10
 same-length-10 c = search needs
 
--- src/lib.rt:656:1
 returns-3 : tie.Need-returns-3
-returns-3 c = ?
+returns-3 c =
+    let a = c .before .before .before .before .before .before .before .before .before .before .before .before .before .before .before .before .before .before .before .before .before .before .before .before .before .before .before .before .before .args in
+    let h = sym (c .before .before .before .before .before .before .before .before .before .before .before .before .before .before .before .before .before .before .before .before .is-short .ensures) ∙ c .before .before .before .before .before .before .before .before .before .before .before .before .before .before .before .before .before .before .before .if1 .left in
+    let u = not-early (length (a .path .now)) _ (sym (c .before .before .before .before .before .before .before .before .before .before .before .before .before .before .before .before .before .is-early .ensures) ∙ c .before .before .before .before .before .before .before .before .before .before .before .before .before .before .before .before .if2 .left) in
+    let R = c .before .before .before .before .before .before .before .before .before .before .before .before .before .along .ensures in
+    let ends = c .before .before .before .before .before .before .ends in
+    apart (settled (a .program .now) (a .path .now) (a .cells .now) (a .report .now) h) (λ s.
+    let v = settled-valid (a .program .now) (length (a .path .now)) (u .0) s in
+    let e = R .rest ∙ run-goes (a .inputs .now) (a .program .now) (length (a .path .now)) (a .budget) (a .registers .now) [] refl (u .0) v (u .1) in
+    run-ends (a .inputs .now) (a .program .now) (a .budget) (a .registers .now) (a .cells .now) (a .path .now) (a .report .now) _ _ _ _ h
+    (ends-as e (ends .ensures .0))
+    (placed-as (a .path .now) e (ends .ensures .1 v))) refl
 
 pub vebrostin-run-unchecked-spec : {M : Type 1} → statement M
 vebrostin-run-unchecked-spec =
