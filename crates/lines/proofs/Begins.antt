@@ -34,8 +34,8 @@ use Rattle.lines.specs.declared.Begun.{Begun}
 use Rattle.lines.specs.declared.Stage.{Stage}
 use Rattle.lines.specs.declared.Stage.the-variants as Stage
 use Rattle.lines.specs.declared.sums.Totals.{Totals}
-use Rattle.lines.specs.declared.values.Reading.{Reading}
-use Rattle.lines.specs.Reading.{Starts}
+use Rattle.values.specs.declared.Reading.{Reading}
+use Rattle.values.specs.Reading.{Starts}
 use Rattle.lines.specs.Record.{Ready}
 use Rattle.lines.specs.Text.{Wrote}
 use Rattle.lines.specs.Sums.{totals-of}

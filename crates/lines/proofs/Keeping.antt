@@ -13,7 +13,7 @@ use Rattle.writer.specs.Over.{over}
 use Rattle.writer.proofs.Over.{over-nil, over-one, over-over}
 use Rattle.lines.specs.Owed.{Keeps, Keeps-on, one-more}
 use Rattle.lines.proofs.Newlines.{take-byte}
-use Rattle.lines.proofs.Parts.{free-more}
+use Rattle.values.proofs.Parts.{free-more}
 
 pub keeps-none : (names : List ℕ) → Keeps [] 0 names
 keeps-none names = record { count = omega arith; stand = sym (take-all (length names) [] (omega arith)) }

@@ -1,8 +1,4 @@
 -- Laws of lines.
-pub mod Eights
-pub mod Pieces
-pub mod Readings
-pub mod Parts
 pub mod Texts
 pub mod Runs
 pub mod Newlines

@@ -20,8 +20,8 @@ use Rattle.listing.proofs.Fields.{of-line}
 use Rattle.lines.specs.declared.Listed.{Listed}
 use Rattle.lines.specs.declared.record.Recorded.{Recorded}
 use Rattle.lines.specs.declared.sums.Totals.{Totals}
-use Rattle.lines.specs.declared.values.Reading.{Reading}
-use Rattle.lines.specs.Reading.{Reads, Reads-on, Starts}
+use Rattle.values.specs.declared.Reading.{Reading}
+use Rattle.values.specs.Reading.{Reads, Reads-on, Starts}
 use Rattle.lines.specs.Record.{Records}
 use Rattle.lines.specs.Text.{Wrote-some}
 use Rattle.lines.specs.Sums.{Few, totals-of}

@@ -26,10 +26,10 @@ use Rattle.run.specs.Views.{answer-of, reply-of}
 use Rattle.run.specs.Calls.{run-at, unfit-at}
 use Rattle.run.proofs.Whole.{run-5}
 use Rattle.listing.specs.Legs.{Line, bad, line-of, run-line, value-record, zero-registers}
-use Rattle.lines.specs.declared.values.Found.{Found}
-use Rattle.lines.specs.declared.values.Found.the-variants.{Malformed, Values}
+use Rattle.values.specs.declared.Found.{Found}
+use Rattle.values.specs.declared.Found.the-variants.{Malformed, Values}
 use Rattle.lines.specs.declared.record.Outcome.{Outcome}
-use Rattle.lines.specs.Reading.{Finds, Kept, floats}
+use Rattle.values.specs.Reading.{Finds, Kept, floats}
 use Rattle.lines.specs.Record.{Answers, Ready, Runs, found-line}
 
 -- ---- registers

@@ -19,7 +19,7 @@ use Rattle.writer.proofs.Decimal.{decimal-length-le}
 use Rattle.listing.specs.Legs.{Line, bits-text, colon, comma, line-of, printed, refused-as}
 use Rattle.listing.specs.Totals.{Totals, total-line}
 use Rattle.lines.specs.Text.{Wrote, shown}
-use Rattle.lines.proofs.Eights.{hex-halves}
+use Rattle.values.proofs.Eights.{hex-halves}
 
 -- ---- lengths
 

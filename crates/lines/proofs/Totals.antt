@@ -19,7 +19,7 @@ use Rattle.lines.specs.declared.record.Recorded.{Recorded}
 use Rattle.lines.specs.declared.Stage.{Stage}
 use Rattle.lines.specs.declared.Stage.the-variants as Stage
 use Rattle.lines.specs.declared.sums.Totals as Code
-use Rattle.lines.specs.declared.values.Reading.{Reading}
+use Rattle.values.specs.declared.Reading.{Reading}
 use Rattle.lines.specs.Record.{Entered}
 use Rattle.lines.specs.Sums.{Adds, Few, totals-of, wrapped}
 use Rattle.lines.specs.Owed.{output-from, stage-at, under}

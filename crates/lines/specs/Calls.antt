@@ -19,7 +19,7 @@ use Rattle.lines.specs.declared.Listed.{Listed}
 use Rattle.lines.specs.declared.Stage.{Stage}
 use Rattle.lines.specs.declared.Stage.the-variants.{Finished, Names, Values}
 use Rattle.lines.specs.declared.sums.Totals.{Totals}
-use Rattle.lines.specs.declared.values.Reading.{Reading}
+use Rattle.values.specs.declared.Reading.{Reading}
 use Rattle.lines.specs.Record.{Ready}
 use Rattle.lines.specs.Owed.{Advances, Begins, Compiled-as, Ends, Ends-with, Lists, Memory, Stands, memory, output-room}
 

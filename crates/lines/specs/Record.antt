@@ -13,13 +13,13 @@ use Rattle.layout.specs.Decode.{input-count, program-at, register-total}
 use Rattle.run.specs.Views.{answer-of}
 use Rattle.listing.specs.Legs.{Line, bad, line-of, printed, record-text, run-line, value-record}
 use Rattle.listing.specs.Totals.{counted, plus}
-use Rattle.lines.specs.declared.values.Reading.{Reading}
-use Rattle.lines.specs.declared.values.Found.{Found}
-use Rattle.lines.specs.declared.values.Found.the-variants.{Malformed, Values}
+use Rattle.values.specs.declared.Reading.{Reading}
+use Rattle.values.specs.declared.Found.{Found}
+use Rattle.values.specs.declared.Found.the-variants.{Malformed, Values}
 use Rattle.lines.specs.declared.record.Outcome.{Outcome}
 use Rattle.lines.specs.declared.record.Recorded.{Recorded}
 use Rattle.lines.specs.declared.sums.Totals.{Totals}
-use Rattle.lines.specs.Reading.{Reads}
+use Rattle.values.specs.Reading.{Reads}
 use Rattle.lines.specs.Text.{Wrote}
 use Rattle.lines.specs.Sums.{totals-of, wrapped}
 

@@ -3,8 +3,6 @@
 mod record;
 pub mod sums;
 mod text;
-pub mod values;
-mod words;
 
 ghost use mathlib.Core.Path.{_≡_};
 ghost use mathlib.Core.Bool.{true, false};

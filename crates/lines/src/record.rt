@@ -2,9 +2,9 @@
 use crate::sums::Totals;
 use crate::sums::with_line;
 use crate::text::put_line;
-use crate::values::Found;
-use crate::values::Reading;
-use crate::values::finish;
+use values::Found;
+use values::Reading;
+use values::finish;
 use layout::CODE_AT;
 use layout::REGISTERS_AT;
 use run::Answer;

@@ -1,7 +1,7 @@
 // The text of an output line: "line number, answer (`value`, `domain`, `ask`, `bad`), detail (bits, path, function number in
 // decimal and bits joined by `:` with 16 for Power, refusal number), instructions completed".
 use crate::sums::Totals;
-use crate::words::write_eight;
+use values::words::write_eight;
 use layout::CODE_AT;
 use layout::HEADER_SIZE;
 use layout::PATHS_AT;
