@@ -1,5 +1,6 @@
 pub mod Leaves
 pub mod Extremes
+pub mod Plain
 pub mod Opcodes
 pub mod Done
 pub mod Stores

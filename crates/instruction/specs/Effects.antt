@@ -3,7 +3,7 @@ use mathlib.Core.Bool.{Bool, true, false, cond}
 use mathlib.Core.List.{List, []}
 use Prim.Native.Nat.{ℕ, suc, _+_}
 use lib.ListN.{getD}
-use lib.Ieee.{Float, binary64}
+use lib.Ieee.{Float, binary64, lt}
 use Rattle.arithmetic.specs.Value.{0f, is-zero}
 use Rattle.arithmetic.specs.Extremum.{above, below, extremum}
 use Rattle.formula.specs.Text.{half-at, word-at}
@@ -32,6 +32,11 @@ effect-at inputs b n kept regs = shown-effect inputs (op-at b n) n kept regs
 abbrev pub beyond : Bool → Float → Float → Bool
 beyond true = above
 beyond false = below
+
+-- strictly above, or below; zeros are equal
+abbrev pub strictly : Bool → Float → Float → Bool
+strictly true x y = lt y x
+strictly false x y = lt x y
 
 -- Min or Max of the registers in a list of the bytes
 unfoldable pub extremum-at : Bool → List ℕ → ℕ → ℕ → List Float → Float

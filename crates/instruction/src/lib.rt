@@ -3,14 +3,17 @@ pub mod common;
 pub mod longer;
 
 ghost use mathlib.Core.Path.{_≡_};
-ghost use mathlib.Core.Bool.{true};
-ghost use Prim.Native.Nat.{_+_, _<_, _≤_};
+ghost use mathlib.Core.Bool.{true, false};
+ghost use Prim.Native.Nat.{ℕ, _+_, _*_, _<_, _≤_};
 ghost use lib.ListN.{getD, length, set};
+ghost use lib.Ieee.{ne};
 ghost use Rattle.arithmetic.specs.Value.{0f};
-ghost use Rattle.arithmetic.specs.Extremum.{held};
+ghost use Rattle.arithmetic.specs.Extremum.{extremum, held};
 ghost use Rattle.formula.specs.Text.{word-at};
+ghost use Rattle.machine.specs.Machine.{read-all};
+ghost use Rattle.layout.specs.Decode.{entries-from, entry-at};
 ghost use Rattle.work.specs.View.{kept-values};
-ghost use Rattle.instruction.specs.Effects.{beyond, effect-at, extremum-at, operation-at};
+ghost use Rattle.instruction.specs.Effects.{beyond, effect-at, extremum-at, operation-at, strictly};
 ghost use Rattle.instruction.specs.Progressing.{Progressed, machine-effect};
 use layout::CODE_AT;
 use layout::ENTRY_SIZE;
@@ -76,7 +79,77 @@ fn entry(p: &[u8], at: usize, there: bool) -> usize
     word(p, at)
 }
 
+// The next value where it is strictly below the earlier one; zeros are equal.
+fn lesser(earlier: f64, next: f64) -> f64
+    ensures { λ r. ⌜ r ≡ held (strictly false) earlier next ⌝ }
+{
+    if next < earlier {
+        return next;
+    }
+    earlier
+}
+
+// The next value where it is strictly above the earlier one; zeros are equal.
+fn greater(earlier: f64, next: f64) -> f64
+    ensures { λ r. ⌜ r ≡ held (strictly true) earlier next ⌝ }
+{
+    if next > earlier {
+        return next;
+    }
+    earlier
+}
+
+// Min of the registers of a list whose `count` entries begin at a byte and are there; zeros are equal.
+// Min and Max have a loop each: one loop with a test of `most` in it is slow.
+fn least(p: &[u8], at: usize, count: usize, regs: &[f64]) -> f64
+    requires { ⌜ (0 < count) × (at + 4 * count ≤ length (now p)) ⌝ }
+    ensures { λ r. ⌜ ((a : ℕ) → at ≡ entry-at (now (p .entry)) a → r ≡ extremum (strictly false) (read-all (now (regs .entry)) (entries-from (now (p .entry)) count a))) ⌝ }
+{
+    let mut extreme = value_at(regs, reader::known_word(p, at));
+    let mut i = 1;
+    while i < count {
+        extreme = lesser(
+            extreme,
+            value_at(regs, reader::known_word(p, at + ENTRY_SIZE * i)),
+        );
+        i += 1;
+    }
+    extreme
+}
+
+// The same for Max.
+fn greatest(p: &[u8], at: usize, count: usize, regs: &[f64]) -> f64
+    requires { ⌜ (0 < count) × (at + 4 * count ≤ length (now p)) ⌝ }
+    ensures { λ r. ⌜ ((a : ℕ) → at ≡ entry-at (now (p .entry)) a → r ≡ extremum (strictly true) (read-all (now (regs .entry)) (entries-from (now (p .entry)) count a))) ⌝ }
+{
+    let mut extreme = value_at(regs, reader::known_word(p, at));
+    let mut i = 1;
+    while i < count {
+        extreme = greater(
+            extreme,
+            value_at(regs, reader::known_word(p, at + ENTRY_SIZE * i)),
+        );
+        i += 1;
+    }
+    extreme
+}
+
+// Min or Max of a list that begins at a byte; a result that is a zero says nothing.
+fn strict(most: bool, p: &[u8], at: usize, count: usize, regs: &[f64], there: bool) -> f64
+    requires { ⌜ (0 < count) × (there ≡ true → at + 4 * count ≤ length (now p)) ⌝ }
+    ensures { λ r. ⌜ ((a : ℕ) → at ≡ entry-at (now (p .entry)) a → ne r 0f ≡ true → r ≡ extremum-at most (now (p .entry)) count a (now (regs .entry))) ⌝ }
+{
+    if there {
+        if most {
+            return greatest(p, at, count, regs);
+        }
+        return least(p, at, count, regs);
+    }
+    0.0
+}
+
 // Min or Max of the registers of a list in the program: `count` entries from the entry `a` on.
+// Only a zero needs the loop here, which tells -0 from +0.
 fn extremum(most: bool, p: &[u8], count: usize, a: usize, regs: &[f64]) -> f64
     requires { ⌜ (count < 65536) × (a < 4294967296) ⌝ }
     ensures { λ r. ⌜ r ≡ extremum-at most (now (p .entry)) count a (now (regs .entry)) ⌝ }
@@ -86,6 +159,10 @@ fn extremum(most: bool, p: &[u8], count: usize, a: usize, regs: &[f64]) -> f64
     }
     let first = HEADER_SIZE + SLOT_SIZE * word(p, CODE_AT) + RECORD_SIZE * word(p, PATHS_AT);
     let there = first + ENTRY_SIZE * (a + count) <= p.len();
+    let x = strict(most, p, first + ENTRY_SIZE * a, count, regs, there);
+    if x != 0.0 {
+        return x;
+    }
     let mut extreme = value_at(regs, entry(p, first + ENTRY_SIZE * a, there));
     let mut i = 1;
     while i < count {

@@ -2,12 +2,12 @@
 use crate::sums::Totals;
 use crate::sums::with_line;
 use crate::text::put_line;
-use values::Found;
-use values::Reading;
-use values::finish;
 use layout::CODE_AT;
 use layout::REGISTERS_AT;
 use run::Answer;
+use values::Found;
+use values::Reading;
+use values::finish;
 ghost use mathlib.Core.Path.{_≡_};
 ghost use mathlib.Core.Bool.{true};
 ghost use Prim.Native.Nat.{_+_, _≤_};

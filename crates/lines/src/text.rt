@@ -1,13 +1,13 @@
 // The text of an output line: "line number, answer (`value`, `domain`, `ask`, `bad`), detail (bits, path, function number in
 // decimal and bits joined by `:` with 16 for Power, refusal number), instructions completed".
 use crate::sums::Totals;
-use values::words::write_eight;
 use layout::CODE_AT;
 use layout::HEADER_SIZE;
 use layout::PATHS_AT;
 use layout::RECORD_SIZE;
 use layout::SLOT_SIZE;
 use run::Answer;
+use values::words::write_eight;
 use writer::put_bytes;
 use writer::put_decimal;
 use writer::put_long;

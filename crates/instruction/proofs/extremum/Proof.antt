@@ -6,22 +6,22 @@ use borrow.Author.Tests.{leb-true}
 use lib.ListN.{length}
 use lib.Ieee.{div, ofBits}
 use Rattle.formula.specs.Text.{word-at}
-use Rattle.instruction.specs.Effects.{extremum-at}
+use Rattle.instruction.specs.Effects.{beyond, extremum-at}
 use Rattle.instruction.proofs.Extremes.{extreme-end, extreme-left, extreme-none, extreme-start, extreme-step, list-place}
 use Rattle.instruction.proofs.extremum.Statement.{statement}
 use Rattle.instruction.proofs.extremum.Tie as tie
 
 abbrev Inv-loop : tie.InvT-loop
-Inv-loop most p count a regs first there extreme₀ i₀ extreme i = (i ≤ count) × (extremum-at most p count a regs ≡ extreme-left most p count a regs extreme i)
+Inv-loop most p count a regs first there x extreme₀ i₀ extreme i = (i ≤ count) × (extremum-at most p count a regs ≡ extreme-left (beyond most) p count a regs extreme i)
 
 abbrev μ-loop : tie.MeasureT-loop
-μ-loop most p count a regs first there extreme₀ i₀ extreme i = count - i
+μ-loop most p count a regs first there x extreme₀ i₀ extreme i = count - i
 
 returns : tie.Need-returns Inv-loop μ-loop
-unfolding div ofBits
+unfolding div ofBits extremum-at
 returns c =
     let args = c .before .before .before .args in
-    extreme-none (args .most) (args .p .now) (args .count) (args .a) (args .regs .now) (c .if1 .taken)
+    extreme-none (beyond (args .most)) (args .p .now) (args .count) (args .a) (args .regs .now) (c .if1 .taken)
 
 word-requires : tie.Need-word-requires Inv-loop μ-loop
 word-requires c κs = search needs
@@ -50,6 +50,28 @@ mul-there c = omega arith
 add-there-2 : tie.Need-add-there-2 Inv-loop μ-loop
 add-there-2 c = omega arith
 
+mul-strict : tie.Need-mul-strict Inv-loop μ-loop
+mul-strict c = omega arith
+
+add-strict : tie.Need-add-strict Inv-loop μ-loop
+add-strict c = omega arith
+
+strict-requires : tie.Need-strict-requires Inv-loop μ-loop
+strict-requires c κs =
+    let args = c .before .before .before .before .before .args in
+    let z = c .before .before .if1 .left in (
+      omega arith,
+      λ t. let h = leb-true (32 + 24 * c .before .word .result + 12 * c .word2 .result + 4 * (args .a + args .count)) (length (args .p .now)) t in omega arith,
+    )
+
+returns-2 : tie.Need-returns-2 Inv-loop μ-loop
+unfolding ofBits
+returns-2 c =
+    let args = c .before .before .before .before .before .before .before .args in
+    let word = c .before .before .before .word in
+    let word2 = c .before .before .word2 in
+    c .before .strict .ensures (args .a) (list-place (args .p .now) (word .result) (word2 .result) (args .a) (word .ensures .0) (word2 .ensures .0)) (c .if2 .taken)
+
 mul-entry : tie.Need-mul-entry Inv-loop μ-loop
 mul-entry c = omega arith
 
@@ -58,24 +80,25 @@ add-entry c = omega arith
 
 entry-requires : tie.Need-entry-requires Inv-loop μ-loop
 entry-requires c κs =
-    let args = c .before .before .before .before .before .args in
-    let if1 = c .before .before .if1 in
+    let args = c .before .before .before .before .before .before .before .args in
+    let if1 = c .before .before .before .before .if1 in
     λ t.
-    let h = leb-true (32 + 24 * c .before .word .result + 12 * c .word2 .result + 4 * (args .a + args .count)) (length (args .p .now)) t in
+    let h = leb-true (32 + 24 * c .before .before .before .word .result + 12 * c .before .before .word2 .result + 4 * (args .a + args .count)) (length (args .p .now)) t in
     let z = if1 .left in omega arith
 
 value-at-requires : tie.Need-value-at-requires Inv-loop μ-loop
 value-at-requires c κs = search needs
 
 loop-holds : tie.Need-loop-holds Inv-loop μ-loop
+unfolding extremum-at
 loop-holds c =
-    let args = c .before .before .before .before .before .before .before .args in
-    let if1 = c .before .before .before .before .if1 in
-    let word = c .before .before .before .word in
-    let word2 = c .before .before .word2 in
+    let args = c .before .before .before .before .before .before .before .before .before .args in
+    let if1 = c .before .before .before .before .before .before .if1 in
+    let word = c .before .before .before .before .before .word in
+    let word2 = c .before .before .before .before .word2 in
     let entry = c .before .entry in (
       omega arith,
-      extreme-start (args .most) (args .p .now) (args .count) (args .a) (args .regs .now) (c .value-at .result) (entry .result) (if1 .left)
+      extreme-start (beyond (args .most)) (args .p .now) (args .count) (args .a) (args .regs .now) (c .value-at .result) (entry .result) (if1 .left)
           (c .value-at .ensures)
           (entry .ensures
           ∙ ap (word-at (args .p .now)) (list-place (args .p .now) (word .result) (word2 .result) (args .a) (word .ensures .0) (word2 .ensures .0))),
@@ -92,9 +115,9 @@ add-entry-3 c = omega arith
 
 entry-requires-2 : tie.Need-entry-requires-2 Inv-loop μ-loop
 entry-requires-2 c κs =
-    let args = c .before .before .before .before .before .before .before .before .before .args in
-    let word = c .before .before .before .before .before .word in
-    let word2 = c .before .before .before .before .word2 in
+    let args = c .before .before .before .before .before .before .before .before .before .before .before .args in
+    let word = c .before .before .before .before .before .before .before .word in
+    let word2 = c .before .before .before .before .before .before .word2 in
     λ t.
     let h = leb-true (32 + 24 * word .result + 12 * word2 .result + 4 * (args .a + args .count)) (length (args .p .now)) t in
     let z = c .loop-test .taken in omega arith
@@ -113,27 +136,27 @@ loop-less c = omega arith
 
 loop-again : tie.Need-loop-again Inv-loop μ-loop
 loop-again c =
-    let args = c .before .before .before .before .before .before .before .before .before .before .before .before .args in
-    let word = c .before .before .before .before .before .before .before .before .word in
-    let word2 = c .before .before .before .before .before .before .before .word2 in
+    let args = c .before .before .before .before .before .before .before .before .before .before .before .before .before .before .args in
+    let word = c .before .before .before .before .before .before .before .before .before .before .word in
+    let word2 = c .before .before .before .before .before .before .before .before .before .word2 in
     let loop = c .before .before .before .before .loop in
     let loop-test = c .before .before .before .loop-test in
     let entry2 = c .before .before .entry2 in
     let value-at2 = c .before .value-at2 in (
       omega arith,
       loop .inv .1
-          ∙ extreme-step (args .most) (args .p .now) (args .count) (args .a) (args .regs .now) (loop .extreme) (value-at2 .result) (loop .i) (entry2 .result)
+          ∙ extreme-step (beyond (args .most)) (args .p .now) (args .count) (args .a) (args .regs .now) (loop .extreme) (value-at2 .result) (loop .i) (entry2 .result)
           (loop-test .taken) (value-at2 .ensures)
           (entry2 .ensures
           ∙ ap (word-at (args .p .now)) (list-place (args .p .now) (word .result) (word2 .result) (args .a + loop .i) (word .ensures .0) (word2 .ensures .0)))
-          ∙ ap (λ x. extreme-left (args .most) (args .p .now) (args .count) (args .a) (args .regs .now) x (loop .i + 1)) (sym (c .hold .ensures)),
+          ∙ ap (λ x. extreme-left (beyond (args .most)) (args .p .now) (args .count) (args .a) (args .regs .now) x (loop .i + 1)) (sym (c .hold .ensures)),
     )
 
-returns-2 : tie.Need-returns-2 Inv-loop μ-loop
-returns-2 c =
-    let args = c .before .before .before .before .before .before .before .before .before .args in
+returns-3 : tie.Need-returns-3 Inv-loop μ-loop
+returns-3 c =
+    let args = c .before .before .before .before .before .before .before .before .before .before .before .args in
     let loop = c .before .loop in
-    sym (loop .inv .1 ∙ extreme-end (args .most) (args .p .now) (args .count) (args .a) (args .regs .now) (loop .extreme) (loop .i) (c .loop-test .left))
+    sym (loop .inv .1 ∙ extreme-end (beyond (args .most)) (args .p .now) (args .count) (args .a) (args .regs .now) (loop .extreme) (loop .i) (c .loop-test .left))
 
 pub extremum-spec : {M : Type 1} → statement M
 extremum-spec =
@@ -151,6 +174,10 @@ extremum-spec =
     add-there
     mul-there
     add-there-2
+    mul-strict
+    add-strict
+    strict-requires
+    returns-2
     mul-entry
     add-entry
     entry-requires
@@ -165,4 +192,4 @@ extremum-spec =
     add-i
     loop-less
     loop-again
-    returns-2)
+    returns-3)
