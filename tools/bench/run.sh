@@ -18,4 +18,7 @@ if [ -n "$BEFORE" ]; then
     tools/library/runner.sh "$BEFORE" "$out/legs_before"
     exec "$out/bench" builds "$out/legs_before" "$out/legs"
 fi
-exec "$out/bench" "$out/legs" "$out/legs_reference"
+# legs is started by a script, which names its C library; so the reference is too
+printf '#!/bin/sh\nexec %s\n' "$(realpath "$out/legs_reference")" > "$out/reference"
+chmod +x "$out/reference"
+exec "$out/bench" "$out/legs" "$out/reference"

@@ -6,7 +6,7 @@ use mathlib.Core.Logic.{⊎-elim}
 use mathlib.Core.Option.{Option, none, some}
 use Prim.Native.Nat.{ℕ, zero, suc, _+_, _-_, _≤_, _<_}
 use native.Mathlib.Omega.{arith}
-use lib.ListN.{length, getD, set}
+use lib.ListN.{length, set}
 use lib.Dec.{eqb, eqb→eq, leb}
 use lib.Ieee.{Float, binary64, le, lt, ne}
 use borrow.Author.Tests.{eq-eqb}
@@ -28,7 +28,7 @@ use Rattle.instruction.specs.declared.Progress.the-variants as P
 use Rattle.instruction.specs.Progressing.{Progressed, machine-effect}
 use Rattle.instruction.proofs.Done.{value-done}
 use Rattle.instruction.proofs.Opcodes.{lt-or-ge}
-use Rattle.run.specs.Calls.{Reaches, Results, after, log-opcode, putting, single, stale-at, steps-at, unasked, unfit-at}
+use Rattle.run.specs.Calls.{Reaches, Results, after, log-opcode, putting, single, stale-at, steps-at, unfit-at}
 use Rattle.run.specs.Views.{answer-of, reply-of}
 use Rattle.run.specs.declared.Reply.{Reply}
 use Rattle.run.proofs.Late.{stale-is, stale-past}

@@ -23,8 +23,14 @@ write-place-requires c κs = search needs
 
 add-t16 : tie.Need-add-t16
 add-t16 c =
-    let e = c .before .before .before .before .before .before .before .before .steps .ensures .0 ∙ ap (λ (k : List Float). steps-at (c .before .before .before .before .before .before .before .before .before .before .before .before .before .before .before .args .inputs .now) (c .before .before .before .before .before .before .before .before .before .before .before .before .before .before .before .args .p .now) (c .before .before .before .before .before .before .before .before .before .before .before .before .before .before .before .args .s .left) (c .before .before .before .before .before .before .before .before .before .before .before .before .before .before .before .args .s .at) k (c .before .before .before .before .before .before .before .before .before .before .before .before .before .before .before .args .regs .now)) (c .before .before .before .before .before .before .before .before .before .before .fresh .ensures) in
-    omega (arith, few-counted (c .before .before .before .before .before .before .before .before .before .before .before .before .before .before .before .args .inputs .now) (c .before .before .before .before .before .before .before .before .before .before .before .before .before .before .before .args .p .now) (c .before .before .before .before .before .before .before .before .before .before .before .before .before .before .before .args .s .left) (c .before .before .before .before .before .before .before .before .before .before .before .before .before .before .before .args .s .at) (c .before .before .before .before .before .before .before .before .before .before .before .before .before .before .before .args .regs .now) _ (c .before .before .before .before .before .before .before .before .steps .result) e, c .before .before .before .before .before .before .before .before .before .before .before .before .before .before .before .pre .1)
+    let args = c .before .before .before .before .before .before .before .before .before .before .before .before .before .before .before .args in
+    let pre = c .before .before .before .before .before .before .before .before .before .before .before .before .before .before .before .pre in
+    let fresh = c .before .before .before .before .before .before .before .before .before .before .fresh in
+    let steps = c .before .before .before .before .before .before .before .before .steps in
+    let e =
+    steps .ensures .0
+    ∙ ap (λ (k : List Float). steps-at (args .inputs .now) (args .p .now) (args .s .left) (args .s .at) k (args .regs .now)) (fresh .ensures) in
+    omega (arith, few-counted (args .inputs .now) (args .p .now) (args .s .left) (args .s .at) (args .regs .now) _ (steps .result) e, pre .1)
 
 same-length : tie.Need-same-length
 same-length c = search needs
@@ -35,9 +41,20 @@ same-length-2 c = search needs
 returns : tie.Need-returns
 unfolding after
 returns c =
-    let e = c .before .before .before .before .before .before .before .before .steps .ensures .0 ∙ ap (λ (k : List Float). steps-at (c .before .before .before .before .before .before .before .before .before .before .before .before .before .before .before .args .inputs .now) (c .before .before .before .before .before .before .before .before .before .before .before .before .before .before .before .args .p .now) (c .before .before .before .before .before .before .before .before .before .before .before .before .before .before .before .args .s .left) (c .before .before .before .before .before .before .before .before .before .before .before .before .before .before .before .args .s .at) k (c .before .before .before .before .before .before .before .before .before .before .before .before .before .before .before .args .regs .now)) (c .before .before .before .before .before .before .before .before .before .before .fresh .ensures) in (
-      ap (after (c .before .before .before .before .before .before .before .before .before .before .before .before .before .before .before .args .done)) e,
-      λ v. c .before .before .before .write-place .ensures (v, steps-writable (c .before .before .before .before .before .before .before .before .before .before .before .before .before .before .before .args .inputs .now) (c .before .before .before .before .before .before .before .before .before .before .before .before .before .before .before .args .p .now) 8192 (c .before .before .before .before .before .before .before .before .before .before .before .before .before .before .before .args .s .left) (c .before .before .before .before .before .before .before .before .before .before .before .before .before .before .before .args .s .at) [] (c .before .before .before .before .before .before .before .before .before .before .before .before .before .before .before .args .regs .now) _ (c .before .before .before .before .before .before .before .before .steps .result) v (omega arith) e (c .before .before .before .before .before .before .before .before .steps .ensures .1)),
+    let args = c .before .before .before .before .before .before .before .before .before .before .before .before .before .before .before .args in
+    let fresh = c .before .before .before .before .before .before .before .before .before .before .fresh in
+    let steps = c .before .before .before .before .before .before .before .before .steps in
+    let write-place = c .before .before .before .write-place in
+    let e =
+    steps .ensures .0
+    ∙ ap (λ (k : List Float). steps-at (args .inputs .now) (args .p .now) (args .s .left) (args .s .at) k (args .regs .now)) (fresh .ensures) in (
+      ap (after (args .done)) e,
+      λ v.
+          write-place .ensures (
+            v,
+            steps-writable (args .inputs .now) (args .p .now) 8192 (args .s .left) (args .s .at) [] (args .regs .now) _ (steps .result) v (omega arith) e
+                (steps .ensures .1),
+          ),
     )
 
 pub rest-spec : {M : Type 1} → statement M

@@ -44,13 +44,21 @@ returns : tie.Need-returns
 unfolding code-count result-at
 returns c =
     let a = c .before .before .before .before .before .before .before .before .before .before .before .before .before .before .before .before .before .args in
-    let v = c .before .before .before .before .before .value-at .result in
-    let q = c .before .before .before .before .before .before .before .before .before .before .before .question-cells .result in
-    let e = plain-value (a .inputs .now) (a .program .now) (a .s .left) (a .count) (a .s .at) (c .before .before .before .before .before .before .before .before .before .before .word .result) (a .registers .now) (c .before .before .before .before .before .before .before .before .before .before .word .ensures .0)
-    (c .before .before .before .before .before .before .word2 .result) v (c .before .before .before .before .before .before .before .before .if1 .taken) (c .before .before .before .before .before .before .word2 .ensures .0) (c .before .before .before .before .before .value-at .ensures) in (
-      plain-ends _ (gives v) (a .count) (c .before .before .before .before .before .before .before .before .before .before .word .result) none (a .registers .now) e 0 (c .before .before .before .bits-of .result) (q .question ∷ q .first ∷ q .second ∷ []) (a .cells .now) _
-          refl (c .before .before .before .bits-of .ensures) (c .before .before .before .before .before .before .before .before .before .before .before .question-cells .ensures .0) tt (c .before .before .put-plain .ensures),
-      λ w. plain-place _ (gives v) (a .count) (c .before .before .before .before .before .before .before .before .before .before .word .result) none (a .registers .now) e (a .path .now) refl,
+    let question-cells = c .before .before .before .before .before .before .before .before .before .before .before .question-cells in
+    let word = c .before .before .before .before .before .before .before .before .before .before .word in
+    let if1 = c .before .before .before .before .before .before .before .before .if1 in
+    let word2 = c .before .before .before .before .before .before .word2 in
+    let value-at = c .before .before .before .before .before .value-at in
+    let bits-of = c .before .before .before .bits-of in
+    let put-plain = c .before .before .put-plain in
+    let v = value-at .result in
+    let q = question-cells .result in
+    let e =
+    plain-value (a .inputs .now) (a .program .now) (a .s .left) (a .count) (a .s .at) (word .result) (a .registers .now) (word .ensures .0)
+    (word2 .result) v (if1 .taken) (word2 .ensures .0) (value-at .ensures) in (
+      plain-ends _ (gives v) (a .count) (word .result) none (a .registers .now) e 0 (bits-of .result) (q .question ∷ q .first ∷ q .second ∷ [])
+          (a .cells .now) _ refl (bits-of .ensures) (question-cells .ensures .0) tt (put-plain .ensures),
+      λ w. plain-place _ (gives v) (a .count) (word .result) none (a .registers .now) e (a .path .now) refl,
     )
 
 put-plain-requires-2 : tie.Need-put-plain-requires-2
@@ -63,19 +71,28 @@ returns-2 : tie.Need-returns-2
 unfolding code-count
 returns-2 c =
     let a = c .before .before .before .before .before .before .before .before .before .before .before .before .before .before .before .args in
-    let q = c .before .before .before .before .before .before .before .before .before .question-cells .result in
-    let e = plain-spent (a .inputs .now) (a .program .now) (a .s .left) (a .count) (a .s .at) (c .before .before .before .before .before .before .before .before .word .result) (a .registers .now) (c .before .before .before .before .before .before .before .before .word .ensures .0)
-    (c .before .before .before .before .before .before .if1 .left) (c .before .before .before .before .if2 .taken) in (
-      plain-ends _ spent (a .count) (a .s .at) none (a .registers .now) e 101 0 (q .question ∷ q .first ∷ q .second ∷ []) (a .cells .now) _
-          refl refl (c .before .before .before .before .before .before .before .before .before .question-cells .ensures .0) tt (c .before .before .put-plain2 .ensures),
+    let question-cells = c .before .before .before .before .before .before .before .before .before .question-cells in
+    let word = c .before .before .before .before .before .before .before .before .word in
+    let if1 = c .before .before .before .before .before .before .if1 in
+    let if2 = c .before .before .before .before .if2 in
+    let put-plain2 = c .before .before .put-plain2 in
+    let q = question-cells .result in
+    let e =
+    plain-spent (a .inputs .now) (a .program .now) (a .s .left) (a .count) (a .s .at) (word .result) (a .registers .now) (word .ensures .0) (if1 .left)
+    (if2 .taken) in (
+      plain-ends _ spent (a .count) (a .s .at) none (a .registers .now) e 101 0 (q .question ∷ q .first ∷ q .second ∷ []) (a .cells .now) _ refl refl
+          (question-cells .ensures .0) tt (put-plain2 .ensures),
       λ w. plain-place _ spent (a .count) (a .s .at) none (a .registers .now) e (a .path .now) refl,
     )
 
 stops-requires : tie.Need-stops-requires
 unfolding code-count
 stops-requires c κs =
+    let pre = c .before .before .before .before .before .before .before .before .before .before .before .before .before .before .pre in
     let word = c .before .before .before .before .before .before .before .word in
-    (c .before .before .before .before .before .before .before .before .before .before .before .before .before .before .pre .0, c .before .before .before .before .before .before .before .before .before .before .before .before .before .before .pre .1, c .before .before .before .before .before .before .before .before .before .before .before .before .before .before .pre .2, omega (arith, word .ensures .0, c .before .before .before .before .before .if1 .left), omega (arith, word .ensures .1, c .before .before .before .before .before .if1 .left), omega (arith, c .before .before .before .if2 .left))
+    let if1 = c .before .before .before .before .before .if1 in
+    let if2 = c .before .before .before .if2 in
+    (pre .0, pre .1, pre .2, omega (arith, word .ensures .0, if1 .left), omega (arith, word .ensures .1, if1 .left), omega (arith, if2 .left))
 
 same-length-4 : tie.Need-same-length-4
 same-length-4 c = search needs

@@ -82,19 +82,37 @@ is-pending-requires c κs = search needs
 returns-4 : tie.Need-returns-4
 unfolding code-count
 returns-4 c =
-    let cells = c .before .before .before .before .before .before .before .before .before .before .before .before .before .before .before .before .before .before .before .before .args .cells .now in
-    let q = c .before .question-cells .result in
+    let args = c .before .before .before .before .before .before .before .before .before .before .before .before .before .before .before .before .before .before .before .before .args in
+    let word = c .before .before .before .before .before .before .before .before .before .before .before .before .before .before .before .word in
+    let if1 = c .before .before .before .before .before .before .before .before .before .before .before .before .before .before .if1 in
+    let if3 = c .before .before .before .before .before .before .before .before .before .before .before .if3 in
+    let is-finite = c .before .before .before .before .before .before .before .before .before .before .is-finite in
+    let if4 = c .before .before .before .before .before .before .before .before .before .if4 in
+    let known-word = c .before .before .before .before .before .before .before .known-word in
+    let value-at = c .before .before .before .before .before .before .value-at in
+    let known-word2 = c .before .before .before .before .before .known-word2 in
+    let value-at2 = c .before .before .before .before .value-at2 in
+    let puts-power = c .before .before .before .puts-power in
+    let if5 = c .before .before .if5 in
+    let question-cells = c .before .question-cells in
+    let cells = args .cells .now in
+    let q = question-cells .result in
     λ e.
-    power-answers (c .before .before .before .before .before .before .before .before .before .before .before .before .before .before .before .before .before .before .before .before .args .program .now) (c .before .before .before .before .before .before .before .before .before .before .before .before .before .before .before .before .before .before .before .before .args .registers .now) cells (c .before .before .before .before .before .before .before .before .before .before .before .before .before .before .before .before .before .before .before .before .args .value) (getD cells 0 0) (c .before .before .before .before .before .before .before .before .before .before .before .before .before .before .before .word .result) refl (c .before .before .before .before .before .before .before .before .before .before .before .before .before .before .if1 .left) (c .before .before .before .before .before .before .before .before .before .before .before .before .before .before .before .word .ensures .0)
-    (c .before .before .before .before .before .before .before .before .before .before .before .if3 .left) (sym (c .before .before .before .before .before .before .before .before .before .before .is-finite .ensures) ∙ c .before .before .before .before .before .before .before .before .before .if4 .taken) _ (c .before .before .before .before .before .before .before .known-word .result) (c .before .before .before .before .before .before .value-at .result) refl (c .before .before .before .before .before .before .before .known-word .ensures .0) (c .before .before .before .before .before .before .value-at .ensures)
-    (q .question ∷ q .first ∷ q .second ∷ []) (c .is-pending .ensures e) (c .before .before .before .before .before .known-word2 .result) (c .before .before .before .before .value-at2 .result) (c .before .before .before .before .before .known-word2 .ensures .0) (c .before .before .before .before .value-at2 .ensures)
-    (sym (c .before .before .before .puts-power .ensures) ∙ c .before .before .if5 .taken) (c .before .question-cells .ensures .0) (c .before .question-cells .ensures .1)
+    power-answers (args .program .now) (args .registers .now) cells (args .value) (getD cells 0 0) (word .result) refl (if1 .left) (word .ensures .0)
+    (if3 .left) (sym (is-finite .ensures) ∙ if4 .taken) _ (known-word .result) (value-at .result) refl (known-word .ensures .0) (value-at .ensures)
+    (q .question ∷ q .first ∷ q .second ∷ []) (c .is-pending .ensures e) (known-word2 .result) (value-at2 .result) (known-word2 .ensures .0)
+    (value-at2 .ensures) (sym (puts-power .ensures) ∙ if5 .taken) (question-cells .ensures .0) (question-cells .ensures .1)
 
 puts-function-requires : tie.Need-puts-function-requires
 puts-function-requires c κs = search needs
 
 sub-t27 : tie.Need-sub-t27
-sub-t27 c = omega (arith, function-range (getD (c .before .before .before .before .before .before .before .before .before .before .before .before .before .before .before .before .before .before .before .before .args .program .now) (32 + 24 * getD (c .before .before .before .before .before .before .before .before .before .before .before .before .before .before .before .before .before .before .before .before .args .cells .now) 0 0) 0) (sym (c .before .puts-function .ensures) ∙ c .if6 .taken) .0)
+sub-t27 c =
+    let args = c .before .before .before .before .before .before .before .before .before .before .before .before .before .before .before .before .before .before .before .before .args in
+    omega (
+      arith,
+      function-range (getD (args .program .now) (32 + 24 * getD (args .cells .now) 0 0) 0) (sym (c .before .puts-function .ensures) ∙ c .if6 .taken) .0,
+    )
 
 question-cells-requires-2 : tie.Need-question-cells-requires-2
 question-cells-requires-2 c κs = search needs
@@ -105,13 +123,24 @@ is-pending-requires-2 c κs = search needs
 returns-5 : tie.Need-returns-5
 unfolding code-count
 returns-5 c =
-    let cells = c .before .before .before .before .before .before .before .before .before .before .before .before .before .before .before .before .before .before .before .before .before .before .args .cells .now in
-    let q = c .before .question-cells2 .result in
+    let args = c .before .before .before .before .before .before .before .before .before .before .before .before .before .before .before .before .before .before .before .before .before .before .args in
+    let word = c .before .before .before .before .before .before .before .before .before .before .before .before .before .before .before .before .before .word in
+    let if1 = c .before .before .before .before .before .before .before .before .before .before .before .before .before .before .before .before .if1 in
+    let if3 = c .before .before .before .before .before .before .before .before .before .before .before .before .before .if3 in
+    let is-finite = c .before .before .before .before .before .before .before .before .before .before .before .before .is-finite in
+    let if4 = c .before .before .before .before .before .before .before .before .before .before .before .if4 in
+    let known-word = c .before .before .before .before .before .before .before .before .before .known-word in
+    let value-at = c .before .before .before .before .before .before .before .before .value-at in
+    let puts-function = c .before .before .before .puts-function in
+    let if6 = c .before .before .if6 in
+    let question-cells2 = c .before .question-cells2 in
+    let cells = args .cells .now in
+    let q = question-cells2 .result in
     λ e.
-    function-answers (c .before .before .before .before .before .before .before .before .before .before .before .before .before .before .before .before .before .before .before .before .before .before .args .program .now) (c .before .before .before .before .before .before .before .before .before .before .before .before .before .before .before .before .before .before .before .before .before .before .args .registers .now) cells (c .before .before .before .before .before .before .before .before .before .before .before .before .before .before .before .before .before .before .before .before .before .before .args .value) (getD cells 0 0) (c .before .before .before .before .before .before .before .before .before .before .before .before .before .before .before .before .before .word .result) refl (c .before .before .before .before .before .before .before .before .before .before .before .before .before .before .before .before .if1 .left) (c .before .before .before .before .before .before .before .before .before .before .before .before .before .before .before .before .before .word .ensures .0)
-    (c .before .before .before .before .before .before .before .before .before .before .before .before .before .if3 .left) (sym (c .before .before .before .before .before .before .before .before .before .before .before .before .is-finite .ensures) ∙ c .before .before .before .before .before .before .before .before .before .before .before .if4 .taken) _ (c .before .before .before .before .before .before .before .before .before .known-word .result) (c .before .before .before .before .before .before .before .before .value-at .result) refl (c .before .before .before .before .before .before .before .before .before .known-word .ensures .0) (c .before .before .before .before .before .before .before .before .value-at .ensures)
-    (q .question ∷ q .first ∷ q .second ∷ []) (c .is-pending2 .ensures e)
-    (sym (c .before .before .before .puts-function .ensures) ∙ c .before .before .if6 .taken) (c .before .question-cells2 .ensures .0) (c .before .question-cells2 .ensures .1)
+    function-answers (args .program .now) (args .registers .now) cells (args .value) (getD cells 0 0) (word .result) refl (if1 .left) (word .ensures .0)
+    (if3 .left) (sym (is-finite .ensures) ∙ if4 .taken) _ (known-word .result) (value-at .result) refl (known-word .ensures .0) (value-at .ensures)
+    (q .question ∷ q .first ∷ q .second ∷ []) (c .is-pending2 .ensures e) (sym (puts-function .ensures) ∙ if6 .taken) (question-cells2 .ensures .0)
+    (question-cells2 .ensures .1)
 
 returns-6 : tie.Need-returns-6
 returns-6 c = λ e. absurd (true≢false (sym e))

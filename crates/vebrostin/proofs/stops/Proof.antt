@@ -70,26 +70,39 @@ same-length-2 c = search needs
 
 returns : tie.Need-returns
 returns c =
-    let b = c .before .before .before .before .before .before .before .before .before .before .before .before .before .before .before .before .before .before .before .before .before .args .program .now in
-    let inputs = c .before .before .before .before .before .before .before .before .before .before .before .before .before .before .before .before .before .before .before .before .before .args .inputs .now in
-    let regs = c .before .before .before .before .before .before .before .before .before .before .before .before .before .before .before .before .before .before .before .before .before .args .registers .now in
-    let s = c .before .before .before .before .before .before .before .before .before .before .before .before .before .before .before .before .before .before .before .before .before .args .s in
-    let x = c .before .before .before .before .before .before .before .before .before .before .value-at .result in
-    let y = c .before .before .before .before .before .before .before .value-at2 .result in
-    let q = c .before .before .before .before .question-cells .result in
-    let e = plain-power inputs b (s .left) (c .before .before .before .before .before .before .before .before .before .before .before .before .before .before .before .before .before .before .before .before .before .args .count) (s .at) (code-count b) regs refl (c .before .before .before .before .before .before .before .before .before .before .before .before .before .before .before .before .before .before .before .before .before .pre .3) (λ z. omega (arith, c .before .before .before .before .before .before .before .before .before .before .before .before .before .before .before .before .before .before .before .before .before .pre .5)) x y
-    (power-puts inputs b (s .at) regs _ (c .before .before .before .before .before .before .before .before .before .before .before .known-word .result) x refl (c .before .before .before .before .before .before .before .before .before .before .before .known-word .ensures .0) (c .before .before .before .before .before .before .before .before .before .before .value-at .ensures) (c .before .before .before .before .before .before .before .before .known-word2 .result) y
-    (c .before .before .before .before .before .before .before .before .known-word2 .ensures .0) (c .before .before .before .before .before .before .before .value-at2 .ensures) (sym (c .before .before .before .before .before .before .puts-power .ensures) ∙ c .before .before .before .before .before .if2 .taken)) in (
-      plain-ends _ (asks (power x y)) (c .before .before .before .before .before .before .before .before .before .before .before .before .before .before .before .before .before .before .before .before .before .args .count) (s .at) (some (power x y)) regs e 100 0 (q .question ∷ q .first ∷ q .second ∷ []) (c .before .before .before .before .before .before .before .before .before .before .before .before .before .before .before .before .before .before .before .before .before .args .cells .now) _
-          refl refl (c .before .before .before .before .question-cells .ensures .0) (c .before .before .before .before .question-cells .ensures .1) (c .before .before .put-plain .ensures),
-      λ v. plain-place _ (asks (power x y)) (c .before .before .before .before .before .before .before .before .before .before .before .before .before .before .before .before .before .before .before .before .before .args .count) (s .at) (some (power x y)) regs e (c .before .before .before .before .before .before .before .before .before .before .before .before .before .before .before .before .before .before .before .before .before .args .path .now) refl,
+    let args = c .before .before .before .before .before .before .before .before .before .before .before .before .before .before .before .before .before .before .before .before .before .args in
+    let pre = c .before .before .before .before .before .before .before .before .before .before .before .before .before .before .before .before .before .before .before .before .before .pre in
+    let known-word = c .before .before .before .before .before .before .before .before .before .before .before .known-word in
+    let value-at = c .before .before .before .before .before .before .before .before .before .before .value-at in
+    let known-word2 = c .before .before .before .before .before .before .before .before .known-word2 in
+    let value-at2 = c .before .before .before .before .before .before .before .value-at2 in
+    let puts-power = c .before .before .before .before .before .before .puts-power in
+    let if2 = c .before .before .before .before .before .if2 in
+    let question-cells = c .before .before .before .before .question-cells in
+    let put-plain = c .before .before .put-plain in
+    let b = args .program .now in
+    let inputs = args .inputs .now in
+    let regs = args .registers .now in
+    let s = args .s in
+    let x = value-at .result in
+    let y = value-at2 .result in
+    let q = question-cells .result in
+    let e =
+    plain-power inputs b (s .left) (args .count) (s .at) (code-count b) regs refl (pre .3) (λ z. omega (arith, pre .5)) x y
+    (power-puts inputs b (s .at) regs _ (known-word .result) x refl (known-word .ensures .0) (value-at .ensures) (known-word2 .result) y
+    (known-word2 .ensures .0) (value-at2 .ensures) (sym (puts-power .ensures) ∙ if2 .taken)) in (
+      plain-ends _ (asks (power x y)) (args .count) (s .at) (some (power x y)) regs e 100 0 (q .question ∷ q .first ∷ q .second ∷ []) (args .cells .now) _
+          refl refl (question-cells .ensures .0) (question-cells .ensures .1) (put-plain .ensures),
+      λ v. plain-place _ (asks (power x y)) (args .count) (s .at) (some (power x y)) regs e (args .path .now) refl,
     )
 
 puts-function-requires : tie.Need-puts-function-requires
 puts-function-requires c κs = search needs
 
 sub-t35 : tie.Need-sub-t35
-sub-t35 c = omega (arith, function-range (getD (c .before .before .before .before .before .before .before .before .before .before .before .before .before .before .before .before .before .before .args .program .now) (32 + 24 * c .before .before .before .before .before .before .before .before .before .before .before .before .before .before .before .before .before .before .args .s .at) 0) (sym (c .before .puts-function .ensures) ∙ c .if3 .taken) .0)
+sub-t35 c =
+    let args = c .before .before .before .before .before .before .before .before .before .before .before .before .before .before .before .before .before .before .args in
+    omega (arith, function-range (getD (args .program .now) (32 + 24 * args .s .at) 0) (sym (c .before .puts-function .ensures) ∙ c .if3 .taken) .0)
 
 question-cells-requires-2 : tie.Need-question-cells-requires-2
 question-cells-requires-2 c κs = search needs
@@ -105,19 +118,29 @@ same-length-4 c = search needs
 
 returns-2 : tie.Need-returns-2
 returns-2 c =
-    let b = c .before .before .before .before .before .before .before .before .before .before .before .before .before .before .before .before .before .before .before .before .before .before .before .args .program .now in
-    let inputs = c .before .before .before .before .before .before .before .before .before .before .before .before .before .before .before .before .before .before .before .before .before .before .before .args .inputs .now in
-    let regs = c .before .before .before .before .before .before .before .before .before .before .before .before .before .before .before .before .before .before .before .before .before .before .before .args .registers .now in
-    let s = c .before .before .before .before .before .before .before .before .before .before .before .before .before .before .before .before .before .before .before .before .before .before .before .args .s in
+    let args = c .before .before .before .before .before .before .before .before .before .before .before .before .before .before .before .before .before .before .before .before .before .before .before .args in
+    let pre = c .before .before .before .before .before .before .before .before .before .before .before .before .before .before .before .before .before .before .before .before .before .before .before .pre in
+    let known-word = c .before .before .before .before .before .before .before .before .before .before .before .before .before .known-word in
+    let value-at = c .before .before .before .before .before .before .before .before .before .before .before .before .value-at in
+    let puts-function = c .before .before .before .before .before .before .puts-function in
+    let if3 = c .before .before .before .before .before .if3 in
+    let question-cells2 = c .before .before .before .before .question-cells2 in
+    let put-plain2 = c .before .before .put-plain2 in
+    let b = args .program .now in
+    let inputs = args .inputs .now in
+    let regs = args .registers .now in
+    let s = args .s in
     let op = getD b (32 + 24 * s .at) 0 in
-    let x = c .before .before .before .before .before .before .before .before .before .before .before .before .value-at .result in
-    let q = c .before .before .before .before .question-cells2 .result in
-    let e = plain-function inputs b (s .left) (c .before .before .before .before .before .before .before .before .before .before .before .before .before .before .before .before .before .before .before .before .before .before .before .args .count) (s .at) (code-count b) regs refl (c .before .before .before .before .before .before .before .before .before .before .before .before .before .before .before .before .before .before .before .before .before .before .before .pre .3) (λ z. omega (arith, c .before .before .before .before .before .before .before .before .before .before .before .before .before .before .before .before .before .before .before .before .before .before .before .pre .5)) (op - 20) x
-    (function-puts inputs b (s .at) regs op (c .before .before .before .before .before .before .before .before .before .before .before .before .before .known-word .result) x refl (c .before .before .before .before .before .before .before .before .before .before .before .before .before .known-word .ensures .0) (c .before .before .before .before .before .before .before .before .before .before .before .before .value-at .ensures)
-    (sym (c .before .before .before .before .before .before .puts-function .ensures) ∙ c .before .before .before .before .before .if3 .taken)) in (
-      plain-ends _ (asks (elementary (op - 20) x)) (c .before .before .before .before .before .before .before .before .before .before .before .before .before .before .before .before .before .before .before .before .before .before .before .args .count) (s .at) (some (elementary (op - 20) x)) regs e 100 0 (q .question ∷ q .first ∷ q .second ∷ [])
-          (c .before .before .before .before .before .before .before .before .before .before .before .before .before .before .before .before .before .before .before .before .before .before .before .args .cells .now) _ refl refl (c .before .before .before .before .question-cells2 .ensures .0) (c .before .before .before .before .question-cells2 .ensures .1) (c .before .before .put-plain2 .ensures),
-      λ v. plain-place _ (asks (elementary (op - 20) x)) (c .before .before .before .before .before .before .before .before .before .before .before .before .before .before .before .before .before .before .before .before .before .before .before .args .count) (s .at) (some (elementary (op - 20) x)) regs e (c .before .before .before .before .before .before .before .before .before .before .before .before .before .before .before .before .before .before .before .before .before .before .before .args .path .now) refl,
+    let x = value-at .result in
+    let q = question-cells2 .result in
+    let e =
+    plain-function inputs b (s .left) (args .count) (s .at) (code-count b) regs refl (pre .3) (λ z. omega (arith, pre .5)) (op - 20) x
+    (function-puts inputs b (s .at) regs op (known-word .result) x refl (known-word .ensures .0) (value-at .ensures)
+    (sym (puts-function .ensures) ∙ if3 .taken)) in (
+      plain-ends _ (asks (elementary (op - 20) x)) (args .count) (s .at) (some (elementary (op - 20) x)) regs e 100 0
+          (q .question ∷ q .first ∷ q .second ∷ []) (args .cells .now) _ refl refl (question-cells2 .ensures .0) (question-cells2 .ensures .1)
+          (put-plain2 .ensures),
+      λ v. plain-place _ (asks (elementary (op - 20) x)) (args .count) (s .at) (some (elementary (op - 20) x)) regs e (args .path .now) refl,
     )
 
 rest-requires : tie.Need-rest-requires
@@ -140,10 +163,13 @@ same-length-7 c = search needs
 
 returns-3 : tie.Need-returns-3
 returns-3 c =
-    let b = c .before .before .before .before .before .before .before .before .before .before .before .before .before .before .before .before .before .before .before .before .args .program .now in
-    let r = c .before .before .before .before .before .before .before .before .before .before .rest .result in (
-      reply-ends b r _ _ (c .before .before .before .before .before .before .before .before .before .before .before .before .before .before .before .before .before .before .before .before .args .cells .now) _ _ (c .before .before .before .before .before .before .before .before .before .before .rest .ensures .0) (c .number-of .ensures) (c .before .before .before .put-reply .ensures .0) (c .before .before .before .put-reply .ensures .1),
-      λ v. placed-as (c .before .before .before .before .before .before .before .before .before .before .before .before .before .before .before .before .before .before .before .before .args .path .now) (c .before .before .before .before .before .before .before .before .before .before .rest .ensures .0) (c .before .before .before .before .before .before .before .before .before .before .rest .ensures .1 v),
+    let args = c .before .before .before .before .before .before .before .before .before .before .before .before .before .before .before .before .before .before .before .before .args in
+    let rest = c .before .before .before .before .before .before .before .before .before .before .rest in
+    let put-reply = c .before .before .before .put-reply in
+    let b = args .program .now in
+    let r = rest .result in (
+      reply-ends b r _ _ (args .cells .now) _ _ (rest .ensures .0) (c .number-of .ensures) (put-reply .ensures .0) (put-reply .ensures .1),
+      λ v. placed-as (args .path .now) (rest .ensures .0) (rest .ensures .1 v),
     )
 
 pub stops-spec : {M : Type 1} → statement M

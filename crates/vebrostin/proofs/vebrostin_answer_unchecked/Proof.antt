@@ -33,17 +33,28 @@ same-length-2 c = search needs
 returns : tie.Need-returns
 returns c =
     let a = c .before .before .before .before .before .before .before .before .before .before .args in
-    let e = resume-short (a .inputs .now) (a .program .now) (a .budget) (some (a .value)) (a .registers .now) (a .cells .now) (a .path .now) (a .report .now) (sym (c .before .is-short .ensures) ∙ c .if1 .taken) in
+    let e =
+    resume-short (a .inputs .now) (a .program .now) (a .budget) (some (a .value)) (a .registers .now) (a .cells .now) (a .path .now) (a .report .now)
+    (sym (c .before .is-short .ensures) ∙ c .if1 .taken) in
     (λ s. e .0, (λ s. e .1, refl))
 
 is-direct-requires : tie.Need-is-direct-requires
-is-direct-requires c κs = enough (c .before .before .before .before .before .before .before .before .before .before .before .before .args .cells .now) (c .before .before .before .before .before .before .before .before .before .before .before .before .args .report .now) (sym (c .before .before .before .is-short .ensures) ∙ c .before .before .if1 .left)
+is-direct-requires c κs =
+    let args = c .before .before .before .before .before .before .before .before .before .before .before .before .args in
+    let is-short = c .before .before .before .is-short in
+    let if1 = c .before .before .if1 in
+    enough (args .cells .now) (args .report .now) (sym (is-short .ensures) ∙ if1 .left)
 
 word-requires : tie.Need-word-requires
 word-requires c κs = search needs
 
 slice-read-at : tie.Need-slice-read-at
-slice-read-at c = let l = enough (c .before .before .before .before .before .before .before .before .before .before .before .before .before .before .before .before .args .cells .now) (c .before .before .before .before .before .before .before .before .before .before .before .before .before .before .before .before .args .report .now) (sym (c .before .before .before .before .before .before .before .is-short .ensures) ∙ c .before .before .before .before .before .before .if1 .left) in omega arith
+slice-read-at c =
+    let args = c .before .before .before .before .before .before .before .before .before .before .before .before .before .before .before .before .args in
+    let is-short = c .before .before .before .before .before .before .before .is-short in
+    let if1 = c .before .before .before .before .before .before .if1 in
+    let l = enough (args .cells .now) (args .report .now) (sym (is-short .ensures) ∙ if1 .left) in
+    omega arith
 
 mul-word : tie.Need-mul-word
 unfolding code-count
@@ -64,11 +75,19 @@ store-requires : tie.Need-store-requires
 store-requires c κs = search needs
 
 sub-along : tie.Need-sub-along
-sub-along c = omega (arith, budget-left (c .before .before .before .before .before .before .before .before .before .before .before .before .before .before .before .before .before .before .before .before .before .before .args .inputs .now) (c .before .before .before .before .before .before .before .before .before .before .before .before .before .before .before .before .before .before .before .before .before .before .args .program .now) (c .before .before .before .before .before .before .before .before .before .before .before .before .before .before .before .before .before .before .before .before .before .before .args .registers .now) (c .before .before .before .before .before .before .before .before .before .before .before .before .before .before .before .before .before .before .before .before .before .before .args .budget) (c .before .before .before .before .before .before .before .before .before .is-direct .ensures (c .before .before .before .before .before .before .before .before .if2 .taken) .1))
+sub-along c =
+    let args = c .before .before .before .before .before .before .before .before .before .before .before .before .before .before .before .before .before .before .before .before .before .before .args in
+    let is-direct = c .before .before .before .before .before .before .before .before .before .is-direct in
+    let if2 = c .before .before .before .before .before .before .before .before .if2 in
+    omega (arith, budget-left (args .inputs .now) (args .program .now) (args .registers .now) (args .budget) (is-direct .ensures (if2 .taken) .1))
 
 add-along : tie.Need-add-along
 unfolding code-count
-add-along c = omega (arith, c .before .before .before .before .before .before .before .before .before .is-direct .ensures (c .before .before .before .before .before .before .before .before .if2 .taken) .2 .there, c .before .before .before .before .before .before .before .word .ensures .0, c .before .before .before .before .before .before .before .word .ensures .1)
+add-along c =
+    let is-direct = c .before .before .before .before .before .before .before .before .before .is-direct in
+    let if2 = c .before .before .before .before .before .before .before .before .if2 in
+    let word = c .before .before .before .before .before .before .before .word in
+    omega (arith, is-direct .ensures (if2 .taken) .2 .there, word .ensures .0, word .ensures .1)
 
 along-requires : tie.Need-along-requires
 unfolding code-count
@@ -80,11 +99,17 @@ sub-ends c = search needs
 ends-requires : tie.Need-ends-requires
 ends-requires c κs =
     let a = c .before .before .before .before .before .before .before .before .before .before .before .before .before .before .before .before .before .before .before .before .before .before .before .before .before .before .before .before .before .args in
-    let w = c .before .before .before .before .before .before .along .ensures .within in
-    let f = c .before .before .before .before .before .before .before .before .before .before .before .before .before .before .before .before .before .before .before .before .before .before .before .before .before .before .before .before .before .fits .budget in
-    let d = c .before .before .before .before .before .before .before .before .before .before .before .before .before .before .before .before .is-direct .ensures (c .before .before .before .before .before .before .before .before .before .before .before .before .before .before .before .if2 .taken) in
+    let fits = c .before .before .before .before .before .before .before .before .before .before .before .before .before .before .before .before .before .before .before .before .before .before .before .before .before .before .before .before .before .fits in
+    let is-short = c .before .before .before .before .before .before .before .before .before .before .before .before .before .before .before .before .before .before .before .before .is-short in
+    let if1 = c .before .before .before .before .before .before .before .before .before .before .before .before .before .before .before .before .before .before .before .if1 in
+    let is-direct = c .before .before .before .before .before .before .before .before .before .before .before .before .before .before .before .before .is-direct in
+    let if2 = c .before .before .before .before .before .before .before .before .before .before .before .before .before .before .before .if2 in
+    let along = c .before .before .before .before .before .before .along in
+    let w = along .ensures .within in
+    let f = fits .budget in
+    let d = is-direct .ensures (if2 .taken) in
     let l = budget-left (a .inputs .now) (a .program .now) (a .registers .now) (a .budget) (d .1) in
-    (enough (a .cells .now) (a .report .now) (sym (c .before .before .before .before .before .before .before .before .before .before .before .before .before .before .before .before .before .before .before .before .is-short .ensures) ∙ c .before .before .before .before .before .before .before .before .before .before .before .before .before .before .before .before .before .before .before .if1 .left), d .0, omega arith)
+    (enough (a .cells .now) (a .report .now) (sym (is-short .ensures) ∙ if1 .left), d .0, omega arith)
 
 same-length-3 : tie.Need-same-length-3
 same-length-3 c = search needs
@@ -102,22 +127,31 @@ returns-2 : tie.Need-returns-2
 unfolding destination-at
 returns-2 c =
     let a = c .before .before .before .before .before .before .before .before .before .before .before .before .before .before .before .before .before .before .before .before .before .before .before .before .before .before .before .before .before .before .before .before .before .before .before .before .args in
+    let is-short = c .before .before .before .before .before .before .before .before .before .before .before .before .before .before .before .before .before .before .before .before .before .before .before .before .before .before .before .is-short in
+    let if1 = c .before .before .before .before .before .before .before .before .before .before .before .before .before .before .before .before .before .before .before .before .before .before .before .before .before .before .if1 in
+    let is-direct = c .before .before .before .before .before .before .before .before .before .before .before .before .before .before .before .before .before .before .before .before .before .before .before .is-direct in
+    let if2 = c .before .before .before .before .before .before .before .before .before .before .before .before .before .before .before .before .before .before .before .before .before .before .if2 in
+    let word2 = c .before .before .before .before .before .before .before .before .before .before .before .before .before .before .before .before .before .before .before .word2 in
+    let store = c .before .before .before .before .before .before .before .before .before .before .before .before .before .before .before .before .before .store in
+    let along = c .before .before .before .before .before .before .before .before .before .before .before .before .before .along in
+    let ends = c .before .before .before .before .before .before .ends in
     let b = a .program .now in
     let inputs = a .inputs .now in
     let regs = a .registers .now in
     let cells = a .cells .now in
     let room = length (a .path .now) in
-    let h = sym (c .before .before .before .before .before .before .before .before .before .before .before .before .before .before .before .before .before .before .before .before .before .before .before .before .before .before .before .is-short .ensures) ∙ c .before .before .before .before .before .before .before .before .before .before .before .before .before .before .before .before .before .before .before .before .before .before .before .before .before .before .if1 .left in
-    let d = c .before .before .before .before .before .before .before .before .before .before .before .before .before .before .before .before .before .before .before .before .before .before .before .is-direct .ensures (c .before .before .before .before .before .before .before .before .before .before .before .before .before .before .before .before .before .before .before .before .before .before .if2 .taken) in
-    let s = c .before .before .before .before .before .before .before .before .before .before .before .before .before .along .result in
-    let ends = c .before .before .before .before .before .before .ends in
-    apart (settled b (a .path .now) cells (a .report .now) h) (λ w.
+    let h = sym (is-short .ensures) ∙ if1 .left in
+    let d = is-direct .ensures (if2 .taken) in
+    let s = along .result in
+    apart (settled b (a .path .now) cells (a .report .now) h)
+    (λ w.
     let v = settled-valid b room (d .0) w in
-    let e = answer-goes inputs b regs cells (a .value) room (a .budget) (d .2) (d .0) (d .1) (c .before .before .before .before .before .before .before .before .before .before .before .before .before .before .before .before .before .before .before .word2 .result) (s .left) (s .at) (c .before .before .before .before .before .before .before .before .before .before .before .before .before .before .before .before .before .before .before .word2 .ensures .0)
-    (c .before .before .before .before .before .before .before .before .before .before .before .before .before .before .before .before .before .store .ensures) (c .before .before .before .before .before .before .before .before .before .before .before .before .before .along .ensures) v in
+    let e =
+    answer-goes inputs b regs cells (a .value) room (a .budget) (d .2) (d .0) (d .1) (word2 .result) (s .left) (s .at) (word2 .ensures .0)
+    (store .ensures) (along .ensures) v in
     resume-ends inputs b (a .budget) (some (a .value)) regs cells (a .path .now) (a .report .now) _ _ _ _ h (ends-as e (ends .ensures .0))
-    (answer-stands inputs b regs cells (a .value) room (a .budget) (d .2) (d .0) (d .1) v)
-    (placed-as (a .path .now) e (ends .ensures .1 v))) refl
+    (answer-stands inputs b regs cells (a .value) room (a .budget) (d .2) (d .0) (d .1) v) (placed-as (a .path .now) e (ends .ensures .1 v)))
+    refl
 
 resumed-unchecked-requires : tie.Need-resumed-unchecked-requires
 resumed-unchecked-requires c κs = search needs

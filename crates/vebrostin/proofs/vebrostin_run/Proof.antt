@@ -54,15 +54,22 @@ same-length-6 c = search needs
 returns-2 : tie.Need-returns-2
 returns-2 c =
     let a = c .before .before .before .before .before .before .before .before .before .before .before .before .before .before .before .before .before .before .before .before .before .before .before .before .before .args in
-    let e = c .before .before .before .before .before .before .before .before .vebrostin-run-unchecked .ensures in
-    let s = inr (whole.settled (a .program .now) (length (a .path .now)) (sym (c .before .before .before .before .before .before .before .before .before .before .before .before .before .before .goes-on .ensures) ∙ c .before .before .before .before .before .before .before .before .before .before .before .before .before .if2 .taken)) in
+    let goes-on = c .before .before .before .before .before .before .before .before .before .before .before .before .before .before .goes-on in
+    let if2 = c .before .before .before .before .before .before .before .before .before .before .before .before .before .if2 in
+    let vebrostin-run-unchecked = c .before .before .before .before .before .before .before .before .vebrostin-run-unchecked in
+    let e = vebrostin-run-unchecked .ensures in
+    let s = inr (whole.settled (a .program .now) (length (a .path .now)) (sym (goes-on .ensures) ∙ if2 .taken)) in
     (e .0 s, e .1 .0 s)
 
 question-cells-requires : tie.Need-question-cells-requires
 question-cells-requires c κs = search needs
 
 put-plain-requires : tie.Need-put-plain-requires
-put-plain-requires c κs = enough (c .before .before .before .before .before .before .before .before .before .before .before .before .before .before .args .cells .now) (c .before .before .before .before .before .before .before .before .before .before .before .before .before .before .args .report .now) (sym (c .before .before .before .before .before .is-short .ensures) ∙ c .before .before .before .before .if1 .left)
+put-plain-requires c κs =
+    let args = c .before .before .before .before .before .before .before .before .before .before .before .before .before .before .args in
+    let is-short = c .before .before .before .before .before .is-short in
+    let if1 = c .before .before .before .before .if1 in
+    enough (args .cells .now) (args .report .now) (sym (is-short .ensures) ∙ if1 .left)
 
 cast-result-2 : tie.Need-cast-result-2
 cast-result-2 c = search needs

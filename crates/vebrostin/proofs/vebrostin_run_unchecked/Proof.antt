@@ -43,7 +43,11 @@ run-unchecked-requires : tie.Need-run-unchecked-requires
 run-unchecked-requires c κs = search needs
 
 put-reply-requires : tie.Need-put-reply-requires
-put-reply-requires c κs = enough (c .before .before .before .before .before .before .before .before .before .before .before .before .before .before .before .before .before .before .before .before .before .before .args .cells .now) (c .before .before .before .before .before .before .before .before .before .before .before .before .before .before .before .before .before .before .before .before .before .before .args .report .now) (sym (c .before .before .before .before .before .before .before .before .before .before .before .before .before .is-short .ensures) ∙ c .before .before .before .before .before .before .before .before .before .before .before .before .if1 .left)
+put-reply-requires c κs =
+    let args = c .before .before .before .before .before .before .before .before .before .before .before .before .before .before .before .before .before .before .before .before .before .before .args in
+    let is-short = c .before .before .before .before .before .before .before .before .before .before .before .before .before .is-short in
+    let if1 = c .before .before .before .before .before .before .before .before .before .before .before .before .if1 in
+    enough (args .cells .now) (args .report .now) (sym (is-short .ensures) ∙ if1 .left)
 
 number-of-requires : tie.Need-number-of-requires
 number-of-requires c κs = search needs
@@ -63,12 +67,18 @@ same-length-6 c = search needs
 returns-2 : tie.Need-returns-2
 returns-2 c =
     let a = c .before .before .before .before .before .before .before .before .before .before .before .before .before .before .before .before .before .before .before .before .before .before .before .before .before .before .args in
-    let h = sym (c .before .before .before .before .before .before .before .before .before .before .before .before .before .before .before .before .before .is-short .ensures) ∙ c .before .before .before .before .before .before .before .before .before .before .before .before .before .before .before .before .if1 .left in
+    let is-short = c .before .before .before .before .before .before .before .before .before .before .before .before .before .before .before .before .before .is-short in
+    let if1 = c .before .before .before .before .before .before .before .before .before .before .before .before .before .before .before .before .if1 in
     let r = c .before .before .before .before .before .before .before .before .before .before .run-unchecked in
-    apart (settled (a .program .now) (a .path .now) (a .cells .now) (a .report .now) h) (λ s.
+    let put-reply = c .before .before .before .put-reply in
+    let h = sym (is-short .ensures) ∙ if1 .left in
+    apart (settled (a .program .now) (a .path .now) (a .cells .now) (a .report .now) h)
+    (λ s.
     run-ends (a .inputs .now) (a .program .now) (a .budget) (a .registers .now) (a .cells .now) (a .path .now) (a .report .now) _ _ _ _ h
-    (reply-ends (a .program .now) (r .result) _ _ (a .cells .now) _ _ (r .ensures .0 s) (c .number-of .ensures) (c .before .before .before .put-reply .ensures .0) (c .before .before .before .put-reply .ensures .1))
-    (placed-as (a .path .now) (r .ensures .0 s) (r .ensures .1 .0 s))) refl
+    (reply-ends (a .program .now) (r .result) _ _ (a .cells .now) _ _ (r .ensures .0 s) (c .number-of .ensures) (put-reply .ensures .0)
+    (put-reply .ensures .1))
+    (placed-as (a .path .now) (r .ensures .0 s) (r .ensures .1 .0 s)))
+    refl
 
 word-requires : tie.Need-word-requires
 word-requires c κs = search needs
@@ -83,9 +93,18 @@ sub-ends c = search needs
 ends-requires : tie.Need-ends-requires
 ends-requires c κs =
     let a = c .before .before .before .before .before .before .before .before .before .before .before .before .before .before .before .before .before .before .before .before .before .before .args in
-    let w = c .before .before .before .before .before .before .along .ensures .within in
-    let f = c .before .before .before .before .before .before .before .before .before .before .before .before .before .before .before .before .before .before .before .before .before .before .fits .budget in
-    (enough (a .cells .now) (a .report .now) (sym (c .before .before .before .before .before .before .before .before .before .before .before .before .before .is-short .ensures) ∙ c .before .before .before .before .before .before .before .before .before .before .before .before .if1 .left), not-early (length (a .path .now)) _ (sym (c .before .before .before .before .before .before .before .before .before .before .is-early .ensures) ∙ c .before .before .before .before .before .before .before .before .before .if2 .left) .0, omega arith)
+    let fits = c .before .before .before .before .before .before .before .before .before .before .before .before .before .before .before .before .before .before .before .before .before .before .fits in
+    let is-short = c .before .before .before .before .before .before .before .before .before .before .before .before .before .is-short in
+    let if1 = c .before .before .before .before .before .before .before .before .before .before .before .before .if1 in
+    let is-early = c .before .before .before .before .before .before .before .before .before .before .is-early in
+    let if2 = c .before .before .before .before .before .before .before .before .before .if2 in
+    let along = c .before .before .before .before .before .before .along in
+    let w = along .ensures .within in
+    let f = fits .budget in (
+      enough (a .cells .now) (a .report .now) (sym (is-short .ensures) ∙ if1 .left),
+      not-early (length (a .path .now)) _ (sym (is-early .ensures) ∙ if2 .left) .0,
+      omega arith,
+    )
 
 same-length-7 : tie.Need-same-length-7
 same-length-7 c = search needs
@@ -102,16 +121,22 @@ same-length-10 c = search needs
 returns-3 : tie.Need-returns-3
 returns-3 c =
     let a = c .before .before .before .before .before .before .before .before .before .before .before .before .before .before .before .before .before .before .before .before .before .before .before .before .before .before .before .before .before .args in
-    let h = sym (c .before .before .before .before .before .before .before .before .before .before .before .before .before .before .before .before .before .before .before .before .is-short .ensures) ∙ c .before .before .before .before .before .before .before .before .before .before .before .before .before .before .before .before .before .before .before .if1 .left in
-    let u = not-early (length (a .path .now)) _ (sym (c .before .before .before .before .before .before .before .before .before .before .before .before .before .before .before .before .before .is-early .ensures) ∙ c .before .before .before .before .before .before .before .before .before .before .before .before .before .before .before .before .if2 .left) in
-    let R = c .before .before .before .before .before .before .before .before .before .before .before .before .before .along .ensures in
+    let is-short = c .before .before .before .before .before .before .before .before .before .before .before .before .before .before .before .before .before .before .before .before .is-short in
+    let if1 = c .before .before .before .before .before .before .before .before .before .before .before .before .before .before .before .before .before .before .before .if1 in
+    let is-early = c .before .before .before .before .before .before .before .before .before .before .before .before .before .before .before .before .before .is-early in
+    let if2 = c .before .before .before .before .before .before .before .before .before .before .before .before .before .before .before .before .if2 in
+    let along = c .before .before .before .before .before .before .before .before .before .before .before .before .before .along in
     let ends = c .before .before .before .before .before .before .ends in
-    apart (settled (a .program .now) (a .path .now) (a .cells .now) (a .report .now) h) (λ s.
+    let h = sym (is-short .ensures) ∙ if1 .left in
+    let u = not-early (length (a .path .now)) _ (sym (is-early .ensures) ∙ if2 .left) in
+    let R = along .ensures in
+    apart (settled (a .program .now) (a .path .now) (a .cells .now) (a .report .now) h)
+    (λ s.
     let v = settled-valid (a .program .now) (length (a .path .now)) (u .0) s in
     let e = R .rest ∙ run-goes (a .inputs .now) (a .program .now) (length (a .path .now)) (a .budget) (a .registers .now) [] refl (u .0) v (u .1) in
     run-ends (a .inputs .now) (a .program .now) (a .budget) (a .registers .now) (a .cells .now) (a .path .now) (a .report .now) _ _ _ _ h
-    (ends-as e (ends .ensures .0))
-    (placed-as (a .path .now) e (ends .ensures .1 v))) refl
+    (ends-as e (ends .ensures .0)) (placed-as (a .path .now) e (ends .ensures .1 v)))
+    refl
 
 pub vebrostin-run-unchecked-spec : {M : Type 1} → statement M
 vebrostin-run-unchecked-spec =
