@@ -227,9 +227,9 @@ module _ (inputs : List Float) (b : List ℕ) where
       next-never (λ to regs′. Machine.steps binary64 inputs (raw-program b) budget to [] regs′) (λ to regs′ m z. steps-never budget to [] regs′ m z) at kept regs
       (getElem? (raw-program b .code) at) n e
 
-  pub steps-refuse : (budget at : ℕ) (kept regs : List Float) (n : ℕ) → steps-at inputs b budget at kept regs .answer ≡ refused n → ⊥
+  pub never-refused : (budget at : ℕ) (kept regs : List Float) (n : ℕ) → steps-at inputs b budget at kept regs .answer ≡ refused n → ⊥
   unfolding steps-at
-  steps-refuse budget at kept regs n e = steps-never budget at kept regs n e
+  never-refused budget at kept regs n e = steps-never budget at kept regs n e
 
   pub not-refused : (budget at : ℕ) (kept regs regs′ : List Float) (r : Reply) → reply-of b r regs′ ≡ steps-at inputs b budget at kept regs → (n : ℕ) → r .answer ≡ A.Refused n → ⊥
   unfolding steps-at

@@ -24,7 +24,7 @@ use Rattle.instruction.specs.Effects.{effect-at}
 use Rattle.instruction.specs.declared.Effect.the-variants.{Work}
 use Rattle.instruction.proofs.Once.{function-puts, function-range, function-takes, power-puts, power-takes}
 use Rattle.run.specs.Calls.{Reaches, after, resume-at, stale-at, steps-at, unfit-at}
-use Rattle.run.proofs.Looping.{reaches-on, steps-refuse}
+use Rattle.run.proofs.Looping.{reaches-on, never-refused}
 use Rattle.run.proofs.Plain.{fresh-function, fresh-power}
 use Rattle.run.proofs.Single.{answered-reaches, budget-left}
 use Rattle.run.proofs.Whole.{resume-goes}
@@ -88,7 +88,7 @@ module _ (inputs : List Float) (b : List ℕ) (regs : List Float) (cells : List 
   pub answer-stands : valid (program-at b) ≡ true → is-refused (resume-at inputs b room budget (some v) (state-in cells) regs .answer) ≡ false
   answer-stands w =
       ap (λ (x : Machine.Reply). is-refused (x .answer)) (sym (is-resume w))
-      ∙ not-refused _ (steps-refuse inputs b budget (getD cells 0 0) (v ∷ []) regs)
+      ∙ not-refused _ (never-refused inputs b budget (getD cells 0 0) (v ∷ []) regs)
 
   -- after its result is stored, and as far as the run comes at once
   module _ (d : ℕ) {regs′ regs″ : List Float} (left at : ℕ) (ed : d ≡ destination-at b (getD cells 0 0)) (es : regs′ ≡ set regs d v)

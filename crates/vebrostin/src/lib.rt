@@ -34,7 +34,6 @@ use refusals::SLICE_TOO_SHORT;
 use run::Answer;
 use run::Pending;
 use run::Place;
-use run::Reply;
 use run::State;
 use run::Supplied;
 use work::Kept;
