@@ -1,10 +1,12 @@
 -- Values: IEEE 754 numbers as `lib.Ieee` has them, and the tests that document 01 puts to them.
 use mathlib.Core.Bool.{Bool, true, false, cond}
-use Prim.Native.Nat.{_*_, _%_}
-use lib.IntN.{pos, negsuc}
+use mathlib.Core.Option.{Option, none, some}
+use Prim.Native.Nat.{ℕ, _*_, _/_, _%_}
+use lib.IntN.{ℤ, pos, negsuc, negℤ}
 use lib.Dec.{eqb}
 use lib.Ieee.{Float, eq, up, down}
 use lib.Ieee as Ieee
+use lib.Ieee.Positive.{num, den}
 -- neither a NaN nor an infinity
 pub use lib.Ieee.Scale.{finite}
 
@@ -42,6 +44,21 @@ unfoldable pub whole : Float → Bool
 whole Ieee.nan = false
 whole (Ieee.inf s) = false
 whole (Ieee.fin s m e) = eqb (m * up e % down e) 0
+
+abbrev pub sign : Float → Bool
+sign Ieee.nan = false
+sign (Ieee.inf s) = s
+sign (Ieee.fin s m e) = s
+
+-- ±a
+abbrev pub signed : Bool → ℕ → ℤ
+signed false a = pos a
+signed true a = negℤ (pos a)
+
+-- The whole number that a value is, of any size, and none where it is no whole number. `num x / den x` is the size of a finite x.
+unfoldable pub integer-of : Float → Option ℤ
+unfolding whole
+integer-of x = cond (whole x) (some (signed (sign x) (num x / den x))) none
 
 unfoldable pub absolute : Float → Float
 absolute Ieee.nan = Ieee.nan

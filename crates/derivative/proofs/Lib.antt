@@ -13,3 +13,8 @@ pub mod Reach
 pub mod Derived
 pub mod Simplified
 pub mod Boundaries
+pub mod Exact
+pub mod Moves
+pub mod Ruled
+pub mod Bounds
+pub mod Worked

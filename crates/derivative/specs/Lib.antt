@@ -3,3 +3,4 @@ pub mod Rules
 pub mod Differentiate
 pub mod Derive
 pub mod Attributes
+pub mod Polynomial

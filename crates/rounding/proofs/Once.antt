@@ -15,6 +15,8 @@ use lib.Ieee.Scale.{finite}
 use lib.Ieee.Fits.{down-pos}
 use lib.Ieee.Positive.{num, den, den-pos}
 use Rattle.arithmetic.specs.Width.{Width, width, digits, least}
+use Rattle.arithmetic.proofs.Integers.{natAbs-neg}
+use Rattle.arithmetic.proofs.Wholes.{size-back}
 use Rattle.rounding.specs.Rounding.{Size, distance, off, IsRounded}
 use Rattle.rounding.specs.Exact.{sign, signed, sign-of, RoundsTo, off±}
 use Rattle.rounding.proofs.Rounded.{round-rounded}
@@ -28,11 +30,6 @@ sign-back z s zero h = zeros s (h refl)
     zeros true e = sym e
 sign-back z false (suc k) h = refl
 sign-back z true (suc k) h = refl
-
-pub size-back : (s : Bool) (k : ℕ) → natAbs (signed s k) ≡ k
-size-back false k = refl
-size-back true zero = refl
-size-back true (suc k) = refl
 
 as-whole : (F : Format) (a : ℤ) (c : ℕ) (z s : Bool) (k : ℕ) → a ≡ signed s k → (k ≡ 0 → s ≡ z) → round F s k c ≡ round F (sign-of z a) (natAbs a) c
 as-whole F a c z s k e h =
@@ -61,14 +58,9 @@ apart x y = go (decLe y x)
     go (yes h) = ap natAbs (difference x y h) ∙ omega arith
     go (no f) = let l = le-of-lt (lt-of-not-le f) in ap natAbs (opposite x y l) ∙ size-back true (y - x) ∙ omega arith
 
-turned : (z : ℤ) → natAbs (negℤ z) ≡ natAbs z
-turned (pos zero) = refl
-turned (pos (suc n)) = refl
-turned (negsuc n) = refl
-
 pub apart-like : (s : Bool) (x y : ℕ) → natAbs (signed s x -ℤ signed s y) ≡ distance x y
 apart-like false x y = apart x y
-apart-like true x y = ap natAbs (sym (negℤ-+ℤ (pos x) (negℤ (pos y)))) ∙ turned (pos x +ℤ negℤ (pos y)) ∙ apart x y
+apart-like true x y = ap natAbs (sym (negℤ-+ℤ (pos x) (negℤ (pos y)))) ∙ natAbs-neg (pos x +ℤ negℤ (pos y)) ∙ apart x y
 
 pub apart-unlike : (s : Bool) (x y : ℕ) → natAbs (signed (not s) x -ℤ signed s y) ≡ x + y
 apart-unlike false x y = ap natAbs (sym (negℤ-+ℤ (pos x) (pos y))) ∙ size-back true (x + y)

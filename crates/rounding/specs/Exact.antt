@@ -1,20 +1,12 @@
 -- Exact results as fractions with a sign, and one rounding of them. `num x / den x` is the size of a finite x.
 use mathlib.Core.Bool.{Bool, true, false}
 use Prim.Native.Nat.{ℕ, zero, suc, _*_, _^_}
-use lib.IntN.{ℤ, pos, negsuc, negℤ, natAbs, _-ℤ_}
-use lib.Ieee.{Float, nan, inf, fin}
+use lib.IntN.{ℤ, pos, negsuc, natAbs, _-ℤ_}
+use lib.Ieee.{Float}
 use Rattle.arithmetic.specs.Width.{Width, least}
 use Rattle.rounding.specs.Rounding.{IsRounded}
-
-abbrev pub sign : Float → Bool
-sign nan = false
-sign (inf s) = s
-sign (fin s m e) = s
-
--- ±a
-abbrev pub signed : Bool → ℕ → ℤ
-signed false a = pos a
-signed true a = negℤ (pos a)
+-- a value's sign, and ±a
+pub use Rattle.arithmetic.specs.Value.{sign, signed}
 
 -- the sign of a whole number; z for 0, which has none
 abbrev pub sign-of : Bool → ℤ → Bool
