@@ -1,14 +1,14 @@
 -- How large and how deep the derivative of a plain formula is: no more than 2·n + n·k nodes for n nodes at depth k, and not twice as deep.
-use mathlib.Core.Path.{_≡_, sym, ap, _∙_}
+use mathlib.Core.Path.{_≡_}
 use mathlib.Core.Bool.{Bool, true, false, cond, _||_}
 use Prim.Native.Nat.{ℕ, suc, _+_, _*_, _≤_, _<_, max}
-use native.Mathlib.Nat.{add-mul, mul-le-mul-left, mul-le-mul, mul-suc, suc-mul}
+use native.Mathlib.Nat.{add-mul, mul-le-mul-left, mul-suc, suc-mul}
 use native.Mathlib.Omega.{arith}
 use Rattle.formula.specs.Operator.{binary, Add, Multiply}
-use Rattle.formula.specs.Formula.{number, operation, Formula, node, last, size, depth}
+use Rattle.formula.specs.Formula.{operation, Formula, node, size, depth}
 use Rattle.derivative.specs.Rules.{add-of, mul-of}
 use Rattle.derivative.specs.Differentiate.{formulas, binary-node, with-primal}
-use Rattle.derivative.proofs.Ruled.{Ruled, without, itself, positive, negative, sum, difference, product, zero-literal}
+use Rattle.derivative.proofs.Ruled.{Ruled, without, itself, positive, negative, sum, difference, product, zero-literal, minus-one-literal, negated}
 
 -- ---- simplified sums and products are no larger than whole ones
 
@@ -54,21 +54,18 @@ grown na nb ka kb sa sb p q =
     let l : n * suc k ≡ n * k + n = mul-suc n k in
     omega arith
 
-abbrev minus-one : Formula
-minus-one = node (number 0xbff0000000000000) last
-
 module _ (s : ℕ) where
   pub rate-size : {f g : Formula} → Ruled s f g → size g ≤ 2 * size f + size f * depth f
   rate-size (without {f} p e) = omega (arith, size-positive f)
   rate-size (itself e) = omega arith
   rate-size (positive {a} {da} r) = omega (arith, grown (size a) 0 (depth a) 0 (size da) 0 (rate-size r) (omega arith))
   rate-size (negative {a} {da} r) =
-      omega (arith, mul-joined minus-one da, grown (size a) 0 (depth a) 0 (size da) 0 (rate-size r) (omega arith))
+      omega (arith, mul-joined minus-one-literal da, grown (size a) 0 (depth a) 0 (size da) 0 (rate-size r) (omega arith))
   rate-size (sum {a} {da} {b} {db} r t) =
       omega (arith, add-joined da db, grown (size a) (size b) (depth a) (depth b) (size da) (size db) (rate-size r) (rate-size t))
   rate-size (difference {a} {da} {b} {db} r t) =
       omega
-      (arith, add-joined da (mul-of formulas minus-one db), mul-joined minus-one db, size-positive a, grown (size a) (size b) (depth a) (depth b) (size da) (size db) (rate-size r) (rate-size t))
+      (arith, add-joined da (negated db), mul-joined minus-one-literal db, size-positive a, grown (size a) (size b) (depth a) (depth b) (size da) (size db) (rate-size r) (rate-size t))
   rate-size (product {a} {da} {b} {db} r t) =
       omega
       (arith, add-joined (mul-of formulas da b) (mul-of formulas a db), mul-joined da b, mul-joined a db, grown (size a) (size b) (depth a) (depth b) (size da) (size db) (rate-size r) (rate-size t))
@@ -77,10 +74,10 @@ module _ (s : ℕ) where
   rate-depth (without {f} p e) = omega (arith, depth-positive f)
   rate-depth (itself e) = omega arith
   rate-depth (positive {a} {da} r) = omega (arith, rate-depth r)
-  rate-depth (negative {a} {da} r) = omega (arith, mul-joined minus-one da, depth-positive da, rate-depth r)
+  rate-depth (negative {a} {da} r) = omega (arith, mul-joined minus-one-literal da, depth-positive da, rate-depth r)
   rate-depth (sum {a} {da} {b} {db} r t) = omega (arith, add-joined da db, rate-depth r, rate-depth t)
   rate-depth (difference {a} {da} {b} {db} r t) =
-      omega (arith, add-joined da (mul-of formulas minus-one db), mul-joined minus-one db, depth-positive db, rate-depth r, rate-depth t)
+      omega (arith, add-joined da (negated db), mul-joined minus-one-literal db, depth-positive db, rate-depth r, rate-depth t)
   rate-depth (product {a} {da} {b} {db} r t) =
       omega
       (arith, add-joined (mul-of formulas da b) (mul-of formulas a db), mul-joined da b, mul-joined a db, depth-positive a, depth-positive b, rate-depth r, rate-depth t)

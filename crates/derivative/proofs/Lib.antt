@@ -17,4 +17,6 @@ pub mod Exact
 pub mod Moves
 pub mod Ruled
 pub mod Bounds
+pub mod Slopes
+pub mod Polynomial
 pub mod Worked

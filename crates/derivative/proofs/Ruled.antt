@@ -22,8 +22,11 @@ zero-literal = node (number 0) last
 abbrev pub one-literal : Formula
 one-literal = node (number 0x3ff0000000000000) last
 
+abbrev pub minus-one-literal : Formula
+minus-one-literal = node (number 0xbff0000000000000) last
+
 abbrev pub negated : Formula → Formula
-negated a = mul-of formulas (node (number 0xbff0000000000000) last) a
+negated a = mul-of formulas minus-one-literal a
 
 abbrev pub unary-node : Operation → Formula → Formula
 unary-node o a = node (operation o) (next a last)
