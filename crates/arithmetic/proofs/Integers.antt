@@ -3,7 +3,7 @@ use mathlib.Core.Path.{_≡_, refl, sym, ap, _∙_}
 use Prim.Native.Nat.{ℕ, zero, suc, _*_, _<_}
 use native.Mathlib.Nat.{mul-pos}
 use native.Mathlib.Omega.{arith}
-use lib.IntN.{ℤ, pos, negsuc, sucℤ, predℤ, negℤ, natAbs, _+ℤ_, _-ℤ_, _*ℤ_, negℤ-negℤ, negℤ-+ℤ, +ℤ-idl, +ℤ-idr, +ℤ-assoc, +ℤ-comm, +ℤ-invr, sucℤ-+ℤ, predℤ-+ℤ, *ℤ-comm, zero-*ℤ, one, *ℤ-one, sucℤ-*ℤ, predℤ-*ℤ}
+use lib.IntN.{ℤ, pos, negsuc, sucℤ, predℤ, negℤ, natAbs, _+ℤ_, _-ℤ_, _*ℤ_, negℤ-negℤ, +ℤ-negℤ-cancel, +ℤ-idl, +ℤ-idr, +ℤ-assoc, +ℤ-comm, +ℤ-invr, sucℤ-+ℤ, predℤ-+ℤ, *ℤ-comm, zero-*ℤ, one, *ℤ-one, sucℤ-*ℤ, predℤ-*ℤ}
 
 -- ---- sums
 
@@ -16,6 +16,23 @@ add-add-add-comm a b c d = +ℤ-assoc a b (c +ℤ d) ∙ ap (λ (x : ℤ). a +�
 -- what is added on the left is taken away again
 pub add-sub-cancel-left : (a b : ℤ) → (a +ℤ b) -ℤ a ≡ b
 add-sub-cancel-left a b = ap (λ (x : ℤ). x -ℤ a) (+ℤ-comm a b) ∙ +ℤ-assoc b a (negℤ a) ∙ ap (λ (x : ℤ). b +ℤ x) (+ℤ-invr a) ∙ +ℤ-idr b
+
+-- two sums that are equal
+pub sub-eq-sub : (a b c d : ℤ) → a +ℤ b ≡ c +ℤ d → a -ℤ c ≡ d -ℤ b
+sub-eq-sub a b c d e =
+    ap (λ (x : ℤ). x -ℤ c) (sym (+ℤ-negℤ-cancel a b) ∙ ap (λ (x : ℤ). x -ℤ b) e)
+    ∙ +ℤ-assoc (c +ℤ d) (negℤ b) (negℤ c)
+    ∙ ap (λ (x : ℤ). c +ℤ d +ℤ x) (+ℤ-comm (negℤ b) (negℤ c))
+    ∙ sym (+ℤ-assoc (c +ℤ d) (negℤ c) (negℤ b))
+    ∙ ap (λ (x : ℤ). x -ℤ b) (add-sub-cancel-left c d)
+
+-- a sum that is zero, and a difference
+opposite : (a b : ℤ) → a +ℤ b ≡ pos 0 → a ≡ negℤ b
+opposite a b e =
+    sym (+ℤ-idr a) ∙ ap (λ (x : ℤ). a +ℤ x) (sym (+ℤ-invr b)) ∙ sym (+ℤ-assoc a b (negℤ b)) ∙ ap (λ (x : ℤ). x -ℤ b) e ∙ +ℤ-idl (negℤ b)
+
+pub no-difference : (a b : ℤ) → a -ℤ b ≡ pos 0 → a ≡ b
+no-difference a b e = opposite a (negℤ b) e ∙ negℤ-negℤ b
 
 -- ---- products
 
@@ -52,11 +69,6 @@ add-mul (negsuc (suc n)) b c = down (negsuc n) b c (add-mul (negsuc n) b c)
 pub mul-add : (a b c : ℤ) → a *ℤ (b +ℤ c) ≡ a *ℤ b +ℤ a *ℤ c
 mul-add a b c = *ℤ-comm a (b +ℤ c) ∙ add-mul b c a ∙ ap (λ (x : ℤ). x +ℤ c *ℤ a) (*ℤ-comm b a) ∙ ap (λ (x : ℤ). a *ℤ b +ℤ x) (*ℤ-comm c a)
 
--- a sum that is zero
-opposite : (a b : ℤ) → a +ℤ b ≡ pos 0 → a ≡ negℤ b
-opposite a b e =
-    sym (+ℤ-idr a) ∙ ap (λ (x : ℤ). a +ℤ x) (sym (+ℤ-invr b)) ∙ sym (+ℤ-assoc a b (negℤ b)) ∙ ap (λ (x : ℤ). x -ℤ b) e ∙ +ℤ-idl (negℤ b)
-
 pub neg-mul : (a b : ℤ) → negℤ a *ℤ b ≡ negℤ (a *ℤ b)
 neg-mul a b =
     opposite (negℤ a *ℤ b) (a *ℤ b)
@@ -64,6 +76,9 @@ neg-mul a b =
 
 pub mul-neg : (a b : ℤ) → a *ℤ negℤ b ≡ negℤ (a *ℤ b)
 mul-neg a b = *ℤ-comm a (negℤ b) ∙ neg-mul b a ∙ ap negℤ (*ℤ-comm b a)
+
+pub sub-mul : (a b c : ℤ) → (a -ℤ b) *ℤ c ≡ a *ℤ c -ℤ b *ℤ c
+sub-mul a b c = add-mul a (negℤ b) c ∙ ap (λ (x : ℤ). a *ℤ c +ℤ x) (neg-mul b c)
 
 assoc-up : (a b c : ℤ) → (a *ℤ b) *ℤ c ≡ a *ℤ (b *ℤ c) → (sucℤ a *ℤ b) *ℤ c ≡ sucℤ a *ℤ (b *ℤ c)
 assoc-up a b c e =
@@ -122,6 +137,6 @@ product-zero (suc n) m h e = let p : 0 < suc n * m = mul-pos (omega arith) h in 
 
 pub mul-right-cancel : (a b c : ℤ) → 0 < natAbs c → a *ℤ c ≡ b *ℤ c → a ≡ b
 mul-right-cancel a b c h e =
-    let p : (a -ℤ b) *ℤ c ≡ pos 0 = add-mul a (negℤ b) c ∙ ap (λ (x : ℤ). a *ℤ c +ℤ x) (neg-mul b c) ∙ ap (λ (x : ℤ). x -ℤ b *ℤ c) e ∙ +ℤ-invr (b *ℤ c) in
+    let p : (a -ℤ b) *ℤ c ≡ pos 0 = sub-mul a b c ∙ ap (λ (x : ℤ). x -ℤ b *ℤ c) e ∙ +ℤ-invr (b *ℤ c) in
     let q : natAbs (a -ℤ b) ≡ 0 = product-zero (natAbs (a -ℤ b)) (natAbs c) h (sym (natAbs-mul (a -ℤ b) c) ∙ ap natAbs p) in
-    opposite a (negℤ b) (size-zero (a -ℤ b) q) ∙ negℤ-negℤ b
+    no-difference a b (size-zero (a -ℤ b) q)

@@ -1,7 +1,10 @@
--- Whole numbers that move with h: x′ = x + h·y. Sums, opposites and products of such, and what is left at two layers of them.
+-- Whole numbers that move with h: x′ = x + h·y. Sums, opposites and products of such; what is left at two layers of them; and that one slope at most leaves multiples of h·h.
 use mathlib.Core.Path.{_≡_, refl, sym, ap, ap₂, _∙_}
-use lib.IntN.{ℤ, pos, negℤ, _+ℤ_, _-ℤ_, _*ℤ_, negℤ-+ℤ, +ℤ-idr, +ℤ-assoc, +ℤ-comm, *ℤ-comm, *ℤ-zero}
-use Rattle.arithmetic.proofs.Integers.{add-add-add-comm, add-sub-cancel-left, add-mul, mul-add, mul-neg, mul-assoc, mul-left-comm}
+use Prim.Native.Nat.{ℕ, zero, suc, _*_}
+use native.Mathlib.Nat.{zero-mul, suc-mul}
+use native.Mathlib.Omega.{arith}
+use lib.IntN.{ℤ, pos, negℤ, natAbs, _+ℤ_, _-ℤ_, _*ℤ_, negℤ-+ℤ, -ℤ-+ℤ-cancel, +ℤ-idr, +ℤ-assoc, +ℤ-comm, *ℤ-comm, *ℤ-zero}
+use Rattle.arithmetic.proofs.Integers.{add-add-add-comm, add-sub-cancel-left, add-mul, mul-add, mul-neg, sub-mul, mul-assoc, mul-left-comm, mul-right-cancel, natAbs-mul, size-zero, sub-eq-sub, no-difference}
 
 abbrev pub Moves : ℤ → ℤ → ℤ → ℤ → Type 0
 Moves h x y x′ = x′ ≡ x +ℤ h *ℤ y
@@ -36,3 +39,30 @@ module _ (h : ℤ) where
       ∙ add-sub-cancel-left (h *ℤ d) (h *ℤ (h *ℤ q))
       ∙ sym (mul-assoc h h q)
       ∙ *ℤ-comm (h *ℤ h) q
+
+-- ---- one slope
+
+-- no multiple of n + 1 but 0 is n
+no-multiple : (n c : ℕ) → n ≡ c * suc n → n ≡ 0
+no-multiple n zero e = e ∙ zero-mul (suc n)
+no-multiple n (suc c) e = absurd (omega (arith, suc-mul c (suc n)))
+
+module _ (F : ℤ → ℤ) (z w : ℤ) where
+  -- h larger than the difference of two slopes
+  apart : (h q r : ℤ) → natAbs h ≡ suc (natAbs (w -ℤ z)) → F h -ℤ h *ℤ z ≡ q *ℤ (h *ℤ h) → F h -ℤ h *ℤ w ≡ r *ℤ (h *ℤ h) → w ≡ z
+  apart h q r n a b =
+      let t = w -ℤ z in
+      let same : q *ℤ (h *ℤ h) +ℤ h *ℤ z ≡ r *ℤ (h *ℤ h) +ℤ h *ℤ w =
+      ap (λ (k : ℤ). k +ℤ h *ℤ z) (sym a) ∙ -ℤ-+ℤ-cancel (F h) (h *ℤ z) ∙ sym (-ℤ-+ℤ-cancel (F h) (h *ℤ w)) ∙ ap (λ (k : ℤ). k +ℤ h *ℤ w) b in
+      let m : t *ℤ h ≡ (q -ℤ r) *ℤ h *ℤ h =
+      sub-mul w z h
+      ∙ ap₂ _-ℤ_ (*ℤ-comm w h) (*ℤ-comm z h)
+      ∙ sym (sub-eq-sub (q *ℤ (h *ℤ h)) (h *ℤ z) (r *ℤ (h *ℤ h)) (h *ℤ w) same)
+      ∙ sym (sub-mul q r (h *ℤ h))
+      ∙ sym (mul-assoc (q -ℤ r) h h) in
+      let e : t ≡ (q -ℤ r) *ℤ h = mul-right-cancel t ((q -ℤ r) *ℤ h) h (omega arith) m in
+      let k : natAbs t ≡ natAbs (q -ℤ r) * suc (natAbs t) = ap natAbs e ∙ natAbs-mul (q -ℤ r) h ∙ ap (λ (j : ℕ). natAbs (q -ℤ r) * j) n in
+      no-difference w z (size-zero t (no-multiple (natAbs t) (natAbs (q -ℤ r)) k))
+
+  pub one-slope : ((h : ℤ) → (q : ℤ) × (F h -ℤ h *ℤ z ≡ q *ℤ (h *ℤ h))) → ((h : ℤ) → (q : ℤ) × (F h -ℤ h *ℤ w ≡ q *ℤ (h *ℤ h))) → w ≡ z
+  one-slope a b = let h = pos (suc (natAbs (w -ℤ z))) in let x = a h in let y = b h in apart h (x .0) (y .0) refl (x .1) (y .1)

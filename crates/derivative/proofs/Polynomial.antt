@@ -1,17 +1,36 @@
 -- "The rates of plain polynomials, exactly" (document 02, slip 13): the theorem for every plain formula and for what derive gives, that nothing else meets it, and that derive
 -- refuses a plain formula that compiles only for its symbol's number or for its slices.
-use mathlib.Core.Path.{_≡_, sym, ap, subst, _∙_}
-use mathlib.Core.Bool.{Bool, true, false}
-use mathlib.Core.Option.{some}
-use Prim.Native.Nat.{ℕ, _+_, _*_, _≤_, max}
+use mathlib.Core.Path.{_≡_, refl, sym, ap, subst, ap₂, _∙_}
+use mathlib.Core.List.{List}
+use mathlib.Core.Bool.{Bool, true, false, cond, _||_}
+use mathlib.Core.Option.{Option, none, some}
+use Prim.Native.Nat.{ℕ, zero, suc, _+_, _*_, _≤_, _<_, max}
+use native.Mathlib.Nat.{mul-le-mul}
 use native.Mathlib.Omega.{arith}
-use lib.IntN.{ℤ, pos}
-use Rattle.formula.specs.Formula.{Formula, size, depth}
-use Rattle.derivative.specs.Differentiate.{differentiate, with-primal}
-use Rattle.derivative.specs.Polynomial.{Setting, plain, Rate, ExactRate}
+use lib.ListN.{length}
+use lib.Dec.{leb, ltb}
+use borrow.Author.Tests.{leb-true, le-leb, lt-ltb, le-ltb}
+use lib.IntN.{ℤ, pos, _-ℤ_, _*ℤ_, *ℤ-zero}
+use Rattle.refusals.specs.Numbers.{slice-too-short, unknown-symbol}
+use Rattle.formula.specs.Operator.{Operation, unary, binary, compare, call, Positive, Negative, Not, Number, result-kind, arity}
+use Rattle.formula.specs.Formula.{Head, number, truth, symbol, operation, junction, ifelse, conditional, malformed, Formula, Formulas, node, last, next, count, size, depth, formula-limit}
+use Rattle.formula.specs.Names.{Symbol}
+use Rattle.formula.specs.Node.{node-size}
+use Rattle.formula.specs.Path.{root}
+use Rattle.formula.specs.Term.{term}
+use Rattle.formula.proofs.Tests.{and-first, and-both}
+use Rattle.machine.specs.Check.{kind}
+use Rattle.machine.specs.Compile.{compile, accepted, node-room, program-room}
+use Rattle.machine.proofs.Accepted.{accepted-formula}
+use Rattle.derivative.specs.Differentiate.{and-then, differentiate, with-primal}
+use Rattle.derivative.specs.Derive.{Derived, refused, derived, by-state, tree-room, derive}
+use Rattle.derivative.specs.Polynomial.{Setting, plain, all-plain, plain-head, plain-operation, exact, Rate, ExactRate}
+use Rattle.derivative.proofs.Faultless.{never, none-some, both}
+use Rattle.derivative.proofs.Derived.{derived-formula, Derivation}
 use Rattle.derivative.proofs.Exact.{plain-value}
 use Rattle.derivative.proofs.Ruled.{Ruled, Differentiable, differentiable}
 use Rattle.derivative.proofs.Bounds.{depth-positive, rate-size, rate-depth, tree-size, tree-depth}
+use Rattle.derivative.proofs.Moves.{one-slope}
 use Rattle.derivative.proofs.Slopes.{slope-of, as-rate, primal-slope}
 
 some-same : {A : Type 0} {a b : A} → some a ≡ some b → a ≡ b
@@ -40,3 +59,117 @@ module _ (s : ℕ) (by-state : Bool) (f g : Formula) (p : plain f ≡ true) (e :
   pub tree-bounds : (size (with-primal f g) ≤ 3 + 3 * size f + size f * depth f) × (depth (with-primal f g) ≤ max 3 (2 * depth f))
   tree-bounds =
       (omega (arith, tree-size f g, rate-size s ruled-rate), omega (arith, tree-depth f g, depth-positive f, rate-depth s ruled-rate))
+
+-- "(zero at h = 0)"
+pub nothing-left : (s : ℕ) (σ : Setting) (f d : Formula) (r : Rate s σ (pos 0) f d) → r .moved -ℤ r .value -ℤ pos 0 *ℤ r .slope ≡ pos 0
+nothing-left s σ f d r = r .left ∙ *ℤ-zero (r .multiple)
+
+-- ---- no other value meets it
+
+-- whatever tree, of whatever formula: where two meet the claim they have the same value, at every setting
+pub one-rate : (s : ℕ) (f d d′ : Formula) → ExactRate s f d → ExactRate s f d′ → (σ : Setting) → exact σ d′ ≡ exact σ d
+one-rate s f d d′ A B σ =
+    let F : ℤ → ℤ = λ h. A σ h .moved -ℤ A σ h .value in
+    let z = A σ (pos 0) .slope in
+    let w = B σ (pos 0) .slope in
+    let a : (h : ℤ) → F h -ℤ h *ℤ z ≡ A σ h .multiple *ℤ (h *ℤ h) =
+    λ h. ap (λ (k : ℤ). F h -ℤ h *ℤ k) (some-same (sym (A σ (pos 0) .slope-is) ∙ A σ h .slope-is)) ∙ A σ h .left in
+    let b : (h : ℤ) → F h -ℤ h *ℤ w ≡ B σ h .multiple *ℤ (h *ℤ h) =
+    λ h.
+        ap₂ (λ (m v : ℤ). m -ℤ v -ℤ h *ℤ w) (some-same (sym (A σ h .moved-is) ∙ B σ h .moved-is)) (some-same (sym (A σ h .value-is) ∙ B σ h .value-is))
+        ∙ ap (λ (k : ℤ). B σ h .moved -ℤ B σ h .value -ℤ h *ℤ k) (some-same (sym (B σ (pos 0) .slope-is) ∙ B σ h .slope-is))
+        ∙ B σ h .left in
+    let e : w ≡ z = one-slope F z w (λ h. (A σ h .multiple, a h)) (λ h. (B σ h .multiple, b h)) in
+    B σ (pos 0) .slope-is ∙ ap some e ∙ sym (A σ (pos 0) .slope-is)
+
+-- ---- derive
+
+-- a plain formula is a Number
+operation-number : (o : Operation) → plain-operation o ≡ true → result-kind o ≡ Number
+operation-number (unary Positive) p = refl
+operation-number (unary Negative) p = refl
+operation-number (unary Not) p = never p
+operation-number (binary o) p = refl
+operation-number (compare o) p = never p
+operation-number (call f) p = refl
+
+head-number : (h : Head) (ts : Formulas) → plain-head h (count ts) ≡ true → kind (term (node h ts)) ≡ Number
+head-number (number b) last p = refl
+head-number (number b) (next t ts) p = refl
+head-number (truth b) ts p = never p
+head-number (symbol i) last p = refl
+head-number (symbol i) (next t ts) p = refl
+head-number (operation o) ts p = operation-number o (and-first (plain-operation o) (arity o (count ts)) p)
+head-number (junction j) ts p = never p
+head-number ifelse ts p = never p
+head-number conditional ts p = never p
+head-number malformed ts p = never p
+
+pub plain-number : (f : Formula) → plain f ≡ true → kind (term f) ≡ Number
+plain-number (node h ts) p = head-number h ts (and-first (plain-head h (count ts)) (all-plain ts) p)
+
+-- the tree of a formula within the limits has at most 8,963 nodes at depth 64
+abbrev pub most-nodes : ℕ
+most-nodes = 8963
+
+small : (f d : Formula) → formula-limit f ≡ true → (size d ≤ 3 + 3 * size f + size f * depth f) × (depth d ≤ max 3 (2 * depth f))
+    → (size d ≤ most-nodes) × (depth d ≤ 64)
+small f d l b =
+    let t = both (leb (size f) 256) _ l in
+    let n : size f ≤ 256 = leb-true (size f) 256 (t .0) in
+    let k : depth f ≤ 32 = leb-true (depth f) 32 (t .1) in
+    let m : size f * depth f ≤ 256 * 32 = mul-le-mul n k in
+    (omega arith, omega arith)
+
+module _ (formula names : List ℕ) (s path-length tree-length program-length : ℕ) where
+  -- "of each that derives": d is the tree that derive gives for the formula that compiles from the bytes
+  pub derived-rate : (d : Formula) (symbols : List Symbol) → derive formula names s path-length tree-length program-length ≡ derived d symbols
+      → (f : Formula) × (compile formula names path-length program-length ≡ accepted f symbols) × (plain f ≡ true → (plain d ≡ true) × ExactRate s f d)
+  derived-rate d symbols e =
+      let r = derived-formula formula names s path-length tree-length program-length d symbols e in
+      let f = r .0 in
+      (f, r .1 .compiled, λ p. from-derivative (differentiate s (by-state symbols s) f) f d p refl (r .1 .differentiated))
+    where
+      from-derivative : (o : Option Formula) (f d : Formula) → plain f ≡ true → differentiate s (by-state symbols s) f ≡ o
+          → and-then o (λ g. some (with-primal f g)) ≡ some d → (plain d ≡ true) × ExactRate s f d
+      from-derivative none f d p q h = none-some h
+      from-derivative (some g) f d p q h =
+          subst (λ (k : Formula). (plain k ≡ true) × ExactRate s f k) (some-same h)
+          (tree-plain s (by-state symbols s) f g p q, tree-rate s (by-state symbols s) f g p q)
+
+  module _ (f : Formula) (symbols : List Symbol) (c : compile formula names path-length program-length ≡ accepted f symbols) (p : plain f ≡ true) where
+    abbrev pub rate-of : Formula
+    rate-of = differentiable s (by-state symbols s) f p .rate
+
+    abbrev pub tree-of : Formula
+    tree-of = with-primal f rate-of
+
+    tree-small : (size tree-of ≤ most-nodes) × (depth tree-of ≤ 64)
+    tree-small =
+        small f tree-of (accepted-formula formula names path-length program-length f symbols c .limit)
+        (tree-bounds s (by-state symbols s) f rate-of p (differentiable s (by-state symbols s) f p .differentiated))
+
+    -- Nothing hides in "that derives": of a plain formula that compiles derive refuses only a symbol that isn't there, by 6, and slices that are too short for the tree, by 1;
+    -- never by 7, 8 or 4.
+    pub plain-derive :
+        (differentiate s (by-state symbols s) f ≡ some rate-of)
+        × (size tree-of ≤ most-nodes)
+        × (depth tree-of ≤ 64)
+        × (derive formula names s path-length tree-length program-length
+        ≡ cond (ltb s (length symbols))
+        (cond (ltb tree-length (tree-room tree-of) || ltb program-length (program-room (tree-room tree-of))) (refused slice-too-short none) (derived tree-of symbols))
+        (refused unknown-symbol (some root)))
+    unfolding derive
+    plain-derive =
+        let d = differentiable s (by-state symbols s) f p .differentiated in
+        let n : size tree-of ≤ 16384 = omega (arith, tree-small) in
+        let k : depth tree-of ≤ 128 = omega (arith, tree-small) in
+        (d, tree-small .0, tree-small .1, rw (c, plain-number f p, d, le-leb (size tree-of) 16384 n, le-leb (depth tree-of) 128 k))
+
+    -- so with room for 8,963 nodes it derives by every symbol
+    pub plain-derives : s < length symbols → node-size * most-nodes ≤ tree-length → node-room * most-nodes ≤ program-length
+        → derive formula names s path-length tree-length program-length ≡ derived tree-of symbols
+    plain-derives k t r =
+        let a : tree-room tree-of ≤ tree-length = omega (arith, tree-small) in
+        let b : program-room (tree-room tree-of) ≤ program-length = omega (arith, tree-small) in
+        plain-derive .3 ∙ rw (lt-ltb s (length symbols) k, le-ltb tree-length _ a, le-ltb program-length _ b)
