@@ -122,20 +122,24 @@ small f d l b =
     (omega arith, omega arith)
 
 module _ (formula names : List ℕ) (s path-length tree-length program-length : ℕ) where
-  -- "of each that derives": d is the tree that derive gives for the formula that compiles from the bytes
+  -- a tree that derive gives, for a plain formula
+  pub derivation-rate : (f d : Formula) (symbols : List Symbol) → Derivation formula names s path-length program-length f d symbols → plain f ≡ true
+      → (plain d ≡ true) × ExactRate s f d
+  derivation-rate f d symbols D p = go (differentiate s (by-state symbols s) f) refl (D .differentiated)
+    where
+      go : (o : Option Formula) → differentiate s (by-state symbols s) f ≡ o → and-then o (λ g. some (with-primal f g)) ≡ some d
+          → (plain d ≡ true) × ExactRate s f d
+      go none q h = none-some h
+      go (some g) q h =
+          subst (λ (k : Formula). (plain k ≡ true) × ExactRate s f k) (some-same h)
+          (tree-plain s (by-state symbols s) f g p q, tree-rate s (by-state symbols s) f g p q)
+
+  -- "of each that derives": f is the formula that compiles from the bytes, d the tree
   pub derived-rate : (d : Formula) (symbols : List Symbol) → derive formula names s path-length tree-length program-length ≡ derived d symbols
       → (f : Formula) × (compile formula names path-length program-length ≡ accepted f symbols) × (plain f ≡ true → (plain d ≡ true) × ExactRate s f d)
   derived-rate d symbols e =
       let r = derived-formula formula names s path-length tree-length program-length d symbols e in
-      let f = r .0 in
-      (f, r .1 .compiled, λ p. from-derivative (differentiate s (by-state symbols s) f) f d p refl (r .1 .differentiated))
-    where
-      from-derivative : (o : Option Formula) (f d : Formula) → plain f ≡ true → differentiate s (by-state symbols s) f ≡ o
-          → and-then o (λ g. some (with-primal f g)) ≡ some d → (plain d ≡ true) × ExactRate s f d
-      from-derivative none f d p q h = none-some h
-      from-derivative (some g) f d p q h =
-          subst (λ (k : Formula). (plain k ≡ true) × ExactRate s f k) (some-same h)
-          (tree-plain s (by-state symbols s) f g p q, tree-rate s (by-state symbols s) f g p q)
+      (r .0, r .1 .compiled, λ p. derivation-rate (r .0) d symbols (r .1) p)
 
   module _ (f : Formula) (symbols : List Symbol) (c : compile formula names path-length program-length ≡ accepted f symbols) (p : plain f ≡ true) where
     abbrev pub rate-of : Formula

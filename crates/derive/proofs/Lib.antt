@@ -3,3 +3,4 @@ pub mod Writable
 pub mod Parts
 pub mod Writing
 pub mod Ends
+pub mod Rates
