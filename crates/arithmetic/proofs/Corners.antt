@@ -1,8 +1,11 @@
--- Values at the places that document 01 names: Modulo's corners, Sqrt 2, Ceil -0.5, and at zeros and NaNs under Min and Max.
+-- Values at the places that document 01 names: Modulo's corners, Sqrt 2, Ceil -0.5, and at zeros and NaNs under Min and Max; and values as whole numbers.
 use mathlib.Core.Path.{_≡_, refl}
 use mathlib.Core.List.{[], _∷_}
-use Prim.Native.Nat.{ℕ}
+use mathlib.Core.Option.{none, some}
+use Prim.Native.Nat.{ℕ, _*_, _-_, _^_}
+use lib.IntN.{pos, negsuc, negℤ}
 use lib.Ieee.{Float, binary64, add, sub, mul, div, rem, neg, lt, le, eq, ofBits, round}
+use Rattle.arithmetic.specs.Value.{whole, integer-of}
 use Rattle.arithmetic.specs.Round.{floor, ceil}
 use Rattle.arithmetic.specs.Root.{sqrt, sqrt-at}
 use Rattle.arithmetic.specs.Modulo.{modulo}
@@ -10,6 +13,10 @@ use Rattle.arithmetic.specs.Extremum.{extremum, hold, below, above}
 
 abbrev f : ℕ → Float
 f bits = ofBits binary64 bits
+
+-- the f64 nearest to 10^300, in full
+abbrev pub 1e300 : ℕ
+1e300 = 1000000000000000052504760255204420248704468581108159154915854115511802457988908195786371375080447864043704443832883878176942523235360430575644792184786706982848387200926575803737830233794788090059368953234970799945081119038967640880074652742780142494579258788820056842838115669472196386865459400540160
 
 -- -1 modulo 3 is 2; -1e-20 modulo 3 is 0.0, as the rounded sum reaches 3; -3 modulo 3 is -0.0; 1e308 modulo the least value is 0.0
 pub modulo-corners :
@@ -77,3 +84,20 @@ pub extremum-nans :
     × (extremum below [] ≡ f 0x7ff8000000000000)
 unfolding ofBits hold lt
 extremum-nans = (refl, refl, refl, refl, refl, refl, refl)
+
+-- Values that are whole numbers: the zeros, 1, -3, 2^53, 1e300 (997 binary digits) with either sign, the largest f64; and 0.5, the least value, the infinity and the NaN, which are none
+pub integers :
+    (integer-of (f 0) ≡ some (pos 0))
+    × (integer-of (f 0x8000000000000000) ≡ some (pos 0))
+    × (integer-of (f 0x3ff0000000000000) ≡ some (pos 1))
+    × (integer-of (f 0xc008000000000000) ≡ some (negsuc 2))
+    × (integer-of (f 0x4340000000000000) ≡ some (pos 9007199254740992))
+    × (integer-of (f 0x7e37e43c8800759c) ≡ some (pos 1e300))
+    × (integer-of (f 0xfe37e43c8800759c) ≡ some (negℤ (pos 1e300)))
+    × (integer-of (f 0x7fefffffffffffff) ≡ some (pos ((2 ^ 53 - 1) * 2 ^ 971)))
+    × (integer-of (f 0x3fe0000000000000) ≡ none)
+    × (integer-of (f 1) ≡ none)
+    × (integer-of (f 0x7ff0000000000000) ≡ none)
+    × (integer-of (f 0x7ff8000000000000) ≡ none)
+unfolding ofBits whole integer-of
+integers = (refl, refl, refl, refl, refl, refl, refl, refl, refl, refl, refl, refl)

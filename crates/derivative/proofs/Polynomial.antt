@@ -3,7 +3,7 @@
 use mathlib.Core.Path.{_≡_, refl, sym, ap, subst, ap₂, _∙_}
 use mathlib.Core.List.{List}
 use mathlib.Core.Bool.{Bool, true, false, cond, _||_}
-use mathlib.Core.Option.{Option, none, some}
+use mathlib.Core.Option.{none, some}
 use Prim.Native.Nat.{ℕ, zero, suc, _+_, _*_, _≤_, _<_, max}
 use native.Mathlib.Nat.{mul-le-mul}
 use native.Mathlib.Omega.{arith}
@@ -22,10 +22,11 @@ use Rattle.formula.proofs.Tests.{and-first, and-both}
 use Rattle.machine.specs.Check.{kind}
 use Rattle.machine.specs.Compile.{compile, accepted, node-room, program-room}
 use Rattle.machine.proofs.Accepted.{accepted-formula}
-use Rattle.derivative.specs.Differentiate.{and-then, differentiate, with-primal}
+use Rattle.derivative.specs.Differentiate.{differentiate, with-primal}
 use Rattle.derivative.specs.Derive.{Derived, refused, derived, by-state, tree-room, derive}
 use Rattle.derivative.specs.Polynomial.{Setting, plain, all-plain, plain-head, plain-operation, exact, Rate, ExactRate}
-use Rattle.derivative.proofs.Faultless.{never, none-some, both}
+use Rattle.derivative.proofs.Faultless.{never, both}
+use Rattle.derivative.proofs.Compiles.{and-then-some}
 use Rattle.derivative.proofs.Derived.{derived-formula, Derivation}
 use Rattle.derivative.proofs.Exact.{plain-value}
 use Rattle.derivative.proofs.Ruled.{Ruled, Differentiable, differentiable}
@@ -125,14 +126,10 @@ module _ (formula names : List ℕ) (s path-length tree-length program-length : 
   -- a tree that derive gives, for a plain formula
   pub derivation-rate : (f d : Formula) (symbols : List Symbol) → Derivation formula names s path-length program-length f d symbols → plain f ≡ true
       → (plain d ≡ true) × ExactRate s f d
-  derivation-rate f d symbols D p = go (differentiate s (by-state symbols s) f) refl (D .differentiated)
-    where
-      go : (o : Option Formula) → differentiate s (by-state symbols s) f ≡ o → and-then o (λ g. some (with-primal f g)) ≡ some d
-          → (plain d ≡ true) × ExactRate s f d
-      go none q h = none-some h
-      go (some g) q h =
-          subst (λ (k : Formula). (plain k ≡ true) × ExactRate s f k) (some-same h)
-          (tree-plain s (by-state symbols s) f g p q, tree-rate s (by-state symbols s) f g p q)
+  derivation-rate f d symbols D p =
+      let g = and-then-some (differentiate s (by-state symbols s) f) _ d (D .differentiated) in
+      subst (λ (k : Formula). (plain k ≡ true) × ExactRate s f k) (some-same (g .2))
+      (tree-plain s (by-state symbols s) f (g .0) p (g .1), tree-rate s (by-state symbols s) f (g .0) p (g .1))
 
   -- "of each that derives": f is the formula that compiles from the bytes, d the tree
   pub derived-rate : (d : Formula) (symbols : List Symbol) → derive formula names s path-length tree-length program-length ≡ derived d symbols

@@ -2,7 +2,7 @@
 use mathlib.Core.Path.{_≡_, refl, sym, ap, _∙_, subst}
 use mathlib.Core.Bool.{Bool, true, false, not, cond, true≢false}
 use Prim.Native.Nat.{ℕ, suc, _+_, _*_, _/_, _%_, _^_, _≤_, _<_}
-use native.Mathlib.Nat.{le-trans, le-of-eq, le-of-lt, lt-of-lt-of-le, lt-of-le-of-lt, zero-lt-suc, zero-mul, mul-one, mul-le-mul-right, le-of-mul-le-mul-right, lt-of-mul-lt-mul-right, div-mul-le-self, div-one, mod-one, le-div-iff-mul-le, div-add-mod', suc-mul, mod-lt, mul-mod-left}
+use native.Mathlib.Nat.{le-trans, le-of-eq, le-of-lt, lt-of-lt-of-le, lt-of-le-of-lt, zero-lt-suc, zero-mul, mul-one, mul-le-mul-left, mul-le-mul-right, le-of-mul-le-mul-right, lt-of-mul-lt-mul-right, div-mul-le-self, div-one, mod-one, le-div-iff-mul-le, div-add-mod', suc-mul, mod-lt, mul-mod-left, pow-suc}
 use native.Mathlib.Omega.{arith}
 use borrow.Author.Tests.{eqb-true, eqb-false, eq-eqb, ne-eqb}
 use lib.Dec.{T, eqb, lit≤}
@@ -12,6 +12,7 @@ use lib.IntN.{ℤ, pos, negsuc}
 use lib.Ieee.{Float, nan, inf, fin, Format, binary32, binary64, up, down, eq, le, neg, fits}
 use lib.Ieee.Fits.{down-pos, nan-fits, inf-fits, round-fits}
 use lib.Ieee.Exact.{HasValue}
+use lib.Ieee.Positive.{num, den}
 use Rattle.arithmetic.specs.Width.{Width, width, digits, least}
 use Rattle.arithmetic.specs.Value.{finite, whole}
 use Rattle.arithmetic.specs.Round.{floor-div, ceil-div, floor-by, ceil-by, floor, ceil}
@@ -272,3 +273,16 @@ ceil-fits F nan = nan-fits F
 ceil-fits F (inf s) = inf-fits F s
 ceil-fits F (fin true m e) = round-fits F true (floor-div (m * up e) (down e)) 1
 ceil-fits F (fin false m e) = round-fits F false (ceil-div (m * up e) (down e)) 1
+
+-- ---- values that have no digit after the point: f64 from 2 ^ 52 on
+large-at : (W : Width) (s : Bool) (m : ℕ) (e : ℤ) → Held W m e → 2 ^ W .fraction * down e ≤ m * up e → whole (fin s m e) ≡ true
+unfolding whole
+large-at W s m (pos k) H h = eq-eqb (m * 2 ^ k % 1) 0 (mod-one (m * 2 ^ k))
+large-at W s m (negsuc k) H h =
+    let a : 2 ^ W .fraction * 2 ≤ 2 ^ W .fraction * 2 ^ suc k = mul-le-mul-left (2 ^ W .fraction) (pow-mono {i = 1} {j = suc k} (omega arith)) in
+    absurd (omega (arith, H .few, pow-suc 2 (W .fraction), mul-one m))
+
+pub large-whole : (F : Format) (x : Float) → T (fits F x) → finite x ≡ true → 2 ^ width F .fraction * den x ≤ num x → whole x ≡ true
+large-whole F nan t f h = absurd (true≢false (sym f))
+large-whole F (inf s) t f h = absurd (true≢false (sym f))
+large-whole F (fin s m e) t f h = large-at (width F) s m e (holds F s m e t) h
