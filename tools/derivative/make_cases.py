@@ -50,6 +50,23 @@ def arms():
     yield node(CONDITIONAL, 0, [node(COMPARE, 0, [S, P]), S, P])
 
 
+def polynomials():
+    """The formulas of docs/DERIVATIVE.md, 'Exact rates of polynomials', and some that go through its simplifications."""
+    def times(a, b):
+        return node(BINARY, MULTIPLY, [a, b])
+
+    def minus(a):
+        return node(UNARY, 1, [a])
+
+    yield node(BINARY, 1, [times(S, times(S, P)), minus(times(number(3.0), S))])
+    yield node(BINARY, 1, [P, minus(S)])
+    yield minus(minus(times(number(-0.0), S)))
+    yield times(number(1e300), times(S, S))
+    yield times(node(BINARY, 1, [number(-1.0), S]), node(BINARY, 0, [number(1.0), minus(S)]))
+    yield number(7.0)
+    yield P
+
+
 def nested(n):
     f = S
     for _ in range(n):
@@ -64,7 +81,7 @@ QUICK = node(BINARY, MULTIPLY, [number(0.0), nested(30)])
 def made():
     """Formula, name line and symbol of the cases made here."""
     cases = [(f, "a:%s,b:p,c:p" % kind, 0) for kind in "psti" for f in arms()]
-    return cases + [(f, "a:p,b:p,c:p", 0) for f in (nested(8), nested(11), QUICK)]
+    return cases + [(f, "a:p,b:p,c:p", 0) for f in (nested(8), nested(11), QUICK, *polynomials())]
 
 
 def generated():
