@@ -121,9 +121,16 @@ def grown(r, nodes, levels):
 
 def fixed():
     """The worked formula of docs/DERIVATIVE.md, those that go through every simplification, and the largest."""
+    def times(a, b):
+        return node(BINARY, MULTIPLY, [a, b])
+
+    def minus(a):
+        return node(UNARY, NEGATIVE, [a])
+
+    def balanced(leaves):
+        return x if leaves == 1 else times(balanced(leaves // 2), balanced(leaves - leaves // 2))
+
     x, y = symbol(0), symbol(1)
-    times = lambda a, b: node(BINARY, MULTIPLY, [a, b])
-    minus = lambda a: node(UNARY, NEGATIVE, [a])
     yield node(BINARY, SUBTRACT, [times(x, times(x, y)), minus(times(number(3.0), x))])
     yield times(number(0.0), x)
     yield times(number(-0.0), x)
@@ -134,15 +141,15 @@ def fixed():
     yield x
     yield minus(minus(number(-0.0)))
     deep = x
-    for i in range(MOST_LEVELS - 1):
-        deep = times(x, deep) if i % 2 else node(BINARY, SUBTRACT, [x, minus(deep)]) if i < 24 else times(deep, x)
-        if i == 23:
-            break
+    for _ in range(MOST_LEVELS - 1):
+        deep = times(x, deep)
     yield deep
-    wide = x
-    while len(wide) < NODE_SIZE * (MOST_NODES // 2):
-        wide = times(wide, wide)
-    yield wide
+    yield balanced(MOST_NODES // 2)
+    # the largest tree: each of the 24 products copies all that is below it
+    heavy = balanced(104)
+    for _ in range(24):
+        heavy = times(x, heavy)
+    yield heavy
 
 
 # ---- the claim

@@ -3,6 +3,8 @@ use mathlib.Core.Path.{_≡_, refl}
 use mathlib.Core.List.{[], _∷_}
 use mathlib.Core.Option.{none, some}
 use Prim.Native.Nat.{ℕ, _*_, _-_, _^_}
+use mathlib.Core.Bool.{true, false}
+use lib.Dec.{ltb}
 use lib.IntN.{pos, negsuc, negℤ}
 use lib.Ieee.{Float, binary64, add, sub, mul, div, rem, neg, lt, le, eq, ofBits, round}
 use Rattle.arithmetic.specs.Value.{whole, integer-of}
@@ -85,7 +87,11 @@ pub extremum-nans :
 unfolding ofBits hold lt
 extremum-nans = (refl, refl, refl, refl, refl, refl, refl)
 
--- Values that are whole numbers: the zeros, 1, -3, 2^53, 1e300 (997 binary digits) with either sign, the largest f64; and 0.5, the least value, the infinity and the NaN, which are none
+-- 997 binary digits
+pub 1e300-digits : (ltb 1e300 (2 ^ 996) ≡ false) × (ltb 1e300 (2 ^ 997) ≡ true)
+1e300-digits = (refl, refl)
+
+-- Values that are whole numbers: the zeros, 1, -3, 2^53, 1e300 with either sign, the largest f64; and 0.5, the least value, the infinity and the NaN, which are none
 pub integers :
     (integer-of (f 0) ≡ some (pos 0))
     × (integer-of (f 0x8000000000000000) ≡ some (pos 0))

@@ -4,7 +4,7 @@ use mathlib.Core.Path.{_≡_, refl, sym, ap, _∙_}
 use mathlib.Core.Bool.{Bool, true, false, cond, _&&_, _||_, and-false}
 use mathlib.Core.List.{List, [], _∷_}
 use mathlib.Core.Option.{Option, none, some}
-use Prim.Native.Nat.{ℕ, zero, suc}
+use Prim.Native.Nat.{ℕ, suc}
 use lib.ListN.{length}
 use lib.Dec.{eqb, eqb·suc-suc, eqb·suc-zero}
 use borrow.Author.Tests.{eqb-true}
@@ -13,13 +13,13 @@ use lib.Ieee.{ofBits}
 use Rattle.arithmetic.specs.Value.{whole, integer-of}
 use Rattle.arithmetic.specs.Constant.{literal}
 use Rattle.arithmetic.proofs.Integers.{mul-one, one-mul}
-use Rattle.formula.specs.Operator.{Operation, unary, binary, compare, call, Positive, Negative, Not, Add, Subtract, Multiply, Divide, Power, Modulo}
+use Rattle.formula.specs.Operator.{unary, binary, compare, call, Positive, Negative, Not, Add, Subtract, Multiply, Divide, Power, Modulo}
 use Rattle.formula.specs.Formula.{Head, number, truth, symbol, operation, junction, ifelse, conditional, malformed, Formula, Formulas, node, last, next, count, is-symbol, depends, any-depends}
 use Rattle.formula.proofs.Tests.{and-one, or-none}
 use Rattle.derivative.specs.Rules.{zero-bits, one-bits, add-of, mul-of}
 use Rattle.derivative.specs.Differentiate.{formulas, and-then, holds, literal-bits}
-use Rattle.derivative.specs.Polynomial.{Setting, plain, all-plain, plain-head, of-none, of-one, of-two, exact-operation, exact-head, exact, all-exact, shifted}
-use Rattle.derivative.proofs.Faultless.{never, none-some, some-none}
+use Rattle.derivative.specs.Polynomial.{Setting, plain, all-plain, plain-head, of-none, of-one, of-two, exact-head, exact, all-exact, shifted}
+use Rattle.derivative.proofs.Faultless.{never, none-some}
 use Rattle.derivative.proofs.Simplified.{add-zero-left, add-zero-right, add-kept, mul-zero, mul-one-left, mul-one-right, mul-kept}
 
 -- ---- the plain formulas are those that have a value

@@ -2,9 +2,9 @@
 -- refuses a plain formula that compiles only for its symbol's number or for its slices.
 use mathlib.Core.Path.{_≡_, refl, sym, ap, subst, ap₂, _∙_}
 use mathlib.Core.List.{List}
-use mathlib.Core.Bool.{Bool, true, false, cond, _||_}
-use mathlib.Core.Option.{none, some}
-use Prim.Native.Nat.{ℕ, zero, suc, _+_, _*_, _≤_, _<_, max}
+use mathlib.Core.Bool.{Bool, true, cond, _||_}
+use mathlib.Core.Option.{none, some, Option·some-injective}
+use Prim.Native.Nat.{ℕ, _+_, _*_, _≤_, _<_, max}
 use native.Mathlib.Nat.{mul-le-mul}
 use native.Mathlib.Omega.{arith}
 use lib.ListN.{length}
@@ -18,24 +18,21 @@ use Rattle.formula.specs.Names.{Symbol}
 use Rattle.formula.specs.Node.{node-size}
 use Rattle.formula.specs.Path.{root}
 use Rattle.formula.specs.Term.{term}
-use Rattle.formula.proofs.Tests.{and-first, and-both}
+use Rattle.formula.proofs.Tests.{and-first}
 use Rattle.machine.specs.Check.{kind}
 use Rattle.machine.specs.Compile.{compile, accepted, node-room, program-room}
 use Rattle.machine.proofs.Accepted.{accepted-formula}
-use Rattle.derivative.specs.Differentiate.{differentiate, with-primal}
-use Rattle.derivative.specs.Derive.{Derived, refused, derived, by-state, tree-room, derive}
+use Rattle.derivative.specs.Differentiate.{differentiate, with-primal, derivative}
+use Rattle.derivative.specs.Derive.{refused, derived, by-state, tree-room, derive}
 use Rattle.derivative.specs.Polynomial.{Setting, plain, all-plain, plain-head, plain-operation, exact, Rate, ExactRate}
 use Rattle.derivative.proofs.Faultless.{never, both}
 use Rattle.derivative.proofs.Compiles.{and-then-some}
 use Rattle.derivative.proofs.Derived.{derived-formula, Derivation}
 use Rattle.derivative.proofs.Exact.{plain-value}
-use Rattle.derivative.proofs.Ruled.{Ruled, Differentiable, differentiable}
+use Rattle.derivative.proofs.Ruled.{Ruled, differentiable}
 use Rattle.derivative.proofs.Bounds.{depth-positive, rate-size, rate-depth, tree-size, tree-depth}
 use Rattle.derivative.proofs.Moves.{one-slope}
 use Rattle.derivative.proofs.Slopes.{slope-of, as-rate, primal-slope}
-
-some-same : {A : Type 0} {a b : A} → some a ≡ some b → a ≡ b
-some-same {a} {b} e = cc
 
 -- ---- for every setting and every h
 
@@ -43,7 +40,7 @@ module _ (s : ℕ) (by-state : Bool) (f g : Formula) (p : plain f ≡ true) (e :
   pub ruled-rate : Ruled s f g
   ruled-rate =
       let r = differentiable s by-state f p in
-      let q : r .rate ≡ g = some-same (sym (r .differentiated) ∙ e) in
+      let q : r .rate ≡ g = Option·some-injective _ _ (sym (r .differentiated) ∙ e) in
       subst (λ (k : Formula). Ruled s f k) q (r .ruled)
 
   -- of the derivative by the rules, and of the tree, 0 × formula + derivative
@@ -74,12 +71,12 @@ one-rate s f d d′ A B σ =
     let z = A σ (pos 0) .slope in
     let w = B σ (pos 0) .slope in
     let a : (h : ℤ) → F h -ℤ h *ℤ z ≡ A σ h .multiple *ℤ (h *ℤ h) =
-    λ h. ap (λ (k : ℤ). F h -ℤ h *ℤ k) (some-same (sym (A σ (pos 0) .slope-is) ∙ A σ h .slope-is)) ∙ A σ h .left in
+    λ h. ap (λ (k : ℤ). F h -ℤ h *ℤ k) (Option·some-injective _ _ (sym (A σ (pos 0) .slope-is) ∙ A σ h .slope-is)) ∙ A σ h .left in
     let b : (h : ℤ) → F h -ℤ h *ℤ w ≡ B σ h .multiple *ℤ (h *ℤ h) =
     λ h.
-        ap₂ (λ (m v : ℤ). m -ℤ v -ℤ h *ℤ w) (some-same (sym (A σ h .moved-is) ∙ B σ h .moved-is)) (some-same (sym (A σ h .value-is) ∙ B σ h .value-is))
-        ∙ ap (λ (k : ℤ). B σ h .moved -ℤ B σ h .value -ℤ h *ℤ k) (some-same (sym (B σ (pos 0) .slope-is) ∙ B σ h .slope-is))
-        ∙ B σ h .left in
+    ap₂ (λ (m v : ℤ). m -ℤ v -ℤ h *ℤ w) (Option·some-injective _ _ (sym (A σ h .moved-is) ∙ B σ h .moved-is)) (Option·some-injective _ _ (sym (A σ h .value-is) ∙ B σ h .value-is))
+    ∙ ap (λ (k : ℤ). B σ h .moved -ℤ B σ h .value -ℤ h *ℤ k) (Option·some-injective _ _ (sym (B σ (pos 0) .slope-is) ∙ B σ h .slope-is))
+    ∙ B σ h .left in
     let e : w ≡ z = one-slope F z w (λ h. (A σ h .multiple, a h)) (λ h. (B σ h .multiple, b h)) in
     B σ (pos 0) .slope-is ∙ ap some e ∙ sym (A σ (pos 0) .slope-is)
 
@@ -109,12 +106,9 @@ head-number malformed ts p = never p
 pub plain-number : (f : Formula) → plain f ≡ true → kind (term f) ≡ Number
 plain-number (node h ts) p = head-number h ts (and-first (plain-head h (count ts)) (all-plain ts) p)
 
--- the tree of a formula within the limits has at most 8,963 nodes at depth 64
-abbrev pub most-nodes : ℕ
-most-nodes = 8963
-
+-- of a formula within the limits
 small : (f d : Formula) → formula-limit f ≡ true → (size d ≤ 3 + 3 * size f + size f * depth f) × (depth d ≤ max 3 (2 * depth f))
-    → (size d ≤ most-nodes) × (depth d ≤ 64)
+    → (size d ≤ 8963) × (depth d ≤ 64)
 small f d l b =
     let t = both (leb (size f) 256) _ l in
     let n : size f ≤ 256 = leb-true (size f) 256 (t .0) in
@@ -128,7 +122,7 @@ module _ (formula names : List ℕ) (s path-length tree-length program-length : 
       → (plain d ≡ true) × ExactRate s f d
   derivation-rate f d symbols D p =
       let g = and-then-some (differentiate s (by-state symbols s) f) _ d (D .differentiated) in
-      subst (λ (k : Formula). (plain k ≡ true) × ExactRate s f k) (some-same (g .2))
+      subst (λ (k : Formula). (plain k ≡ true) × ExactRate s f k) (Option·some-injective _ _ (g .2))
       (tree-plain s (by-state symbols s) f (g .0) p (g .1), tree-rate s (by-state symbols s) f (g .0) p (g .1))
 
   -- "of each that derives": f is the formula that compiles from the bytes, d the tree
@@ -139,38 +133,32 @@ module _ (formula names : List ℕ) (s path-length tree-length program-length : 
       (r .0, r .1 .compiled, λ p. derivation-rate (r .0) d symbols (r .1) p)
 
   module _ (f : Formula) (symbols : List Symbol) (c : compile formula names path-length program-length ≡ accepted f symbols) (p : plain f ≡ true) where
-    abbrev pub rate-of : Formula
-    rate-of = differentiable s (by-state symbols s) f p .rate
-
-    abbrev pub tree-of : Formula
-    tree-of = with-primal f rate-of
-
-    tree-small : (size tree-of ≤ most-nodes) × (depth tree-of ≤ 64)
-    tree-small =
-        small f tree-of (accepted-formula formula names path-length program-length f symbols c .limit)
-        (tree-bounds s (by-state symbols s) f rate-of p (differentiable s (by-state symbols s) f p .differentiated))
-
-    -- Nothing hides in "that derives": of a plain formula that compiles derive refuses only a symbol that isn't there, by 6, and slices that are too short for the tree, by 1;
-    -- never by 7, 8 or 4.
+    -- Nothing hides in "that derives": a plain formula that compiles has a tree d, of at most 8,963 nodes and 64 levels, and derive refuses it only by 6, where there is no such symbol, and
+    -- by 1, where a slice is too short for d; never by 7, 8 or 4.
     pub plain-derive :
-        (differentiate s (by-state symbols s) f ≡ some rate-of)
-        × (size tree-of ≤ most-nodes)
-        × (depth tree-of ≤ 64)
+        (d : Formula) × (derivative s (by-state symbols s) f ≡ some d) × (size d ≤ 8963) × (depth d ≤ 64)
         × (derive formula names s path-length tree-length program-length
         ≡ cond (ltb s (length symbols))
-        (cond (ltb tree-length (tree-room tree-of) || ltb program-length (program-room (tree-room tree-of))) (refused slice-too-short none) (derived tree-of symbols))
+        (cond (ltb tree-length (tree-room d) || ltb program-length (program-room (tree-room d))) (refused slice-too-short none) (derived d symbols))
         (refused unknown-symbol (some root)))
     unfolding derive
     plain-derive =
-        let d = differentiable s (by-state symbols s) f p .differentiated in
-        let n : size tree-of ≤ 16384 = omega (arith, tree-small) in
-        let k : depth tree-of ≤ 128 = omega (arith, tree-small) in
-        (d, tree-small .0, tree-small .1, rw (c, plain-number f p, d, le-leb (size tree-of) 16384 n, le-leb (depth tree-of) 128 k))
+        let r = differentiable s (by-state symbols s) f p in
+        let d = with-primal f (r .rate) in
+        let b =
+        small f d (accepted-formula formula names path-length program-length f symbols c .limit)
+        (tree-bounds s (by-state symbols s) f (r .rate) p (r .differentiated)) in
+        let n : size d ≤ 16384 = omega (arith, b) in
+        let k : depth d ≤ 128 = omega (arith, b) in
+        (d, rw (r .differentiated), b .0, b .1, rw (c, plain-number f p, r .differentiated, le-leb (size d) 16384 n, le-leb (depth d) 128 k))
 
-    -- so with room for 8,963 nodes it derives by every symbol
-    pub plain-derives : s < length symbols → node-size * most-nodes ≤ tree-length → node-room * most-nodes ≤ program-length
-        → derive formula names s path-length tree-length program-length ≡ derived tree-of symbols
+    -- so with room for 8,963 nodes it derives, by every symbol
+    pub plain-derives : s < length symbols → node-size * 8963 ≤ tree-length → node-room * 8963 ≤ program-length
+        → (d : Formula) × (derive formula names s path-length tree-length program-length ≡ derived d symbols)
     plain-derives k t r =
-        let a : tree-room tree-of ≤ tree-length = omega (arith, tree-small) in
-        let b : program-room (tree-room tree-of) ≤ program-length = omega (arith, tree-small) in
-        plain-derive .3 ∙ rw (lt-ltb s (length symbols) k, le-ltb tree-length _ a, le-ltb program-length _ b)
+        let x = plain-derive in
+        let d = x .0 in
+        let n : size d ≤ 8963 = x .2 in
+        let a : tree-room d ≤ tree-length = omega arith in
+        let b : program-room (tree-room d) ≤ program-length = omega arith in
+        (d, x .4 ∙ rw (lt-ltb s (length symbols) k, le-ltb tree-length (tree-room d) a, le-ltb program-length (program-room (tree-room d)) b))

@@ -1,5 +1,5 @@
 -- The rates of plain polynomials, exactly (document 02, slip 13), of the bytes that derive is lent and of those that it leaves.
-use mathlib.Core.Path.{_≡_, refl, sym, ap, subst, _∙_}
+use mathlib.Core.Path.{_≡_, refl, sym, ap, _∙_}
 use mathlib.Core.Bool.{true}
 use mathlib.Core.List.{List, _++_}
 use mathlib.Core.Option.{some}
@@ -19,7 +19,7 @@ use Rattle.reader.proofs.Scan.{formula-in}
 use Rattle.compile.proofs.Back.{accepted-parts}
 use Rattle.derivative.specs.Derive.{Derived, by-state, derive, derived, formula-refused, formula-refused-at, refused, tree-after}
 use Rattle.derivative.specs.Polynomial.{plain, ExactRate}
-use Rattle.derivative.proofs.Derived.{derived-formula, Derivation}
+use Rattle.derivative.proofs.Derived.{derived-formula}
 use Rattle.derivative.proofs.Polynomial.{derivation-rate}
 use Rattle.derive.specs.declared.Answer.{Answer}
 use Rattle.derive.specs.declared.Answer.the-variants as Given

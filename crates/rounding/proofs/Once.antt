@@ -8,7 +8,7 @@ use native.Mathlib.Decide.{decLe}
 use native.Mathlib.Omega.{arith}
 use borrow.Author.Tests.{ltb-true, ltb-false}
 use lib.Dec.{T, ltb, eqb·suc-zero}
-use lib.IntN.{ℤ, pos, negsuc, negℤ, natAbs, negℤ-negℤ, _+ℤ_, _-ℤ_, pos-+ℤ-pos, negℤ-+ℤ, +ℤ-comm, +ℤ-negℤ-cancel}
+use lib.IntN.{ℤ, pos, negℤ, natAbs, negℤ-negℤ, _+ℤ_, _-ℤ_, pos-+ℤ-pos, negℤ-+ℤ, +ℤ-comm, +ℤ-negℤ-cancel}
 use lib.Pow.{pow-pos}
 use lib.Ieee.{Float, nan, inf, fin, Format, up, down, unlike, round, neg, sum, add, sub, mul, div}
 use lib.Ieee.Scale.{finite}
