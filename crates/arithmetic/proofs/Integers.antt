@@ -36,9 +36,9 @@ no-difference a b e = opposite a (negℤ b) e ∙ negℤ-negℤ b
 
 -- ---- products
 
--- one more, and one less, of b
-up : (a b c : ℤ) → (a +ℤ b) *ℤ c ≡ a *ℤ c +ℤ b *ℤ c → (sucℤ a +ℤ b) *ℤ c ≡ sucℤ a *ℤ c +ℤ b *ℤ c
-up a b c e =
+-- a one more, and one less
+add-mul-up : (a b c : ℤ) → (a +ℤ b) *ℤ c ≡ a *ℤ c +ℤ b *ℤ c → (sucℤ a +ℤ b) *ℤ c ≡ sucℤ a *ℤ c +ℤ b *ℤ c
+add-mul-up a b c e =
     ap (λ (x : ℤ). x *ℤ c) (sucℤ-+ℤ a b)
     ∙ sucℤ-*ℤ (a +ℤ b) c
     ∙ ap (λ (x : ℤ). x +ℤ c) e
@@ -47,8 +47,8 @@ up a b c e =
     ∙ sym (+ℤ-assoc (a *ℤ c) c (b *ℤ c))
     ∙ ap (λ (x : ℤ). x +ℤ b *ℤ c) (sym (sucℤ-*ℤ a c))
 
-down : (a b c : ℤ) → (a +ℤ b) *ℤ c ≡ a *ℤ c +ℤ b *ℤ c → (predℤ a +ℤ b) *ℤ c ≡ predℤ a *ℤ c +ℤ b *ℤ c
-down a b c e =
+add-mul-down : (a b c : ℤ) → (a +ℤ b) *ℤ c ≡ a *ℤ c +ℤ b *ℤ c → (predℤ a +ℤ b) *ℤ c ≡ predℤ a *ℤ c +ℤ b *ℤ c
+add-mul-down a b c e =
     ap (λ (x : ℤ). x *ℤ c) (predℤ-+ℤ a b)
     ∙ predℤ-*ℤ (a +ℤ b) c
     ∙ ap (λ (x : ℤ). x -ℤ c) e
@@ -57,14 +57,14 @@ down a b c e =
     ∙ sym (+ℤ-assoc (a *ℤ c) (negℤ c) (b *ℤ c))
     ∙ ap (λ (x : ℤ). x +ℤ b *ℤ c) (sym (predℤ-*ℤ a c))
 
-none-added : (b c : ℤ) → (pos 0 +ℤ b) *ℤ c ≡ pos 0 *ℤ c +ℤ b *ℤ c
-none-added b c = ap (λ (x : ℤ). x *ℤ c) (+ℤ-idl b) ∙ sym (+ℤ-idl (b *ℤ c)) ∙ ap (λ (x : ℤ). x +ℤ b *ℤ c) (sym (zero-*ℤ c))
+zero-add-mul : (b c : ℤ) → (pos 0 +ℤ b) *ℤ c ≡ pos 0 *ℤ c +ℤ b *ℤ c
+zero-add-mul b c = ap (λ (x : ℤ). x *ℤ c) (+ℤ-idl b) ∙ sym (+ℤ-idl (b *ℤ c)) ∙ ap (λ (x : ℤ). x +ℤ b *ℤ c) (sym (zero-*ℤ c))
 
 pub add-mul : (a b c : ℤ) → (a +ℤ b) *ℤ c ≡ a *ℤ c +ℤ b *ℤ c
-add-mul (pos zero) b c = none-added b c
-add-mul (pos (suc n)) b c = up (pos n) b c (add-mul (pos n) b c)
-add-mul (negsuc zero) b c = down (pos 0) b c (none-added b c)
-add-mul (negsuc (suc n)) b c = down (negsuc n) b c (add-mul (negsuc n) b c)
+add-mul (pos zero) b c = zero-add-mul b c
+add-mul (pos (suc n)) b c = add-mul-up (pos n) b c (add-mul (pos n) b c)
+add-mul (negsuc zero) b c = add-mul-down (pos 0) b c (zero-add-mul b c)
+add-mul (negsuc (suc n)) b c = add-mul-down (negsuc n) b c (add-mul (negsuc n) b c)
 
 pub mul-add : (a b c : ℤ) → a *ℤ (b +ℤ c) ≡ a *ℤ b +ℤ a *ℤ c
 mul-add a b c = *ℤ-comm a (b +ℤ c) ∙ add-mul b c a ∙ ap (λ (x : ℤ). x +ℤ c *ℤ a) (*ℤ-comm b a) ∙ ap (λ (x : ℤ). a *ℤ b +ℤ x) (*ℤ-comm c a)
@@ -80,26 +80,26 @@ mul-neg a b = *ℤ-comm a (negℤ b) ∙ neg-mul b a ∙ ap negℤ (*ℤ-comm b 
 pub sub-mul : (a b c : ℤ) → (a -ℤ b) *ℤ c ≡ a *ℤ c -ℤ b *ℤ c
 sub-mul a b c = add-mul a (negℤ b) c ∙ ap (λ (x : ℤ). a *ℤ c +ℤ x) (neg-mul b c)
 
-assoc-up : (a b c : ℤ) → (a *ℤ b) *ℤ c ≡ a *ℤ (b *ℤ c) → (sucℤ a *ℤ b) *ℤ c ≡ sucℤ a *ℤ (b *ℤ c)
-assoc-up a b c e =
+mul-assoc-up : (a b c : ℤ) → (a *ℤ b) *ℤ c ≡ a *ℤ (b *ℤ c) → (sucℤ a *ℤ b) *ℤ c ≡ sucℤ a *ℤ (b *ℤ c)
+mul-assoc-up a b c e =
     ap (λ (x : ℤ). x *ℤ c) (sucℤ-*ℤ a b) ∙ add-mul (a *ℤ b) b c ∙ ap (λ (x : ℤ). x +ℤ b *ℤ c) e ∙ sym (sucℤ-*ℤ a (b *ℤ c))
 
-assoc-down : (a b c : ℤ) → (a *ℤ b) *ℤ c ≡ a *ℤ (b *ℤ c) → (predℤ a *ℤ b) *ℤ c ≡ predℤ a *ℤ (b *ℤ c)
-assoc-down a b c e =
+mul-assoc-down : (a b c : ℤ) → (a *ℤ b) *ℤ c ≡ a *ℤ (b *ℤ c) → (predℤ a *ℤ b) *ℤ c ≡ predℤ a *ℤ (b *ℤ c)
+mul-assoc-down a b c e =
     ap (λ (x : ℤ). x *ℤ c) (predℤ-*ℤ a b)
     ∙ add-mul (a *ℤ b) (negℤ b) c
     ∙ ap (λ (x : ℤ). x +ℤ negℤ b *ℤ c) e
     ∙ ap (λ (x : ℤ). a *ℤ (b *ℤ c) +ℤ x) (neg-mul b c)
     ∙ sym (predℤ-*ℤ a (b *ℤ c))
 
-zero-assoc : (b c : ℤ) → (pos 0 *ℤ b) *ℤ c ≡ pos 0 *ℤ (b *ℤ c)
-zero-assoc b c = ap (λ (x : ℤ). x *ℤ c) (zero-*ℤ b) ∙ zero-*ℤ c ∙ sym (zero-*ℤ (b *ℤ c))
+zero-mul-assoc : (b c : ℤ) → (pos 0 *ℤ b) *ℤ c ≡ pos 0 *ℤ (b *ℤ c)
+zero-mul-assoc b c = ap (λ (x : ℤ). x *ℤ c) (zero-*ℤ b) ∙ zero-*ℤ c ∙ sym (zero-*ℤ (b *ℤ c))
 
 pub mul-assoc : (a b c : ℤ) → (a *ℤ b) *ℤ c ≡ a *ℤ (b *ℤ c)
-mul-assoc (pos zero) b c = zero-assoc b c
-mul-assoc (pos (suc n)) b c = assoc-up (pos n) b c (mul-assoc (pos n) b c)
-mul-assoc (negsuc zero) b c = assoc-down (pos 0) b c (zero-assoc b c)
-mul-assoc (negsuc (suc n)) b c = assoc-down (negsuc n) b c (mul-assoc (negsuc n) b c)
+mul-assoc (pos zero) b c = zero-mul-assoc b c
+mul-assoc (pos (suc n)) b c = mul-assoc-up (pos n) b c (mul-assoc (pos n) b c)
+mul-assoc (negsuc zero) b c = mul-assoc-down (pos 0) b c (zero-mul-assoc b c)
+mul-assoc (negsuc (suc n)) b c = mul-assoc-down (negsuc n) b c (mul-assoc (negsuc n) b c)
 
 pub mul-left-comm : (a b c : ℤ) → a *ℤ (b *ℤ c) ≡ b *ℤ (a *ℤ c)
 mul-left-comm a b c = sym (mul-assoc a b c) ∙ ap (λ (x : ℤ). x *ℤ c) (*ℤ-comm a b) ∙ mul-assoc b a c

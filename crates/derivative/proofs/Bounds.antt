@@ -5,18 +5,13 @@ use Prim.Native.Nat.{ℕ, suc, _+_, _*_, _≤_, _<_, max}
 use native.Mathlib.Nat.{add-mul, mul-le-mul-left, mul-suc, suc-mul}
 use native.Mathlib.Omega.{arith}
 use Rattle.formula.specs.Operator.{binary, Add, Multiply}
-use Rattle.formula.specs.Formula.{operation, Formula, node, size, depth}
+use Rattle.formula.specs.Formula.{operation, Formula, size, depth}
+use Rattle.formula.proofs.Sizes.{size-pos, depth-pos}
 use Rattle.derivative.specs.Rules.{add-of, mul-of}
 use Rattle.derivative.specs.Differentiate.{formulas, binary-node, with-primal}
 use Rattle.derivative.proofs.Ruled.{Ruled, without, itself, positive, negative, sum, difference, product, zero-literal, minus-one-literal, negated}
 
 -- ---- simplified sums and products are no larger than whole ones
-
-pub size-positive : (f : Formula) → 1 ≤ size f
-size-positive (node h ts) = omega arith
-
-pub depth-positive : (f : Formula) → 1 ≤ depth f
-depth-positive (node h ts) = omega arith
 
 abbrev Joined : Formula → Formula → Formula → Type 0
 Joined a b c = (size c ≤ suc (size a + size b)) × (depth c ≤ suc (max (depth a) (depth b)))
@@ -56,7 +51,7 @@ grown na nb ka kb sa sb p q =
 
 module _ (s : ℕ) where
   pub rate-size : {f g : Formula} → Ruled s f g → size g ≤ 2 * size f + size f * depth f
-  rate-size (without {f} p e) = omega (arith, size-positive f)
+  rate-size (without {f} p e) = omega (arith, size-pos f)
   rate-size (itself e) = omega arith
   rate-size (positive {a} {da} r) = omega (arith, grown (size a) 0 (depth a) 0 (size da) 0 (rate-size r) (omega arith))
   rate-size (negative {a} {da} r) =
@@ -65,26 +60,26 @@ module _ (s : ℕ) where
       omega (arith, add-joined da db, grown (size a) (size b) (depth a) (depth b) (size da) (size db) (rate-size r) (rate-size t))
   rate-size (difference {a} {da} {b} {db} r t) =
       omega
-      (arith, add-joined da (negated db), mul-joined minus-one-literal db, size-positive a, grown (size a) (size b) (depth a) (depth b) (size da) (size db) (rate-size r) (rate-size t))
+      (arith, add-joined da (negated db), mul-joined minus-one-literal db, size-pos a, grown (size a) (size b) (depth a) (depth b) (size da) (size db) (rate-size r) (rate-size t))
   rate-size (product {a} {da} {b} {db} r t) =
       omega
       (arith, add-joined (mul-of formulas da b) (mul-of formulas a db), mul-joined da b, mul-joined a db, grown (size a) (size b) (depth a) (depth b) (size da) (size db) (rate-size r) (rate-size t))
 
   pub rate-depth : {f g : Formula} → Ruled s f g → depth g < 2 * depth f
-  rate-depth (without {f} p e) = omega (arith, depth-positive f)
+  rate-depth (without {f} p e) = omega (arith, depth-pos f)
   rate-depth (itself e) = omega arith
   rate-depth (positive {a} {da} r) = omega (arith, rate-depth r)
-  rate-depth (negative {a} {da} r) = omega (arith, mul-joined minus-one-literal da, depth-positive da, rate-depth r)
+  rate-depth (negative {a} {da} r) = omega (arith, mul-joined minus-one-literal da, depth-pos da, rate-depth r)
   rate-depth (sum {a} {da} {b} {db} r t) = omega (arith, add-joined da db, rate-depth r, rate-depth t)
   rate-depth (difference {a} {da} {b} {db} r t) =
-      omega (arith, add-joined da (negated db), mul-joined minus-one-literal db, depth-positive db, rate-depth r, rate-depth t)
+      omega (arith, add-joined da (negated db), mul-joined minus-one-literal db, depth-pos db, rate-depth r, rate-depth t)
   rate-depth (product {a} {da} {b} {db} r t) =
       omega
-      (arith, add-joined (mul-of formulas da b) (mul-of formulas a db), mul-joined da b, mul-joined a db, depth-positive a, depth-positive b, rate-depth r, rate-depth t)
+      (arith, add-joined (mul-of formulas da b) (mul-of formulas a db), mul-joined da b, mul-joined a db, depth-pos a, depth-pos b, rate-depth r, rate-depth t)
 
 -- "0 × formula + derivative"
 pub tree-size : (f g : Formula) → size (with-primal f g) ≡ 3 + size f + size g
 tree-size f g = omega arith
 
 pub tree-depth : (f g : Formula) → depth (with-primal f g) ≡ suc (max (suc (depth f)) (depth g))
-tree-depth f g = omega (arith, depth-positive f)
+tree-depth f g = omega (arith, depth-pos f)

@@ -19,6 +19,7 @@ use Rattle.formula.specs.Node.{node-size}
 use Rattle.formula.specs.Path.{root}
 use Rattle.formula.specs.Term.{term}
 use Rattle.formula.proofs.Tests.{and-first}
+use Rattle.formula.proofs.Sizes.{depth-pos}
 use Rattle.machine.specs.Check.{kind}
 use Rattle.machine.specs.Compile.{compile, accepted, node-room, program-room}
 use Rattle.machine.proofs.Accepted.{accepted-formula}
@@ -30,7 +31,7 @@ use Rattle.derivative.proofs.Compiles.{and-then-some}
 use Rattle.derivative.proofs.Derived.{derived-formula, Derivation}
 use Rattle.derivative.proofs.Exact.{plain-value}
 use Rattle.derivative.proofs.Ruled.{Ruled, differentiable}
-use Rattle.derivative.proofs.Bounds.{depth-positive, rate-size, rate-depth, tree-size, tree-depth}
+use Rattle.derivative.proofs.Bounds.{rate-size, rate-depth, tree-size, tree-depth}
 use Rattle.derivative.proofs.Moves.{one-slope}
 use Rattle.derivative.proofs.Slopes.{slope-of, as-rate, primal-slope}
 
@@ -56,7 +57,7 @@ module _ (s : ℕ) (by-state : Bool) (f g : Formula) (p : plain f ≡ true) (e :
 
   pub tree-bounds : (size (with-primal f g) ≤ 3 + 3 * size f + size f * depth f) × (depth (with-primal f g) ≤ max 3 (2 * depth f))
   tree-bounds =
-      (omega (arith, tree-size f g, rate-size s ruled-rate), omega (arith, tree-depth f g, depth-positive f, rate-depth s ruled-rate))
+      (omega (arith, tree-size f g, rate-size s ruled-rate), omega (arith, tree-depth f g, depth-pos f, rate-depth s ruled-rate))
 
 -- "(zero at h = 0)"
 pub nothing-left : (s : ℕ) (σ : Setting) (f d : Formula) (r : Rate s σ (pos 0) f d) → r .moved -ℤ r .value -ℤ pos 0 *ℤ r .slope ≡ pos 0

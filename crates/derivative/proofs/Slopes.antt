@@ -4,7 +4,7 @@ use mathlib.Core.Bool.{true, false}
 use mathlib.Core.Option.{some}
 use Prim.Native.Nat.{ℕ}
 use lib.Dec.{eqb}
-use lib.IntN.{ℤ, pos, negsuc, negℤ, _+ℤ_, _-ℤ_, _*ℤ_, +ℤ-idl, zero-*ℤ}
+use lib.IntN.{ℤ, pos, negsuc, negℤ, _+ℤ_, _*ℤ_, +ℤ-idl, zero-*ℤ}
 use Rattle.arithmetic.proofs.Integers.{mul-one, minus-one-mul}
 use Rattle.formula.specs.Operator.{unary, binary, Positive, Negative, Add, Subtract, Multiply}
 use Rattle.formula.specs.Formula.{symbol, operation, Formula, node, last, depends}
@@ -84,7 +84,7 @@ module _ (s : ℕ) (σ : Setting) (h : ℤ) where
     positive-slope : Slope s σ h (unary-node (unary Positive) a) da
     positive-slope = same A (rw (A .value)) (rw (A .moved)) (A .slope)
 
-    negative-slope : Slope s σ h (unary-node (unary Negative) a) (negated da)
+    abbrev negative-slope : Slope s σ h (unary-node (unary Negative) a) (negated da)
     negative-slope =
         record {
           x = negℤ (A .x);
@@ -100,7 +100,7 @@ module _ (s : ℕ) (σ : Setting) (h : ℤ) where
         }
 
     module _ {b db : Formula} (B : Slope s σ h b db) where
-      sum-slope : Slope s σ h (binary-node (operation (binary Add)) a b) (add-of formulas da db)
+      abbrev sum-slope : Slope s σ h (binary-node (operation (binary Add)) a b) (add-of formulas da db)
       sum-slope =
           record {
             x = A .x +ℤ B .x;
@@ -137,22 +137,10 @@ module _ (s : ℕ) (σ : Setting) (h : ℤ) where
                 (scaled h (A .x) (B .d) (B .q) (B .y) (B .rest));
           }
 
-      difference-slope : Slope s σ h (binary-node (operation (binary Subtract)) a b) (add-of formulas da (negated db))
-      difference-slope =
-          let N = opposites h in
-          record {
-            x = A .x -ℤ B .x;
-            x′ = A .x′ -ℤ B .x′;
-            y = A .y -ℤ B .y;
-            d = A .d -ℤ B .d;
-            q = A .q -ℤ B .q;
-            value = rw (A .value, B .value);
-            moved = rw (A .moved, B .moved);
-            slope = sum-value σ da (negated db) (A .d) (negℤ (B .d)) (A .slope) (negated-value db (B .d) (B .slope));
-            moves =
-                sums h (A .x) (A .y) (A .x′) (negℤ (B .x)) (negℤ (B .y)) (negℤ (B .x′)) (A .moves) (N (B .x) (B .y) (B .x′) (B .moves));
-            rest = sums h (A .d) (A .q) (A .y) (negℤ (B .d)) (negℤ (B .q)) (negℤ (B .y)) (A .rest) (N (B .d) (B .q) (B .y) (B .rest));
-          }
+  -- a difference is the sum with the opposite
+  difference-slope : {a da b db : Formula} → Slope s σ h a da → Slope s σ h b db
+      → Slope s σ h (binary-node (operation (binary Subtract)) a b) (add-of formulas da (negated db))
+  difference-slope A B = let S = sum-slope A (negative-slope B) in same S (rw (A .value, B .value)) (rw (A .moved, B .moved)) (S .slope)
 
   -- by the rules that a plain formula meets
   pub slope-of : {f g : Formula} → Ruled s f g → Slope s σ h f g

@@ -1,4 +1,4 @@
--- The derivative tree by the rules of `derivative.rs`, and derive.
+-- The derivative tree by the rules of `derivative.rs`, and derive. `Polynomial`: plain formulas over whole numbers, and what an exact rate is.
 pub mod Rules
 pub mod Differentiate
 pub mod Derive

@@ -10,6 +10,7 @@ use lib.Dec.{leb}
 use borrow.Author.Tests.{lt-leb, leb-true}
 use Rattle.formula.specs.Formula.{Head, malformed, Formula, Formulas, node, last, next, count, size, sizes, depth, depths, is-node, well-formed, all-well-formed}
 use Rattle.formula.specs.Node.{fields-at, fields-of, head-of, head-at, children-at, rooted, tree-in, tree-at, node-size}
+pub use Rattle.formula.proofs.Sizes.{size-pos, depth-pos}
 use Rattle.reader.proofs.Heads.{head-fields, head-is-node, no-true, and-first, and-second}
 
 -- ---- with levels enough, more of them change nothing
@@ -99,12 +100,6 @@ node-at b at w =
     let R = rooted (λ a. tree-at b a) (fields-at b at .children) (at + node-size) (head-at b at) in
     subst (λ (T : Formula). Node b at (λ a. tree-at b a) T) (sym e)
     (node-in (head-at b at) b at (λ a. tree-at b a) refl (sym (ap well-formed e) ∙ w))
-
-pub size-pos : (t : Formula) → 1 ≤ size t
-size-pos (node h ts) = omega arith
-
-pub depth-pos : (t : Formula) → 1 ≤ depth t
-depth-pos (node h ts) = omega arith
 
 pub children-none : (t : ℕ → Formula) (k at : ℕ) → k ≡ 0 → children-at t k at ≡ last
 children-none t k at e = ap (λ (x : ℕ). children-at t x at) e
