@@ -183,7 +183,7 @@ def wrong(library, r, formula):
             moved[by] += h
             left = value(f, moved) - value(f, setting) - h * value(d, setting)
             if left % (h * h) if h else left:
-                return "by %d at %r with h = %d: %d is left" % (by, setting, h, left), most
+                return "by %d at %r with h = %d: what is left is no multiple of h squared" % (by, setting, h), most
     return None, most
 
 
