@@ -4,18 +4,15 @@ use mathlib.Core.Bool.{true}
 use mathlib.Core.List.{List, _++_}
 use mathlib.Core.Option.{some}
 use Prim.Native.Nat.{ℕ, _*_, _-_}
-use native.Mathlib.Nat.{le-refl}
 use native.Mathlib.Omega.{arith}
 use lib.ListN.{length, take}
 use lib.Seq.{take-at}
 use Rattle.formula.specs.Text.{zeros}
-use Rattle.formula.specs.Formula.{Formula, depth, size, well-formed}
+use Rattle.formula.specs.Formula.{Formula, size}
 use Rattle.formula.specs.Names.{Symbol}
 use Rattle.formula.specs.Node.{encode, formula-of, node-size}
-use Rattle.reader.specs.Writable.{writable}
 use Rattle.reader.proofs.Bytes.{Bytes}
-use Rattle.reader.proofs.Encode.{encode-length, formula-encode, writable-tree}
-use Rattle.reader.proofs.Scan.{formula-in}
+use Rattle.reader.proofs.Encode.{encode-length, formula-encode}
 use Rattle.compile.proofs.Back.{accepted-parts}
 use Rattle.derivative.specs.Derive.{Derived, by-state, derive, derived, formula-refused, formula-refused-at, refused, tree-after}
 use Rattle.derivative.specs.Polynomial.{plain, ExactRate}
@@ -25,6 +22,7 @@ use Rattle.derive.specs.declared.Answer.{Answer}
 use Rattle.derive.specs.declared.Answer.the-variants as Given
 use Rattle.derive.specs.Outcome.{Leaves, answer}
 use Rattle.derive.proofs.Writable.{derivative-writable}
+use Rattle.derive.proofs.Writing.{held-writable}
 
 -- an answer with a tree is of one that was derived
 there : (X : Derived) (n : ℕ) → answer X ≡ Given.Derived n → (d : Formula) × (symbols : List Symbol) × (X ≡ derived d symbols) × (size d ≡ n)
@@ -32,12 +30,6 @@ there (formula-refused m place) n e = absurd (let z : _≡_ {A = ℕ} 0 1 = cc i
 there (formula-refused-at m k) n e = absurd (let z : _≡_ {A = ℕ} 0 1 = cc in omega arith)
 there (refused m place) n e = absurd (let z : _≡_ {A = ℕ} 0 1 = cc in omega arith)
 there (derived d symbols) n e = (d, symbols, refl, cc)
-
--- a formula that bytes hold can be written
-held-writable : (b : List ℕ) (f : Formula) → Bytes b → formula-of b ≡ some f → writable f ≡ true
-held-writable b f bytes e =
-    let i = formula-in b f (depth f) e (le-refl (depth f)) in
-    sym (ap writable (i .0)) ∙ writable-tree b bytes (depth f) 0 (ap well-formed (i .0) ∙ i .1)
 
 module _
     (b names q q′ t t′ p p′ : List ℕ) (s n : ℕ) (r : Answer) (bytes : Bytes b)

@@ -4,6 +4,7 @@ use mathlib.Core.Bool.{Bool, true}
 use mathlib.Core.List.{List, _++_}
 use mathlib.Core.Option.{Option, none, some}
 use Prim.Native.Nat.{ℕ, _+_, _-_, _*_, _/_, _≤_}
+use native.Mathlib.Nat.{le-refl}
 use native.Mathlib.Omega.{arith}
 use lib.ListN.{length, take, drop, length-append, length-drop}
 use lib.Seq.{length-take-le, take-at}
@@ -27,7 +28,7 @@ use Rattle.reader.proofs.Scan.{formula-in}
 use Rattle.writer.specs.Over.{zeroed}
 use Rattle.lower.specs.Piece.{context-of}
 use Rattle.compile.specs.Outcome.{Fits, fault-place, slice-after}
-use Rattle.compile.proofs.Entries.{few, low, same-context}
+use Rattle.compile.proofs.Entries.{few, same-context}
 use Rattle.derivative.specs.Differentiate.{derivative}
 use Rattle.derivative.specs.Derive.{by-state, generated-context}
 use Rattle.derivative.proofs.Compiles.{derivative-compiles}
@@ -38,6 +39,12 @@ use Rattle.compile.specs.Preparation.{Formed}
 use Rattle.derive.specs.Outcome.{Derives}
 use Rattle.derive.proofs.Parts.{tree-is}
 use Rattle.derive.proofs.Writable.{derivative-writable}
+
+-- a formula that bytes hold can be written
+pub held-writable : (b : List ℕ) (f : Formula) → Bytes b → formula-of b ≡ some f → writable f ≡ true
+held-writable b f bytes e =
+    let i = formula-in b f (depth f) e (le-refl (depth f)) in
+    sym (ap writable (i .0)) ∙ writable-tree b bytes (depth f) 0 (ap well-formed (i .0) ∙ i .1)
 
 module _ (b K : List ℕ) (s : ℕ) (st : Bool) (program : ℕ) (f : Formula) (ss : List Symbol) (d : Formula) (D : Derives b K s st program f ss d) where
   G : Formed b K f ss
@@ -53,13 +60,8 @@ module _ (b K : List ℕ) (s : ℕ) (st : Bool) (program : ℕ) (f : Formula) (s
   few-levels = leb-true (depth d) 128 (and-second (leb (size d) 16384) (leb (depth d) 128) (D .limit))
 
   module _ (bytes : Bytes b) where
-    formula-writable : writable f ≡ true
-    formula-writable =
-        let i = formula-in b f 32 (G .formed) (low b f (G .formed) (G .limit)) in
-        sym (ap writable (i .0)) ∙ writable-tree b bytes 32 0 (ap well-formed (i .0) ∙ i .1)
-
     pub derivative-read : formula-of (encode d) ≡ some d
-    derivative-read = formula-encode d (derivative-writable s (by-state ss s) f d formula-writable (D .derives))
+    derivative-read = formula-encode d (derivative-writable s (by-state ss s) f d (held-writable b f bytes (G .formed)) (D .derives))
 
     module _ (t t₁ t₂ : List ℕ) (n : ℕ) (room : node-size * size d ≤ length t) (W : Writes (encode d) t t₁ n) (e : t₂ ≡ zeroed t₁ n) where
       abbrev l : ℕ
