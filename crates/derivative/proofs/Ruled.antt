@@ -1,4 +1,4 @@
--- The rules that a plain formula meets: its derivative is there and is plain, and of a known size and depth.
+-- The rules that a plain formula meets, and that its derivative is there.
 use mathlib.Core.Path.{_≡_, refl, sym, _∙_}
 use mathlib.Core.Bool.{Bool, true, false, or-false}
 use mathlib.Core.Option.{some}

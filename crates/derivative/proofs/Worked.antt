@@ -81,7 +81,7 @@ simplified-rates = (refl, refl, refl, refl, refl, refl)
 
 -- ---- what is plain
 
--- 1e300 × x is; at x = 3 and at x = -3 it is three times that number of 997 digits
+-- 1e300 × x is; at x = 3 and at x = -3 it is three times that number of 997 binary digits
 pub large-value :
     (plain (of Multiply (lit 0x7e37e43c8800759c) x) ≡ true)
     × (exact (at (pos 3 ∷ [])) (of Multiply (lit 0x7e37e43c8800759c) x) ≡ some (pos (3 * 1e300)))
