@@ -41,7 +41,7 @@ node-right : (h : Head) (ts : List Formula) → attributes-of (node h (of-list t
 node-right h ts = attributes-path _ _ _ _ (literal-head h) (total-right ts) (levels-right ts)
 
 pub instance-right : (e : Parts Formula) (r : Rule) → attributes-of (instance formulas e r) ≡ instance attribute-algebra (mapped attributes-of e) r
-instance-right e r = homomorphism formulas attribute-algebra attributes-of node-right (λ a. refl) (λ a. refl) e r
+instance-right e r = homomorphism formulas attribute-algebra attributes-of node-right refl refl (λ a. refl) (λ a. refl) e r
 
 -- ---- the survey
 

@@ -1,4 +1,4 @@
--- A map that respects an algebra's node, is-zero and is-one respects the instance of every rule.
+-- A map that respects an algebra's nodes and tests respects the instance of every rule.
 use mathlib.Core.Path.{_≡_, refl, ap, _∙_}
 use mathlib.Core.Bool.{Bool, true, false, cond}
 use mathlib.Core.List.{List, [], _∷_, map}
@@ -6,7 +6,7 @@ use Prim.Native.Nat.{ℕ, zero, suc}
 use lib.ListN.{getD}
 use Rattle.formula.specs.Operator.{binary, Add, Multiply}
 use Rattle.formula.specs.Formula.{Head, number, operation}
-use Rattle.derivative.specs.Rules.{Algebra, Parts, Rule, Rules, child, whole, diff, make, add, mul, unless-zero, end, _and_, zero-of, add-of, mul-of, instance, instances}
+use Rattle.derivative.specs.Rules.{Algebra, Parts, Rule, Rules, child, whole, diff, make, add, mul, unless-zero, zeroth, end, _and_, zero-of, add-of, mul-of, instance, instances}
 
 pub getD-map : {A B : Type 0} (f : A → B) (l : List A) (i : ℕ) (a : A) → f (getD l i a) ≡ getD (map f l) i (f a)
 getD-map f [] i a = refl
@@ -23,6 +23,7 @@ mapped f e = record { own = f (e .own); children = map f (e .children); diffs = 
 module _
     {A B : Type 0} (G : Algebra A) (K : Algebra B) (f : A → B)
     (nodes : (h : Head) (xs : List A) → f (G .node h xs) ≡ K .node h (map f xs))
+    (product : f (G .zero-product) ≡ K .zero-product) (power : f (G .zeroth-power) ≡ K .zeroth-power)
     (zeros : (a : A) → G .is-zero a ≡ K .is-zero (f a))
     (ones : (a : A) → G .is-one a ≡ K .is-one (f a)) where
   adds : (a b : A) → f (add-of G a b) ≡ add-of K (f a) (f b)
@@ -30,7 +31,7 @@ module _
 
   muls : (a b : A) → f (mul-of G a b) ≡ mul-of K (f a) (f b)
   muls a b =
-      rw (cond-map f, cond-map f, cond-map f, nodes (operation (binary Multiply)) (a ∷ b ∷ []), nodes (number 0) [], zeros a, zeros b, ones a, ones b)
+      rw (cond-map f, cond-map f, cond-map f, nodes (operation (binary Multiply)) (a ∷ b ∷ []), product, zeros a, zeros b, ones a, ones b)
 
   at : (l : List A) (i : ℕ) → f (getD l i (zero-of G)) ≡ getD (map f l) i (zero-of K)
   at l i = getD-map f l i (zero-of G) ∙ ap (λ (d : B). getD (map f l) i d) (nodes (number 0) [])
@@ -46,6 +47,7 @@ module _
     homomorphism e (unless-zero i r) =
         cond-map f (G .is-zero (getD (e .diffs) i (zero-of G))) (zero-of G) (instance G e r)
         ∙ rw (zeros (getD (e .diffs) i (zero-of G)), at (e .diffs) i, nodes (number 0) [], homomorphism e r)
+    homomorphism e zeroth = power
 
     pub homomorphisms : (e : Parts A) (rs : Rules) → map f (instances G e rs) ≡ instances K (mapped f e) rs
     homomorphisms e end = refl

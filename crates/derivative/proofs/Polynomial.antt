@@ -2,7 +2,7 @@
 -- refuses a plain formula that compiles only for its symbol's number or for its slices.
 use mathlib.Core.Path.{_≡_, refl, sym, ap, subst, ap₂, _∙_}
 use mathlib.Core.List.{List}
-use mathlib.Core.Bool.{Bool, true, cond, _||_}
+use mathlib.Core.Bool.{Bool, true, cond}
 use mathlib.Core.Option.{none, some, Option·some-injective}
 use Prim.Native.Nat.{ℕ, _+_, _*_, _≤_, _<_, max}
 use native.Mathlib.Nat.{mul-le-mul}
@@ -24,7 +24,8 @@ use Rattle.machine.specs.Check.{kind}
 use Rattle.machine.specs.Compile.{compile, accepted, node-room, program-room}
 use Rattle.machine.proofs.Accepted.{accepted-formula}
 use Rattle.derivative.specs.Differentiate.{differentiate, with-primal, derivative}
-use Rattle.derivative.specs.Derive.{refused, derived, by-state, tree-room, derive}
+use Rattle.derivative.specs.Records.{Record, derivative-records, record-size}
+use Rattle.derivative.specs.Derive.{refused, derived, by-state, tree-room, list-room, Lengths, too-short, derive}
 use Rattle.derivative.specs.Polynomial.{Setting, plain, all-plain, plain-head, plain-operation, exact, Rate, ExactRate}
 use Rattle.derivative.proofs.Faultless.{never, both}
 use Rattle.derivative.proofs.Compiles.{and-then-some}
@@ -117,49 +118,50 @@ small f d l b =
     let m : size f * depth f ≤ 256 * 32 = mul-le-mul n k in
     (omega arith, omega arith)
 
-module _ (formula names : List ℕ) (s path-length tree-length program-length : ℕ) where
+module _ (formula names : List ℕ) (s path-length : ℕ) (l : Lengths) where
   -- a tree that derive gives, for a plain formula
-  pub derivation-rate : (f d : Formula) (symbols : List Symbol) → Derivation formula names s path-length program-length f d symbols → plain f ≡ true
+  pub derivation-rate : (f d : Formula) (rs : List Record) (symbols : List Symbol) → Derivation formula names s path-length (l .program) f d rs symbols → plain f ≡ true
       → (plain d ≡ true) × ExactRate s f d
-  derivation-rate f d symbols D p =
+  derivation-rate f d rs symbols D p =
       let g = and-then-some (differentiate s (by-state symbols s) f) _ d (D .differentiated) in
       subst (λ (k : Formula). (plain k ≡ true) × ExactRate s f k) (Option·some-injective _ _ (g .2))
       (tree-plain s (by-state symbols s) f (g .0) p (g .1), tree-rate s (by-state symbols s) f (g .0) p (g .1))
 
   -- "of each that derives": f is the formula that compiles from the bytes, d the tree
-  pub derived-rate : (d : Formula) (symbols : List Symbol) → derive formula names s path-length tree-length program-length ≡ derived d symbols
-      → (f : Formula) × (compile formula names path-length program-length ≡ accepted f symbols) × (plain f ≡ true → (plain d ≡ true) × ExactRate s f d)
-  derived-rate d symbols e =
-      let r = derived-formula formula names s path-length tree-length program-length d symbols e in
-      (r .0, r .1 .compiled, λ p. derivation-rate (r .0) d symbols (r .1) p)
+  pub derived-rate : (d : Formula) (rs : List Record) (symbols : List Symbol) → derive formula names s path-length l ≡ derived d rs symbols
+      → (f : Formula) × (compile formula names path-length (l .program) ≡ accepted f symbols) × (plain f ≡ true → (plain d ≡ true) × ExactRate s f d)
+  derived-rate d rs symbols e =
+      let r = derived-formula formula names s path-length l d rs symbols e in
+      (r .0, r .1 .compiled, λ p. derivation-rate (r .0) d rs symbols (r .1) p)
 
-  module _ (f : Formula) (symbols : List Symbol) (c : compile formula names path-length program-length ≡ accepted f symbols) (p : plain f ≡ true) where
+  module _ (f : Formula) (symbols : List Symbol) (c : compile formula names path-length (l .program) ≡ accepted f symbols) (p : plain f ≡ true) where
     -- Nothing hides in "that derives": a plain formula that compiles has a tree d, of at most 8,963 nodes and 64 levels, and derive refuses it only by 6, where there is no such symbol, and
     -- by 1, where a slice is too short for d; never by 7, 8 or 4.
     pub plain-derive :
         (d : Formula) × (derivative s (by-state symbols s) f ≡ some d) × (size d ≤ 8963) × (depth d ≤ 64)
-        × (derive formula names s path-length tree-length program-length
+        × (derive formula names s path-length l
         ≡ cond (ltb s (length symbols))
-        (cond (ltb tree-length (tree-room d) || ltb program-length (program-room (tree-room d))) (refused slice-too-short none) (derived d symbols))
+        (cond (too-short l d) (refused slice-too-short none) (derived d (derivative-records s (by-state symbols s) f) symbols))
         (refused unknown-symbol (some root)))
     unfolding derive
     plain-derive =
         let r = differentiable s (by-state symbols s) f p in
         let d = with-primal f (r .rate) in
         let b =
-        small f d (accepted-formula formula names path-length program-length f symbols c .limit)
+        small f d (accepted-formula formula names path-length (l .program) f symbols c .limit)
         (tree-bounds s (by-state symbols s) f (r .rate) p (r .differentiated)) in
         let n : size d ≤ 16384 = omega (arith, b) in
         let k : depth d ≤ 128 = omega (arith, b) in
         (d, rw (r .differentiated), b .0, b .1, rw (c, plain-number f p, r .differentiated, le-leb (size d) 16384 n, le-leb (depth d) 128 k))
 
     -- so with room for 8,963 nodes it derives, by every symbol
-    pub plain-derives : s < length symbols → node-size * 8963 ≤ tree-length → node-room * 8963 ≤ program-length
-        → (d : Formula) × (derive formula names s path-length tree-length program-length ≡ derived d symbols)
-    plain-derives k t r =
+    pub plain-derives : s < length symbols → node-size * 8963 ≤ l .tree → record-size * 8963 ≤ l .list → node-room * 8963 ≤ l .program
+        → (d : Formula) × (derive formula names s path-length l ≡ derived d (derivative-records s (by-state symbols s) f) symbols)
+    plain-derives k t q r =
         let x = plain-derive in
         let d = x .0 in
         let n : size d ≤ 8963 = x .2 in
-        let a : tree-room d ≤ tree-length = omega arith in
-        let b : program-room (tree-room d) ≤ program-length = omega arith in
-        (d, x .4 ∙ rw (lt-ltb s (length symbols) k, le-ltb tree-length (tree-room d) a, le-ltb program-length (program-room (tree-room d)) b))
+        let a : tree-room d ≤ l .tree = omega arith in
+        let h : list-room d ≤ l .list = omega arith in
+        let b : program-room (tree-room d) ≤ l .program = omega arith in
+        (d, x .4 ∙ rw (lt-ltb s (length symbols) k, le-ltb (l .tree) (tree-room d) a, le-ltb (l .list) (list-room d) h, le-ltb (l .program) (program-room (tree-room d)) b))

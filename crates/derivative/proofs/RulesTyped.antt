@@ -43,7 +43,7 @@ one-typed ks = refl
 
 power-of-typed : (n : ℕ) → finite (Constant.literal n) ≡ true → well-typed (numbers 2) Number (power (child 0) n) ≡ true
 power-of-typed n f =
-    typed-cond (numbers 2) Number (one-bits n) _ _ refl (typed-cond (numbers 2) Number (zero-bits n) _ _ (one-typed (numbers 2)) (rw f))
+    typed-cond (numbers 2) Number (one-bits n) _ _ refl (typed-cond (numbers 2) Number (zero-bits n) _ _ refl (rw f))
 
 power-typed : (e : Option ℕ) → FiniteLiteral e → well-typed (numbers 2) Number (power-rule e) ≡ true
 unfolding ofBits

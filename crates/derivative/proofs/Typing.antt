@@ -3,13 +3,14 @@ use mathlib.Core.Path.{_≡_, refl, subst}
 use mathlib.Core.List.{List, [], _∷_}
 use mathlib.Core.Bool.{Bool, true, false, _&&_, _||_}
 use Prim.Native.Nat.{ℕ, zero, suc}
+use lib.Ieee.{ofBits}
 use lib.ListN.{length, getD}
 use Rattle.arithmetic.specs.Value.{finite}
 use Rattle.arithmetic.specs.Constant
 use Rattle.formula.specs.Operator.{Operation, binary, Add, Multiply, ValueKind, Number, Boolean, same-kind, argument-kind, arity, result-kind}
 use Rattle.formula.specs.Formula.{Head, number, truth, symbol, operation, junction, ifelse, conditional, malformed, Formula, node, of-list}
 use Rattle.machine.specs.Check.{Context}
-use Rattle.derivative.specs.Rules.{Parts, Rule, Rules, child, whole, diff, make, add, mul, unless-zero, end, _and_, instance, instances, zero-of, add-of, mul-of}
+use Rattle.derivative.specs.Rules.{Parts, Rule, Rules, child, whole, diff, make, add, mul, unless-zero, zeroth, end, _and_, instance, instances, zero-of, add-of, mul-of}
 use Rattle.derivative.specs.Differentiate.{formulas}
 use Rattle.derivative.proofs.Faultless.{never, both, kind-is}
 use Rattle.derivative.proofs.Sound.{Sound, AllSound, sound-operation, sound-branch, sound-literal, sound-zero, sound-cond}
@@ -57,12 +58,17 @@ abbrev mutual
   well-typed ks κ (add a b) = same-kind Number κ && (well-typed ks Number a && well-typed ks Number b)
   well-typed ks κ (mul a b) = same-kind Number κ && (well-typed ks Number a && well-typed ks Number b)
   well-typed ks κ (unless-zero i r) = same-kind Number κ && well-typed ks Number r
+  well-typed ks κ zeroth = same-kind Number κ
 
   pub each-typed : List ValueKind → Rules → List (ValueKind → Bool)
   each-typed ks end = []
   each-typed ks (r and rs) = (λ κ. well-typed ks κ r) ∷ each-typed ks rs
 
 -- ---- it is sound
+
+one-finite : finite (Constant.literal 0x3ff0000000000000) ≡ true
+unfolding ofBits
+one-finite = refl
 
 module _ (C : Context) (n : ℕ) where
   abbrev pub SoundChildren : List ValueKind → List Formula → Type 0
@@ -187,6 +193,7 @@ module _ (C : Context) (n : ℕ) where
           let g = both _ _ h in
           as-kind Number κ _ (g .0)
           (sound-cond C n Number (formulas .is-zero (getD (e .diffs) i (zero-of formulas))) _ _ (sound-zero C n) (instance-sound r Number (g .1)))
+      instance-sound zeroth κ h = as-kind Number κ _ h (sound-literal C n 0x3ff0000000000000 one-finite)
 
       instances-sound : (rs : Rules) → EachSound (each-typed ks rs) (instances formulas e rs)
       instances-sound end = tt

@@ -27,11 +27,16 @@ abbrev pub most-levels : List Attributes → ℕ
 most-levels [] = 0
 most-levels (a ∷ as′) = max (a .levels) (most-levels as′)
 
+abbrev pub over : Head → List Attributes → Attributes
+over h as′ = record { nodes = min 16385 (suc (total-nodes as′)); levels = min 129 (suc (most-levels as′)); bits = literal-head h }
+
 -- a rule's instance over attributes
 abbrev pub attribute-algebra : Algebra Attributes
 attribute-algebra =
     record {
-      node = λ h as′. record { nodes = min 16385 (suc (total-nodes as′)); levels = min 129 (suc (most-levels as′)); bits = literal-head h };
+      node = over;
+      zero-product = over (number 0) [];
+      zeroth-power = over (number 0x3ff0000000000000) [];
       is-zero = λ a. holds zero-bits (a .bits);
       is-one = λ a. holds one-bits (a .bits);
     }

@@ -29,6 +29,8 @@ abbrev pub formulas : Algebra Formula
 formulas =
     record {
       node = λ h ts. node h (of-list ts);
+      zero-product = node (number 0) last;
+      zeroth-power = node (number 0x3ff0000000000000) last;
       is-zero = λ t. holds zero-bits (literal-bits t);
       is-one = λ t. holds one-bits (literal-bits t);
     }

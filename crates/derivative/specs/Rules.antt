@@ -27,6 +27,8 @@ mutual
     mul : Rule → Rule → Rule
     -- the literal 0 where the derivative of child i is a literal zero, else the rule
     unless-zero : ℕ → Rule → Rule
+    -- the literal 1 that `power` writes for the power 0
+    zeroth : Rule
 
   pub data Rules : Type 0 where
     end : Rules
@@ -38,6 +40,9 @@ infixr 50 _and_
 -- what a rule is instantiated over: formulas, or attributes of formulas
 pub record Algebra (A : Type 0) : Type 0 where
   pub node : Head → List A → A
+  -- the literal 0 that `mul` writes beside a zero, and the literal 1 that `power` writes for the power 0
+  pub zero-product : A
+  pub zeroth-power : A
   pub is-zero : A → Bool
   pub is-one : A → Bool
 
@@ -56,7 +61,7 @@ add-of G a b = cond (G .is-zero a) b (cond (G .is-zero b) a (G .node (operation 
 -- "a literal zero or one beside Multiply"
 abbrev pub mul-of : {A : Type 0} → Algebra A → A → A → A
 mul-of G a b =
-    cond (G .is-zero a || G .is-zero b) (zero-of G)
+    cond (G .is-zero a || G .is-zero b) (G .zero-product)
     (cond (G .is-one a) b (cond (G .is-one b) a (G .node (operation (binary Multiply)) (a ∷ b ∷ []))))
 
 abbrev mutual
@@ -68,6 +73,7 @@ abbrev mutual
   instance G e (add a b) = add-of G (instance G e a) (instance G e b)
   instance G e (mul a b) = mul-of G (instance G e a) (instance G e b)
   instance G e (unless-zero i r) = cond (G .is-zero (getD (e .diffs) i (zero-of G))) (zero-of G) (instance G e r)
+  instance G e zeroth = G .zeroth-power
 
   pub instances : {A : Type 0} → Algebra A → Parts A → Rules → List A
   instances G e end = []
@@ -128,7 +134,7 @@ div a b = binary-of Divide a b
 
 -- "the powers 0 and 1 that the rules themselves write"
 abbrev pub power : Rule → ℕ → Rule
-power a n = cond (one-bits n) a (cond (zero-bits n) 1·0 (binary-of Power a (lit n)))
+power a n = cond (one-bits n) a (cond (zero-bits n) zeroth (binary-of Power a (lit n)))
 
 abbrev pub square : Rule → Rule
 square a = binary-of Power a 2·0
