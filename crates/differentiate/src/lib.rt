@@ -1,21 +1,23 @@
 // Writes the derivative tree: "Each part is written straight into the free end of the tree slice." A writer puts its nodes at
 // the start of the slice that it is lent, and lends what is free behind them to the writer of the next part. What is
-// simplified away is known from the survey, so nothing is written that the tree does not keep.
+// simplified away is known from the survey, so nothing is written that the tree does not keep. The same writers write the
+// nodes' records, where these are asked for.
 ghost use mathlib.Core.Path.{_≡_};
 ghost use mathlib.Core.Bool.{true};
 ghost use mathlib.Core.List.{_++_};
 ghost use mathlib.Core.Option.{some};
 ghost use Prim.Native.Nat.{_+_, _*_, _-_, _%_, _<_, _≤_};
 ghost use lib.ListN.{length};
-ghost use Rattle.formula.specs.Formula.{Formula};
+ghost use Rattle.formula.specs.Formula.{Formula, node, number, last, well-formed};
 ghost use Rattle.formula.specs.Node.{encode, inner-fields, node-bytes, node-size};
-ghost use Rattle.derivative.specs.Rules.{add-of, mul-of};
 ghost use Rattle.derivative.specs.Differentiate.{derivative};
+ghost use Rattle.derivative.specs.Records.{by-rule, copy as copy-from, derivative-records, record-bytes, record-size, recorded-literal};
 ghost use Rattle.rules.specs.Notation.{end-at};
-ghost use Rattle.survey.specs.Derived.{children-of, child-of, derived, derived-of};
 ghost use Rattle.survey.specs.Table.{tree, Owned};
-ghost use Rattle.differentiate.specs.Written.{Writes, Task, literal-bytes, part, parts-bytes, node-of, extremum-bytes, tie-bytes, sum-bytes, product-bytes, extremum-tree, Small, primal-bytes, Job};
+ghost use Rattle.writer.specs.Over.{over};
+ghost use Rattle.differentiate.specs.Written.{Writes, Task, bytes, step, numbers, coded-arm, arm-of, arm-literal, literal-part, arm-node, outer-node, recorded, recorded-of, copy-of, part, parts-bytes, extremum-bytes, extremum-tree, tie-bytes, sum-bytes, product-bytes, Small, primal-bytes, asked, Job};
 use reader::NODE_SIZE;
+use reader::byte;
 use reader::half;
 use reader::wide;
 use rules::code;
@@ -30,6 +32,21 @@ use survey::literal_bits;
 use survey::rule_attributes;
 use survey::rule_of;
 use writer::put_bytes;
+use writer::put_word;
+
+// The bytes of a record: "rule number and the node of the formula it came from, 4 bytes each".
+pub const RECORD_SIZE: usize = 8;
+// The numbers of the records that aren't of an arm: a copy, the 0 that `mul` writes, the 1 that `power` writes, a part without
+// the symbol, and the outer nodes.
+const COPIED: usize = 0;
+
+const BESIDE_ZERO: usize = 24;
+
+const TO_THE_ZEROTH: usize = 25;
+
+const WITHOUT_SYMBOL: usize = 26;
+
+const OUTER: usize = 27;
 
 // Copies b to the start of out.
 fn copy(b: &[u8], out: &mut [u8]) -> usize
@@ -40,7 +57,7 @@ fn copy(b: &[u8], out: &mut [u8]) -> usize
 }
 
 // A node that is no literal and no symbol.
-fn put_node(kind: usize, operator: usize, children: usize, out: &mut [u8]) -> usize
+fn put_inner(kind: usize, operator: usize, children: usize, out: &mut [u8]) -> usize
     requires { ⌜ (kind < 256) × (operator < 256) × (children < 256) × (node-size ≤ length (now out)) ⌝ }
     ensures { λ r. ⌜ Writes (node-bytes (inner-fields kind operator children)) (now (out .entry)) (now (out .exit)) r ⌝ }
 {
@@ -71,9 +88,9 @@ fn low(n: u64) -> u8
     (n % 256) as u8
 }
 
-fn put_literal(bits: u64, out: &mut [u8]) -> usize
+fn put_value(bits: u64, out: &mut [u8]) -> usize
     requires { ⌜ node-size ≤ length (now out) ⌝ }
-    ensures { λ r. ⌜ Writes (literal-bytes bits) (now (out .entry)) (now (out .exit)) r ⌝ }
+    ensures { λ r. ⌜ Writes (encode (node (number bits) last)) (now (out .entry)) (now (out .exit)) r ⌝ }
 {
     let b1 = bits / 256;
     let b2 = b1 / 256;
@@ -103,8 +120,8 @@ fn put_literal(bits: u64, out: &mut [u8]) -> usize
     copy(&b, out)
 }
 
-// A copy of the tree of node k.
-fn put_tree(f: &[u8], k: usize, table: &[usize], out: &mut [u8]) -> usize
+// A copy of the nodes of node k.
+fn put_copy(f: &[u8], k: usize, table: &[usize], out: &mut [u8]) -> usize
     requires { ⌜ Owned (now f) (now table) k × (length (encode (tree (now f) k)) ≤ length (now out)) ⌝ }
     ensures { λ r. ⌜ Writes (encode (tree (now (f .entry)) k)) (now (out .entry)) (now (out .exit)) r ⌝ }
 {
@@ -113,26 +130,168 @@ fn put_tree(f: &[u8], k: usize, table: &[usize], out: &mut [u8]) -> usize
     copy(&f[start..end], out)
 }
 
+// ---- records
+
+// Writes a record from a place on.
+fn put_record_at(rule: usize, k: usize, at: usize, out: &mut [u8])
+    requires { ⌜ at + record-size ≤ length (now out) ⌝ }
+    ensures { λ _. ⌜ now (out .exit) ≡ over (now (out .entry)) at (record-bytes (by-rule rule k)) ⌝ }
+{
+    put_word(out, at, rule);
+    put_word(out, at + 4, k);
+}
+
+fn put_record(rule: usize, k: usize, out: &mut [u8]) -> usize
+    requires { ⌜ record-size ≤ length (now out) ⌝ }
+    ensures { λ r. ⌜ Writes (record-bytes (by-rule rule k)) (now (out .entry)) (now (out .exit)) r ⌝ }
+{
+    put_record_at(rule, k, 0, out);
+    RECORD_SIZE
+}
+
+// The records of a copy of n nodes: each has its own number, from k on.
+fn put_numbers(k: usize, n: usize, out: &mut [u8]) -> usize
+    requires { ⌜ (k + n < 18446744073709551616) × (record-size * n ≤ length (now out)) ⌝ }
+    ensures { λ r. ⌜ Writes (numbers k n) (now (out .entry)) (now (out .exit)) r ⌝ }
+{
+    let mut i = 0;
+    while i < n {
+        put_record_at(COPIED, k + i, RECORD_SIZE * i, out);
+        i += 1;
+    }
+    RECORD_SIZE * i
+}
+
+// "in the order of the arms of `differentiate`", by a node's kind and operator.
+fn arm_number(kind: usize, operator: usize) -> u8
+    ensures { λ r. ⌜ r ≡ coded-arm kind operator ⌝ }
+{
+    match kind {
+        2 => 1,
+        3 => byte(b"\x02\x03", operator),
+        4 => byte(b"\x04\x05\x06\x07\x08\x09", operator),
+        7 => byte(
+            b"\x10\x11\x12\x13\x14\x15\x16\x17\x0d\x00\x00\x0c\x0c\x0f\x0b\x0e",
+            operator,
+        ),
+        8 => 10,
+        _ => 0,
+    }
+}
+
+// The number of node k's arm.
+fn arm_of(f: &[u8], k: usize) -> usize
+    requires { ⌜ well-formed (tree (now f) k) ≡ true ⌝ }
+    ensures { λ r. ⌜ r ≡ arm-of (tree (now (f .entry)) k) ⌝ }
+{
+    let kind = wide(byte(f, NODE_SIZE * k));
+    let operator = wide(byte(f, NODE_SIZE * k + 1));
+    wide(arm_number(kind, operator))
+}
+
+// ---- a node, or its record
+
+fn put_literal(bits: u64, rule: usize, k: usize, records: bool, out: &mut [u8]) -> usize
+    requires { ⌜ step records ≤ length (now out) ⌝ }
+    ensures { λ r. ⌜ Writes (bytes records (recorded-literal rule k bits)) (now (out .entry)) (now (out .exit)) r ⌝ }
+{
+    if records {
+        return put_record(rule, k, out);
+    }
+    put_value(bits, out)
+}
+
+// A literal that the arm of node k writes.
+fn put_arm_literal(bits: u64, f: &[u8], k: usize, records: bool, out: &mut [u8]) -> usize
+    requires { ⌜ (well-formed (tree (now f) k) ≡ true) × (step records ≤ length (now out)) ⌝ }
+    ensures { λ r. ⌜ Writes (arm-literal records k (tree (now (f .entry)) k) bits) (now (out .entry)) (now (out .exit)) r ⌝ }
+{
+    if records {
+        return put_record(arm_of(f, k), k, out);
+    }
+    put_value(bits, out)
+}
+
+// One of a rule's literals: the last is `power`'s.
+fn put_rule_literal(
+    which: usize,
+    f: &[u8],
+    k: usize,
+    table: &[usize],
+    records: bool,
+    out: &mut [u8],
+) -> usize
+    requires { ⌜ Owned (now f) (now table) k × (step records ≤ length (now out)) ⌝ }
+    ensures { λ r. ⌜ Writes (bytes records (literal-part k (tree (now (f .entry)) k) which)) (now (out .entry)) (now (out .exit)) r ⌝ }
+{
+    let bits = literal_bits(which, f, k, table);
+    if which == 11 {
+        return put_literal(bits, TO_THE_ZEROTH, k, records, out);
+    }
+    put_arm_literal(bits, f, k, records, out)
+}
+
+// A node that the arm of node k writes, up to its children.
+fn put_arm_node(
+    kind: usize,
+    operator: usize,
+    children: usize,
+    f: &[u8],
+    k: usize,
+    records: bool,
+    out: &mut [u8],
+) -> usize
+    requires { ⌜ (kind < 256) × (operator < 256) × (children < 256) × (well-formed (tree (now f) k) ≡ true) × (step records ≤ length (now out)) ⌝ }
+    ensures { λ r. ⌜ Writes (arm-node records k (tree (now (f .entry)) k) kind operator children) (now (out .entry)) (now (out .exit)) r ⌝ }
+{
+    if records {
+        return put_record(arm_of(f, k), k, out);
+    }
+    put_inner(kind, operator, children, out)
+}
+
+// An outer node, up to its children.
+fn put_outer(kind: usize, operator: usize, children: usize, records: bool, out: &mut [u8]) -> usize
+    requires { ⌜ (kind < 256) × (operator < 256) × (children < 256) × (step records ≤ length (now out)) ⌝ }
+    ensures { λ r. ⌜ Writes (outer-node records kind operator children) (now (out .entry)) (now (out .exit)) r ⌝ }
+{
+    if records {
+        return put_record(OUTER, 0, out);
+    }
+    put_inner(kind, operator, children, out)
+}
+
+// A copy of the tree of node k.
+fn put_tree(f: &[u8], k: usize, table: &[usize], records: bool, out: &mut [u8]) -> usize
+    requires { ⌜ Owned (now f) (now table) k × (length (bytes records (copy-from k (tree (now f) k))) ≤ length (now out)) ⌝ }
+    ensures { λ r. ⌜ Writes (bytes records (copy-from k (tree (now (f .entry)) k))) (now (out .entry)) (now (out .exit)) r ⌝ }
+{
+    if records {
+        return put_numbers(k, table[8 * k], out);
+    }
+    put_copy(f, k, table, out)
+}
+
 // A copy of child i.
-fn put_child(f: &[u8], k: usize, i: usize, table: &[usize], out: &mut [u8]) -> usize
-    requires { ⌜ Owned (now f) (now table) k × (length (encode (child-of (tree (now f) k) i)) ≤ length (now out)) ⌝ }
-    ensures { λ r. ⌜ Writes (encode (child-of (tree (now (f .entry)) k) i)) (now (out .entry)) (now (out .exit)) r ⌝ }
+fn put_child(f: &[u8], k: usize, i: usize, table: &[usize], records: bool, out: &mut [u8]) -> usize
+    requires { ⌜ Owned (now f) (now table) k × (length (bytes records (copy-of k (tree (now f) k) i)) ≤ length (now out)) ⌝ }
+    ensures { λ r. ⌜ Writes (bytes records (copy-of k (tree (now (f .entry)) k) i)) (now (out .entry)) (now (out .exit)) r ⌝ }
 {
     if i < half(f, NODE_SIZE * k + 2) {
-        return put_tree(f, child(f, k, i, table), table, out);
+        return put_tree(f, child(f, k, i, table), table, records, out);
     }
-    put_literal(0, out)
+    put_arm_literal(0, f, k, records, out)
 }
 
 // A conditional whose condition is that child i equals the extremum.
-fn put_tie(f: &[u8], k: usize, i: usize, table: &[usize], out: &mut [u8]) -> usize
-    requires { ⌜ Owned (now f) (now table) k × (length (tie-bytes (tree (now f) k) i) ≤ length (now out)) ⌝ }
-    ensures { λ r. ⌜ Writes (tie-bytes (tree (now (f .entry)) k) i) (now (out .entry)) (now (out .exit)) r ⌝ }
+fn put_tie(f: &[u8], k: usize, i: usize, table: &[usize], records: bool, out: &mut [u8]) -> usize
+    requires { ⌜ Owned (now f) (now table) k × (length (tie-bytes records k (tree (now f) k) i) ≤ length (now out)) ⌝ }
+    ensures { λ r. ⌜ Writes (tie-bytes records k (tree (now (f .entry)) k) i) (now (out .entry)) (now (out .exit)) r ⌝ }
 {
-    let a = put_node(8, 0, 3, out);
-    let b = a + put_node(5, 4, 2, &mut out[a..]);
-    let c = b + put_child(f, k, i, table, &mut out[b..]);
-    c + put_tree(f, k, table, &mut out[c..])
+    let a = put_arm_node(8, 0, 3, f, k, records, out);
+    let b = a + put_arm_node(5, 4, 2, f, k, records, &mut out[a..]);
+    let c = b + put_child(f, k, i, table, records, &mut out[b..]);
+    c + put_tree(f, k, table, records, &mut out[c..])
 }
 
 // "A part without the symbol gives 0 before any rule is tried." The survey has found a rule wherever one is needed.
@@ -144,17 +303,17 @@ pub fn differentiate(
     table: &[usize],
     out: &mut [u8],
 ) -> usize
-    requires { ⌜ Task (by .symbol) (by .state) (now f) (now table) k depth (encode (derived (by .symbol) (by .state) (tree (now f) k))) (now out) ⌝ }
-    ensures { λ r. ⌜ Writes (encode (derived (by .symbol) (by .state) (tree (now (f .entry)) k))) (now (out .entry)) (now (out .exit)) r ⌝ }
+    requires { ⌜ Task (by .symbol) (by .state) (now f) (now table) k depth (bytes (by .records) (recorded (by .symbol) (by .state) k (tree (now f) k))) (now out) ⌝ }
+    ensures { λ r. ⌜ Writes (bytes (by .records) (recorded (by .symbol) (by .state) k (tree (now (f .entry)) k))) (now (out .entry)) (now (out .exit)) r ⌝ }
 {
     if table[8 * k + 2] == 1 {
         let q = rule_of(f, k, by, table);
         if code(q, 0) == 0 {
-            return put_literal(0, out);
+            return put_literal(0, WITHOUT_SYMBOL, k, by.records, out);
         }
         return write_rule(q, 0, 16, f, k, depth, by, table, out);
     }
-    put_literal(0, out)
+    put_literal(0, WITHOUT_SYMBOL, k, by.records, out)
 }
 
 // The derivative of child i.
@@ -167,13 +326,13 @@ fn write_diff(
     table: &[usize],
     out: &mut [u8],
 ) -> usize
-    requires { ⌜ Task (by .symbol) (by .state) (now f) (now table) k depth (encode (derived-of (by .symbol) (by .state) (tree (now f) k) i)) (now out) ⌝ }
-    ensures { λ r. ⌜ Writes (encode (derived-of (by .symbol) (by .state) (tree (now (f .entry)) k) i)) (now (out .entry)) (now (out .exit)) r ⌝ }
+    requires { ⌜ Task (by .symbol) (by .state) (now f) (now table) k depth (bytes (by .records) (recorded-of (by .symbol) (by .state) k (tree (now f) k) i)) (now out) ⌝ }
+    ensures { λ r. ⌜ Writes (bytes (by .records) (recorded-of (by .symbol) (by .state) k (tree (now (f .entry)) k) i)) (now (out .entry)) (now (out .exit)) r ⌝ }
 {
     if i < half(f, NODE_SIZE * k + 2) {
         return differentiate(f, child(f, k, i, table), depth - 1, by, table, out);
     }
-    put_literal(0, out)
+    put_arm_literal(0, f, k, by.records, out)
 }
 
 // What the part of a rule that starts at a code gives, for node k.
@@ -188,25 +347,25 @@ fn write_rule(
     table: &[usize],
     out: &mut [u8],
 ) -> usize
-    requires { ⌜ Task (by .symbol) (by .state) (now f) (now table) k depth (encode (part (by .symbol) (by .state) (tree (now f) k) levels q i)) (now out) ⌝ }
-    ensures { λ r. ⌜ Writes (encode (part (by .symbol) (by .state) (tree (now (f .entry)) k) levels q i)) (now (out .entry)) (now (out .exit)) r ⌝ }
+    requires { ⌜ Task (by .symbol) (by .state) (now f) (now table) k depth (bytes (by .records) (part (by .symbol) (by .state) k (tree (now f) k) levels q i)) (now out) ⌝ }
+    ensures { λ r. ⌜ Writes (bytes (by .records) (part (by .symbol) (by .state) k (tree (now (f .entry)) k) levels q i)) (now (out .entry)) (now (out .exit)) r ⌝ }
 {
     if levels == 0 || i >= 128 {
-        return put_literal(0, out);
+        return put_arm_literal(0, f, k, by.records, out);
     }
     let c = wide(code(q, i));
     let kind = c / 16;
     if kind >= 12 {
-        return put_literal(literal_bits(c % 16, f, k, table), out);
+        return put_rule_literal(c % 16, f, k, table, by.records, out);
     }
     match kind {
-        0 => put_literal(0, out),
-        1 => put_child(f, k, c % 16, table, out),
+        0 => put_arm_literal(0, f, k, by.records, out),
+        1 => put_child(f, k, c % 16, table, by.records, out),
         2 => write_diff(f, k, c % 16, depth, by, table, out),
-        3 => put_tree(f, k, table, out),
+        3 => put_tree(f, k, table, by.records, out),
         6 => {
             if is_zero(diff_attributes(f, k, c % 16, by, table)) {
-                return put_literal(0, out);
+                return put_arm_literal(0, f, k, by.records, out);
             }
             write_rule(q, i + 1, levels - 1, f, k, depth, by, table, out)
         }
@@ -234,8 +393,8 @@ fn write_sum(
     table: &[usize],
     out: &mut [u8],
 ) -> usize
-    requires { ⌜ Task (by .symbol) (by .state) (now f) (now table) k depth (sum-bytes (by .symbol) (by .state) (tree (now f) k) levels q i) (now out) ⌝ }
-    ensures { λ r. ⌜ Writes (sum-bytes (by .symbol) (by .state) (tree (now (f .entry)) k) levels q i) (now (out .entry)) (now (out .exit)) r ⌝ }
+    requires { ⌜ Task (by .symbol) (by .state) (now f) (now table) k depth (sum-bytes (by .records) (by .symbol) (by .state) k (tree (now f) k) levels q i) (now out) ⌝ }
+    ensures { λ r. ⌜ Writes (sum-bytes (by .records) (by .symbol) (by .state) k (tree (now (f .entry)) k) levels q i) (now (out .entry)) (now (out .exit)) r ⌝ }
 {
     let j = end_of(q, i, levels);
     if is_zero(rule_attributes(q, i, levels, f, k, by, table)) {
@@ -259,17 +418,17 @@ fn write_product(
     table: &[usize],
     out: &mut [u8],
 ) -> usize
-    requires { ⌜ Task (by .symbol) (by .state) (now f) (now table) k depth (product-bytes (by .symbol) (by .state) (tree (now f) k) levels q i) (now out) ⌝ }
-    ensures { λ r. ⌜ Writes (product-bytes (by .symbol) (by .state) (tree (now (f .entry)) k) levels q i) (now (out .entry)) (now (out .exit)) r ⌝ }
+    requires { ⌜ Task (by .symbol) (by .state) (now f) (now table) k depth (product-bytes (by .records) (by .symbol) (by .state) k (tree (now f) k) levels q i) (now out) ⌝ }
+    ensures { λ r. ⌜ Writes (product-bytes (by .records) (by .symbol) (by .state) k (tree (now (f .entry)) k) levels q i) (now (out .entry)) (now (out .exit)) r ⌝ }
 {
     let j = end_of(q, i, levels);
     let a = rule_attributes(q, i, levels, f, k, by, table);
     let b = rule_attributes(q, j, levels, f, k, by, table);
     if is_zero(a) {
-        return put_literal(0, out);
+        return put_literal(0, BESIDE_ZERO, k, by.records, out);
     }
     if is_zero(b) {
-        return put_literal(0, out);
+        return put_literal(0, BESIDE_ZERO, k, by.records, out);
     }
     if is_one(a) {
         return write_rule(q, j, levels, f, k, depth, by, table, out);
@@ -295,10 +454,10 @@ fn write_node(
     table: &[usize],
     out: &mut [u8],
 ) -> usize
-    requires { ⌜ Small kind operator children × Task (by .symbol) (by .state) (now f) (now table) k depth (node-of kind operator children (parts-bytes (by .symbol) (by .state) (tree (now f) k) levels q children i)) (now out) ⌝ }
-    ensures { λ r. ⌜ Writes (node-of kind operator children (parts-bytes (by .symbol) (by .state) (tree (now (f .entry)) k) levels q children i)) (now (out .entry)) (now (out .exit)) r ⌝ }
+    requires { ⌜ Small kind operator children × Task (by .symbol) (by .state) (now f) (now table) k depth (arm-node (by .records) k (tree (now f) k) kind operator children ++ parts-bytes (by .records) (by .symbol) (by .state) k (tree (now f) k) levels q children i) (now out) ⌝ }
+    ensures { λ r. ⌜ Writes (arm-node (by .records) k (tree (now (f .entry)) k) kind operator children ++ parts-bytes (by .records) (by .symbol) (by .state) k (tree (now (f .entry)) k) levels q children i) (now (out .entry)) (now (out .exit)) r ⌝ }
 {
-    let n = put_node(kind, operator, children, out);
+    let n = put_arm_node(kind, operator, children, f, k, by.records, out);
     n
         + write_rules(
             q,
@@ -327,8 +486,8 @@ fn write_rules(
     table: &[usize],
     out: &mut [u8],
 ) -> usize
-    requires { ⌜ (left ≤ 3) × Task (by .symbol) (by .state) (now f) (now table) k depth (parts-bytes (by .symbol) (by .state) (tree (now f) k) levels q left i) (now out) ⌝ }
-    ensures { λ r. ⌜ Writes (parts-bytes (by .symbol) (by .state) (tree (now (f .entry)) k) levels q left i) (now (out .entry)) (now (out .exit)) r ⌝ }
+    requires { ⌜ (left ≤ 3) × Task (by .symbol) (by .state) (now f) (now table) k depth (parts-bytes (by .records) (by .symbol) (by .state) k (tree (now f) k) levels q left i) (now out) ⌝ }
+    ensures { λ r. ⌜ Writes (parts-bytes (by .records) (by .symbol) (by .state) k (tree (now (f .entry)) k) levels q left i) (now (out .entry)) (now (out .exit)) r ⌝ }
 {
     if left == 0 {
         return 0;
@@ -359,12 +518,12 @@ fn write_extremum(
     table: &[usize],
     out: &mut [u8],
 ) -> usize
-    requires { ⌜ Task (by .symbol) (by .state) (now f) (now table) k depth (encode (extremum-tree (by .symbol) (by .state) (tree (now f) k))) (now out) ⌝ }
-    ensures { λ r. ⌜ Writes (encode (extremum-tree (by .symbol) (by .state) (tree (now (f .entry)) k))) (now (out .entry)) (now (out .exit)) r ⌝ }
+    requires { ⌜ Task (by .symbol) (by .state) (now f) (now table) k depth (bytes (by .records) (extremum-tree (by .symbol) (by .state) k (tree (now f) k))) (now out) ⌝ }
+    ensures { λ r. ⌜ Writes (bytes (by .records) (extremum-tree (by .symbol) (by .state) k (tree (now (f .entry)) k))) (now (out .entry)) (now (out .exit)) r ⌝ }
 {
     let n = half(f, NODE_SIZE * k + 2);
     if n == 0 {
-        return put_literal(0, out);
+        return put_arm_literal(0, f, k, by.records, out);
     }
     write_ties(f, k, 0, n - 1, depth, by, table, out)
 }
@@ -380,33 +539,34 @@ fn write_ties(
     table: &[usize],
     out: &mut [u8],
 ) -> usize
-    requires { ⌜ (i + left < 65536) × Task (by .symbol) (by .state) (now f) (now table) k depth (extremum-bytes (by .symbol) (by .state) (tree (now f) k) i left) (now out) ⌝ }
-    ensures { λ r. ⌜ Writes (extremum-bytes (by .symbol) (by .state) (tree (now (f .entry)) k) i left) (now (out .entry)) (now (out .exit)) r ⌝ }
+    requires { ⌜ (i + left < 65536) × Task (by .symbol) (by .state) (now f) (now table) k depth (extremum-bytes (by .records) (by .symbol) (by .state) k (tree (now f) k) i left) (now out) ⌝ }
+    ensures { λ r. ⌜ Writes (extremum-bytes (by .records) (by .symbol) (by .state) k (tree (now (f .entry)) k) i left) (now (out .entry)) (now (out .exit)) r ⌝ }
 {
     if left == 0 {
         return write_diff(f, k, i, depth, by, table, out);
     }
-    let n = put_tie(f, k, i, table, out);
+    let n = put_tie(f, k, i, table, by.records, out);
     let m = n + write_diff(f, k, i, depth, by, table, &mut out[n..]);
     m + write_ties(f, k, i + 1, left - 1, depth, by, table, &mut out[m..])
 }
 
 // 0 × formula, up to the derivative.
-fn put_primal(f: &[u8], table: &[usize], out: &mut [u8]) -> usize
-    requires { ⌜ Owned (now f) (now table) 0 × (length (primal-bytes (tree (now f) 0)) ≤ length (now out)) ⌝ }
-    ensures { λ r. ⌜ Writes (primal-bytes (tree (now (f .entry)) 0)) (now (out .entry)) (now (out .exit)) r ⌝ }
+fn put_primal(f: &[u8], table: &[usize], records: bool, out: &mut [u8]) -> usize
+    requires { ⌜ Owned (now f) (now table) 0 × (length (primal-bytes records (tree (now f) 0)) ≤ length (now out)) ⌝ }
+    ensures { λ r. ⌜ Writes (primal-bytes records (tree (now (f .entry)) 0)) (now (out .entry)) (now (out .exit)) r ⌝ }
 {
-    let a = put_node(4, 0, 2, out);
-    let b = a + put_node(4, 2, 2, &mut out[a..]);
-    let c = b + put_literal(0, &mut out[b..]);
-    c + put_tree(f, 0, table, &mut out[c..])
+    let a = put_outer(4, 0, 2, records, out);
+    let b = a + put_outer(4, 2, 2, records, &mut out[a..]);
+    let c = b + put_literal(0, OUTER, 0, records, &mut out[b..]);
+    c + put_tree(f, 0, table, records, &mut out[c..])
 }
 
-// "0 × formula + derivative, by the rules of `derivative.rs`": the tree that the definition gives, behind it the slice as it was.
+// "0 × formula + derivative, by the rules of `derivative.rs`": the nodes of the tree that the definition gives, or their
+// records, behind them the slice as it was.
 pub fn write_derivative(f: &[u8], depth: usize, by: By, table: &[usize], out: &mut [u8]) -> usize
-    requires { ⌜ Job (by .symbol) (by .state) (now f) (now table) depth (now out) ⌝ }
-    ensures { λ r. ⌜ ((d : Formula) → derivative (by .symbol) (by .state) (tree (now (f .entry)) 0) ≡ some d → Writes (encode d) (now (out .entry)) (now (out .exit)) r) ⌝ }
+    requires { ⌜ Job (by .records) (by .symbol) (by .state) (now f) (now table) depth (now out) ⌝ }
+    ensures { λ r. ⌜ ((d : Formula) → derivative (by .symbol) (by .state) (tree (now (f .entry)) 0) ≡ some d → Writes (asked (by .records) (derivative-records (by .symbol) (by .state) (tree (now (f .entry)) 0)) d) (now (out .entry)) (now (out .exit)) r) ⌝ }
 {
-    let n = put_primal(f, table, out);
+    let n = put_primal(f, table, by.records, out);
     n + differentiate(f, 0, depth, by, table, &mut out[n..])
 }

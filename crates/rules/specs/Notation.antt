@@ -10,7 +10,7 @@ use Rattle.formula.specs.Text.{ascii}
 use Rattle.arithmetic.specs.Constant.{ln-ten-bits}
 use Rattle.formula.specs.Formula.{Head}
 use Rattle.formula.specs.Node.{head-of, inner-fields}
-use Rattle.derivative.specs.Rules.{Rule, Rules, child, whole, diff, make, add, mul, unless-zero, end, _and_, lit, 0·0, extremum-from, less-one, zero-bits, one-bits}
+use Rattle.derivative.specs.Rules.{Rule, Rules, child, whole, diff, make, add, mul, unless-zero, zeroth, end, _and_, lit, 0·0, extremum-from, less-one, zero-bits, one-bits}
 use Rattle.derivative.specs.Differentiate.{literal-head}
 
 -- a, b, c are the children, da, db, dc their derivatives, and the whole the node itself; DIV to IF write a node; ADD and MUL simplify
@@ -116,6 +116,10 @@ N = 0xc9
 abbrev pub N-LESS-ONE : ℕ
 N-LESS-ONE = 0xca
 
+-- the literal 1 that `power` writes for the power 0
+abbrev pub ZEROTH : ℕ
+ZEROTH = 0xcb
+
 -- ---- the letters
 
 -- what stands beside a letter
@@ -126,10 +130,10 @@ coded (l ∷ ls) (c ∷ cs) other x = cond (eqb x l) c (coded ls cs other x)
 
 -- children, derivatives, the node itself, and literals
 abbrev pub operands : List ℕ
-operands = ascii "abcxyzw0123ht-eTnm"
+operands = ascii "abcxyzw0123ht-eTnmo"
 
 abbrev pub operand-codes : List ℕ
-operand-codes = A ∷ B ∷ C ∷ DA ∷ DB ∷ DC ∷ WHOLE ∷ ZERO ∷ ONE ∷ TWO ∷ THREE ∷ HALF ∷ THREE-HALVES ∷ MINUS-ONE ∷ TINY ∷ LN-TEN ∷ N ∷ N-LESS-ONE ∷ []
+operand-codes = A ∷ B ∷ C ∷ DA ∷ DB ∷ DC ∷ WHOLE ∷ ZERO ∷ ONE ∷ TWO ∷ THREE ∷ HALF ∷ THREE-HALVES ∷ MINUS-ONE ∷ TINY ∷ LN-TEN ∷ N ∷ N-LESS-ONE ∷ ZEROTH ∷ []
 
 abbrev pub operators : List ℕ
 operators = ascii "+*/^<>=?LSCFHMXY"
@@ -160,7 +164,7 @@ binaries = (0x40, ascii "+xy")
     ∷ (0x45, ascii "+/0w+x*-*F/aby")
     ∷ (0x46, ascii "**n^amx")
     ∷ (0x47, ascii "**nax")
-    ∷ (0x48, ascii "**n1x")
+    ∷ (0x48, ascii "**nox")
     ∷
     []
 
@@ -237,8 +241,13 @@ literal-code n o =
     ∷ ln-ten-bits
     ∷ n
     ∷ less-one n
+    ∷ 0x3ff0000000000000
     ∷ [])
     o 0
+
+-- the last of them is `power`'s
+abbrev pub literal-rule : ℕ → ℕ → Rule
+literal-rule n o = cond (eqb o 11) zeroth (lit (literal-code n o))
 
 -- the head that a code writes
 abbrev pub coded-head : ℕ → ℕ → Option Head
@@ -276,7 +285,7 @@ decoded n count k o rule past i =
     ∷ mul (rule i) (rule (past i))
     ∷ extremum count
     ∷ [])
-    k (lit (literal-code n o))
+    k (literal-rule n o)
 
 -- the rule that starts at a code, of at most d levels, for a node with so many children
 unfoldable pub rule-at : ℕ → ℕ → ℕ → ℕ → ℕ → Rule

@@ -77,6 +77,8 @@ const LN_TEN: u8 = 0xc8;
 const N: u8 = 0xc9;
 
 const N_LESS_ONE: u8 = 0xca;
+// The literal 1 that `power` writes for the power 0.
+const ZEROTH: u8 = 0xcb;
 
 // Add, Subtract, Multiply, Divide, Power, Modulo, and Power by a literal n, by n - 1 = 1, by n - 1 = 0.
 fn binary_letter(q: usize, i: usize) -> u8
@@ -91,7 +93,7 @@ fn binary_letter(q: usize, i: usize) -> u8
         0x45 => byte(b"+/0w+x*-*F/aby", i),
         0x46 => byte(b"**n^amx", i),
         0x47 => byte(b"**nax", i),
-        0x48 => byte(b"**n1x", i),
+        0x48 => byte(b"**nox", i),
         _ => 0,
     }
 }
@@ -201,6 +203,7 @@ fn code_of(letter: u8) -> u8
         b'T' => LN_TEN,
         b'n' => N,
         b'm' => N_LESS_ONE,
+        b'o' => ZEROTH,
         _ => operator_code(letter),
     }
 }

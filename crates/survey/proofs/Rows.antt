@@ -143,19 +143,20 @@ exponent-none f k w h = second-none (children-of (tree f k)) (omega (arith, coun
 
 -- ---- a rule's literals
 
-pub literal-past : (n o : ℕ) → (o ≡ 0 → ⊥) → (o ≡ 1 → ⊥) → (o ≡ 2 → ⊥) → (o ≡ 3 → ⊥) → (o ≡ 4 → ⊥) → (o ≡ 5 → ⊥) → (o ≡ 6 → ⊥) → (o ≡ 7 → ⊥) → (o ≡ 8 → ⊥) → (o ≡ 9 → ⊥) → (o ≡ 10 → ⊥) → 0 ≡ literal-code n o
-literal-past n zero h0 h1 h2 h3 h4 h5 h6 h7 h8 h9 h10 = absurd (h0 refl)
-literal-past n (suc zero) h0 h1 h2 h3 h4 h5 h6 h7 h8 h9 h10 = absurd (h1 refl)
-literal-past n (suc (suc zero)) h0 h1 h2 h3 h4 h5 h6 h7 h8 h9 h10 = absurd (h2 refl)
-literal-past n (suc (suc (suc zero))) h0 h1 h2 h3 h4 h5 h6 h7 h8 h9 h10 = absurd (h3 refl)
-literal-past n (suc (suc (suc (suc zero)))) h0 h1 h2 h3 h4 h5 h6 h7 h8 h9 h10 = absurd (h4 refl)
-literal-past n (suc (suc (suc (suc (suc zero))))) h0 h1 h2 h3 h4 h5 h6 h7 h8 h9 h10 = absurd (h5 refl)
-literal-past n (suc (suc (suc (suc (suc (suc zero)))))) h0 h1 h2 h3 h4 h5 h6 h7 h8 h9 h10 = absurd (h6 refl)
-literal-past n (suc (suc (suc (suc (suc (suc (suc zero))))))) h0 h1 h2 h3 h4 h5 h6 h7 h8 h9 h10 = absurd (h7 refl)
-literal-past n (suc (suc (suc (suc (suc (suc (suc (suc zero)))))))) h0 h1 h2 h3 h4 h5 h6 h7 h8 h9 h10 = absurd (h8 refl)
-literal-past n (suc (suc (suc (suc (suc (suc (suc (suc (suc zero))))))))) h0 h1 h2 h3 h4 h5 h6 h7 h8 h9 h10 = absurd (h9 refl)
-literal-past n (suc (suc (suc (suc (suc (suc (suc (suc (suc (suc zero)))))))))) h0 h1 h2 h3 h4 h5 h6 h7 h8 h9 h10 = absurd (h10 refl)
-literal-past n (suc (suc (suc (suc (suc (suc (suc (suc (suc (suc (suc o))))))))))) h0 h1 h2 h3 h4 h5 h6 h7 h8 h9 h10 = refl
+pub literal-past : (n o : ℕ) → (o ≡ 0 → ⊥) → (o ≡ 1 → ⊥) → (o ≡ 2 → ⊥) → (o ≡ 3 → ⊥) → (o ≡ 4 → ⊥) → (o ≡ 5 → ⊥) → (o ≡ 6 → ⊥) → (o ≡ 7 → ⊥) → (o ≡ 8 → ⊥) → (o ≡ 9 → ⊥) → (o ≡ 10 → ⊥) → (o ≡ 11 → ⊥) → 0 ≡ literal-code n o
+literal-past n zero h0 h1 h2 h3 h4 h5 h6 h7 h8 h9 h10 h11 = absurd (h0 refl)
+literal-past n (suc zero) h0 h1 h2 h3 h4 h5 h6 h7 h8 h9 h10 h11 = absurd (h1 refl)
+literal-past n (suc (suc zero)) h0 h1 h2 h3 h4 h5 h6 h7 h8 h9 h10 h11 = absurd (h2 refl)
+literal-past n (suc (suc (suc zero))) h0 h1 h2 h3 h4 h5 h6 h7 h8 h9 h10 h11 = absurd (h3 refl)
+literal-past n (suc (suc (suc (suc zero)))) h0 h1 h2 h3 h4 h5 h6 h7 h8 h9 h10 h11 = absurd (h4 refl)
+literal-past n (suc (suc (suc (suc (suc zero))))) h0 h1 h2 h3 h4 h5 h6 h7 h8 h9 h10 h11 = absurd (h5 refl)
+literal-past n (suc (suc (suc (suc (suc (suc zero)))))) h0 h1 h2 h3 h4 h5 h6 h7 h8 h9 h10 h11 = absurd (h6 refl)
+literal-past n (suc (suc (suc (suc (suc (suc (suc zero))))))) h0 h1 h2 h3 h4 h5 h6 h7 h8 h9 h10 h11 = absurd (h7 refl)
+literal-past n (suc (suc (suc (suc (suc (suc (suc (suc zero)))))))) h0 h1 h2 h3 h4 h5 h6 h7 h8 h9 h10 h11 = absurd (h8 refl)
+literal-past n (suc (suc (suc (suc (suc (suc (suc (suc (suc zero))))))))) h0 h1 h2 h3 h4 h5 h6 h7 h8 h9 h10 h11 = absurd (h9 refl)
+literal-past n (suc (suc (suc (suc (suc (suc (suc (suc (suc (suc zero)))))))))) h0 h1 h2 h3 h4 h5 h6 h7 h8 h9 h10 h11 = absurd (h10 refl)
+literal-past n (suc (suc (suc (suc (suc (suc (suc (suc (suc (suc (suc zero))))))))))) h0 h1 h2 h3 h4 h5 h6 h7 h8 h9 h10 h11 = absurd (h11 refl)
+literal-past n (suc (suc (suc (suc (suc (suc (suc (suc (suc (suc (suc (suc o)))))))))))) h0 h1 h2 h3 h4 h5 h6 h7 h8 h9 h10 h11 = refl
 
 pub bits-yes : (l : Literal) (o : Option ℕ) → l .literal ≡ true → literal-of l ≡ o → l .bits ≡ or-zero o
 bits-yes l o t e = ap or-zero (sym (ap (λ (b : Bool). optional b (l .bits)) t) ∙ e)

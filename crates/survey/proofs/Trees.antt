@@ -13,7 +13,7 @@ use Rattle.derivative.specs.Attributes.{attributes-of, Attributes}
 use Rattle.reader.proofs.Heads.{and-first, and-second}
 use Rattle.reader.proofs.Trees.{node-at, Node, tree-inside, size-pos, depth-pos}
 use Rattle.survey.specs.Derived.{children-of, head-of-tree, derived, derived-all}
-use Rattle.survey.specs.Table.{tree, trees, nth, IsChild, Own, Owned}
+use Rattle.survey.specs.Table.{tree, trees, nth, number-from, IsChild, Own, Owned}
 
 trees-at : (f : List ℕ) (n k : ℕ) → children-at (λ a. tree-at f a) n (node-size * k) ≡ trees f n k
 unfolding tree trees
@@ -84,6 +84,7 @@ pub record Walk (f : List ℕ) (k i m left at : ℕ) : Type 0 where
   pub all : all-well-formed (trees f m at) ≡ true
   pub shallower : depths (trees f m at) < depth (tree f k)
   pub is : nth (children-of (tree f k)) i ≡ nth (trees f m at) left
+  pub number : number-from (k + 1) (children-of (tree f k)) i ≡ number-from at (trees f m at) left
 
 pub walk-start : (f : List ℕ) (k i n : ℕ) → well-formed (tree f k) ≡ true → n ≡ half-at f (node-size * k + 2) → i < n → Walk f k i n i (k + 1)
 walk-start f k i n w e h =
@@ -96,11 +97,16 @@ walk-start f k i n w e h =
       all = sym (ap all-well-formed c) ∙ o .all;
       shallower = omega (arith, ap depth (o .is), ap depths c);
       is = ap (λ (ts : Formulas). nth ts i) (children-is f k o ∙ c);
+      number = ap (λ (ts : Formulas). number-from (k + 1) ts i) (children-is f k o ∙ c);
     }
 
 nth-suc : (t : Formula) (ts : Formulas) (i : ℕ) → (i ≡ 0 → ⊥) → nth (next t ts) i ≡ nth ts (i - 1)
 nth-suc t ts zero h = absurd (h refl)
 nth-suc t ts (suc i) h = let e : i ≡ suc i - 1 = omega arith in ap (λ (x : ℕ). nth ts x) e
+
+number-suc : (k : ℕ) (t : Formula) (ts : Formulas) (i : ℕ) → (i ≡ 0 → ⊥) → number-from k (next t ts) i ≡ number-from (k + size t) ts (i - 1)
+number-suc k t ts zero h = absurd (h refl)
+number-suc k t ts (suc i) h = let e : i ≡ suc i - 1 = omega arith in ap (λ (x : ℕ). number-from (k + size t) ts x) e
 
 pub walk-next : (f : List ℕ) (k i m left at : ℕ) → Walk f k i m left at → (left ≡ 0 → ⊥) → Walk f k i (m - 1) (left - 1) (at + size (tree f at))
 walk-next f k i m left at w z =
@@ -114,6 +120,7 @@ walk-next f k i m left at w z =
       all = and-second (well-formed (tree f at)) (all-well-formed us) (sym (ap all-well-formed q) ∙ w .all);
       shallower = omega (arith, w .shallower, ap depths q);
       is = w .is ∙ ap (λ (ts : Formulas). nth ts left) q ∙ nth-suc (tree f at) us left z;
+      number = w .number ∙ ap (λ (ts : Formulas). number-from at ts left) q ∙ number-suc at (tree f at) us left z;
     }
 
 -- the tree that the walk stands at
@@ -147,6 +154,7 @@ walk-done f k i m left at w z =
       formed = s .formed;
       shallower = s .shallower;
       is = w .is ∙ ap (λ (x : ℕ). nth (trees f m at) x) z ∙ ap (λ (ts : Formulas). nth ts 0) (trees-next f m at nz);
+      number = w .number ∙ ap (λ (x : ℕ). number-from at (trees f m at) x) z ∙ ap (λ (ts : Formulas). number-from at ts 0) (trees-next f m at nz);
     }
 
 -- ---- child i of a list

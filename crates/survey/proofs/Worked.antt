@@ -8,15 +8,15 @@ use native.Mathlib.Omega.{arith}
 use native.Mathlib.Numerals.{add-one}
 use lib.ListN.{length, getD}
 use lib.Dec.{eqb, ltb}
-use borrow.Author.Tests.{lt-ltb, le-ltb}
+use borrow.Author.Tests.{eqb-true, lt-ltb, le-ltb}
 use Rattle.formula.specs.Formula.{Head, Formula, Formulas, node, last, next, count, to-list, size, depth}
-use Rattle.derivative.specs.Rules.{Algebra, Rule, Rules, child, whole, diff, make, add, mul, unless-zero, end, _and_, lit, 0·0, extremum-from, instance, instances, zero-of, add-of, mul-of}
+use Rattle.derivative.specs.Rules.{Algebra, Rule, Rules, child, whole, diff, make, add, mul, unless-zero, zeroth, end, _and_, lit, 0·0, extremum-from, instance, instances, zero-of, add-of, mul-of}
 use Rattle.derivative.specs.Differentiate.{formulas, literal-head, second-literal}
 use Rattle.derivative.specs.Attributes.{Attributes, attribute-algebra, attributes-of, total-nodes, most-levels}
 use Rattle.derivative.proofs.Homomorphism.{getD-map}
 use Rattle.derivative.proofs.Attributes.{instance-right}
 use Rattle.reader.specs.Read.{is-some}
-use Rattle.rules.specs.Notation.{rule-at, rules-from, end-at, code-at, decoded, made, coded-head, parts, or-zero, literal-code, extremum}
+use Rattle.rules.specs.Notation.{rule-at, rules-from, end-at, code-at, decoded, made, coded-head, parts, or-zero, literal-code, literal-rule, extremum}
 use Rattle.rules.proofs.Ends.{codes-valid, plain, writes, valid}
 use Rattle.survey.specs.Derived.{children-of, child-of, derived-of, derived-all, zero-literal, rule-for, parts-of}
 use Rattle.survey.specs.Worked.{attribute-parts, worked, worked-all, literal-attributes, inner}
@@ -61,7 +61,7 @@ pub rule-kind : (t : Formula) (d q i c k : ℕ) → (d ≡ 0 → ⊥) → i < 12
     → rule-for t d q i ≡ decoded-for t (d - 1) q k (c % 16) (i + 1)
 rule-kind t d q i c k z h e p = rule-some t d q i c z h e ∙ ap (λ (x : ℕ). decoded-for t (d - 1) q x (c % 16) (i + 1)) p
 
-decoded-past : (t : Formula) (d q k o i : ℕ) → 12 ≤ k → decoded-for t d q k o i ≡ lit (literal-code (bits-for t) o)
+decoded-past : (t : Formula) (d q k o i : ℕ) → 12 ≤ k → decoded-for t d q k o i ≡ literal-rule (bits-for t) o
 decoded-past t d q zero o i h = absurd (omega arith)
 decoded-past t d q (suc zero) o i h = absurd (omega arith)
 decoded-past t d q (suc (suc zero)) o i h = absurd (omega arith)
@@ -77,7 +77,7 @@ decoded-past t d q (suc (suc (suc (suc (suc (suc (suc (suc (suc (suc (suc zero))
 decoded-past t d q (suc (suc (suc (suc (suc (suc (suc (suc (suc (suc (suc (suc k)))))))))))) o i h = refl
 
 pub rule-literal : (t : Formula) (d q i c : ℕ) → (d ≡ 0 → ⊥) → i < 128 → c ≡ code-at q i → 12 ≤ c / 16
-    → rule-for t d q i ≡ lit (literal-code (bits-for t) (c % 16))
+    → rule-for t d q i ≡ literal-rule (bits-for t) (c % 16)
 rule-literal t d q i c z h e p = rule-some t d q i c z h e ∙ decoded-past t (d - 1) q (c / 16) (c % 16) (i + 1) p
 
 -- ---- the codes that write a node
@@ -154,6 +154,15 @@ module _ (s : ℕ) (b : Bool) (t : Formula) where
   unfolding worked
   worked-capped d q i = instance-capped (rule-for t d q i)
 
+  -- `power`'s literal has the attributes of any other
+  literal-worked : (o : ℕ) → literal-attributes (literal-code (bits-for t) o) ≡ instance G (attribute-parts s b t) (literal-rule (bits-for t) o)
+  literal-worked o = go (eqb o 11) refl
+    where
+      go : (x : Bool) → eqb o 11 ≡ x
+          → literal-attributes (literal-code (bits-for t) o) ≡ instance G (attribute-parts s b t) (cond x zeroth (lit (literal-code (bits-for t) o)))
+      go true e = ap (λ (x : ℕ). literal-attributes (literal-code (bits-for t) x)) (eqb-true o 11 e)
+      go false e = refl
+
   pub all-none : (d q left i : ℕ) → left ≡ 0 → worked-all s b t d q left i ≡ []
   unfolding worked-all
   all-none d q zero i e = refl
@@ -198,7 +207,7 @@ module _ (s : ℕ) (b : Bool) (t : Formula) where
     worked-extremum p = worked-by d q i (extremum (count-for t)) (rule-kind t d q i c 11 nz lt e p)
 
     pub worked-literal : 12 ≤ c / 16 → literal-attributes (literal-code (bits-for t) (c % 16)) ≡ worked s b t d q i
-    worked-literal p = worked-by d q i (lit (literal-code (bits-for t) (c % 16))) (rule-literal t d q i c nz lt e p)
+    worked-literal p = literal-worked (c % 16) ∙ worked-by d q i (literal-rule (bits-for t) (c % 16)) (rule-literal t d q i c nz lt e p)
 
     pub worked-zero : c / 16 ≡ 0 → literal-attributes 0 ≡ worked s b t d q i
     worked-zero p = worked-by d q i 0·0 (rule-kind t d q i c 0 nz lt e p)

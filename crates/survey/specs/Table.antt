@@ -82,6 +82,12 @@ nth last i = none
 nth (next t ts) zero = some t
 nth (next t ts) (suc i) = nth ts i
 
+-- the number of tree i of trees one after another, the first of number k
+abbrev pub number-from : ℕ → Formulas → ℕ → ℕ
+number-from k last i = k
+number-from k (next t ts) zero = k
+number-from k (next t ts) (suc i) = number-from (k + size t) ts i
+
 -- r is the number of child i
 pub record IsChild (f : List ℕ) (k i r : ℕ) : Type 0 where
   pub after : k < r
@@ -89,6 +95,7 @@ pub record IsChild (f : List ℕ) (k i r : ℕ) : Type 0 where
   pub formed : well-formed (tree f r) ≡ true
   pub shallower : depth (tree f r) < depth (tree f k)
   pub is : nth (children-of (tree f k)) i ≡ some (tree f r)
+  pub number : number-from (k + 1) (children-of (tree f k)) i ≡ r
 
 -- the number of a node's rule
 unfoldable pub number-of : ℕ → Bool → List ℕ → ℕ → ℕ

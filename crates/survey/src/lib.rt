@@ -26,10 +26,11 @@ use rules::code;
 use rules::end_of;
 use rules::parts_of;
 
-// A symbol, and whether it is a state.
+// A symbol, whether it is a state, and whether the records of the derivative by it are asked for, or its nodes.
 pub struct By {
     pub symbol: usize,
     pub state: bool,
+    pub records: bool,
 }
 
 // What is known of a tree; the bits count where it is a literal.
@@ -200,6 +201,7 @@ pub fn literal_bits(which: usize, f: &[u8], k: usize, table: &[usize]) -> u64
         8 => 0x40026bb1bbb55516,
         9 => exponent_bits(f, k, table),
         10 => less_one(exponent_bits(f, k, table)),
+        11 => 0x3ff0000000000000,
         _ => 0,
     }
 }

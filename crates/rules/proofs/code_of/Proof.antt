@@ -84,28 +84,33 @@ returns-18 c = rw (c .match .keys18)
 
 returns-19 : tie.Need-returns-19
 unfolding code-of
-returns-19 c =
+returns-19 c = rw (c .match .keys19)
+
+returns-20 : tie.Need-returns-20
+unfolding code-of
+returns-20 c =
     let args = c .before .before .args in
     let match = c .before .match in
     rw (
-      ne-eqb (args .letter) 0x61 (match .rest .0 .0 .0 .0 .0 .0 .0 .0 .0 .0 .0 .0 .0 .0 .0 .0 .0 .1),
-      ne-eqb (args .letter) 0x62 (match .rest .0 .0 .0 .0 .0 .0 .0 .0 .0 .0 .0 .0 .0 .0 .0 .0 .1),
-      ne-eqb (args .letter) 0x63 (match .rest .0 .0 .0 .0 .0 .0 .0 .0 .0 .0 .0 .0 .0 .0 .0 .1),
-      ne-eqb (args .letter) 0x78 (match .rest .0 .0 .0 .0 .0 .0 .0 .0 .0 .0 .0 .0 .0 .0 .1),
-      ne-eqb (args .letter) 0x79 (match .rest .0 .0 .0 .0 .0 .0 .0 .0 .0 .0 .0 .0 .0 .1),
-      ne-eqb (args .letter) 0x7a (match .rest .0 .0 .0 .0 .0 .0 .0 .0 .0 .0 .0 .0 .1),
-      ne-eqb (args .letter) 0x77 (match .rest .0 .0 .0 .0 .0 .0 .0 .0 .0 .0 .0 .1),
-      ne-eqb (args .letter) 0x30 (match .rest .0 .0 .0 .0 .0 .0 .0 .0 .0 .0 .1),
-      ne-eqb (args .letter) 0x31 (match .rest .0 .0 .0 .0 .0 .0 .0 .0 .0 .1),
-      ne-eqb (args .letter) 0x32 (match .rest .0 .0 .0 .0 .0 .0 .0 .0 .1),
-      ne-eqb (args .letter) 0x33 (match .rest .0 .0 .0 .0 .0 .0 .0 .1),
-      ne-eqb (args .letter) 0x68 (match .rest .0 .0 .0 .0 .0 .0 .1),
-      ne-eqb (args .letter) 0x74 (match .rest .0 .0 .0 .0 .0 .1),
-      ne-eqb (args .letter) 0x2d (match .rest .0 .0 .0 .0 .1),
-      ne-eqb (args .letter) 0x65 (match .rest .0 .0 .0 .1),
-      ne-eqb (args .letter) 0x54 (match .rest .0 .0 .1),
-      ne-eqb (args .letter) 0x6e (match .rest .0 .1),
-      ne-eqb (args .letter) 0x6d (match .rest .1),
+      ne-eqb (args .letter) 0x61 (match .rest .0 .0 .0 .0 .0 .0 .0 .0 .0 .0 .0 .0 .0 .0 .0 .0 .0 .0 .1),
+      ne-eqb (args .letter) 0x62 (match .rest .0 .0 .0 .0 .0 .0 .0 .0 .0 .0 .0 .0 .0 .0 .0 .0 .0 .1),
+      ne-eqb (args .letter) 0x63 (match .rest .0 .0 .0 .0 .0 .0 .0 .0 .0 .0 .0 .0 .0 .0 .0 .0 .1),
+      ne-eqb (args .letter) 0x78 (match .rest .0 .0 .0 .0 .0 .0 .0 .0 .0 .0 .0 .0 .0 .0 .0 .1),
+      ne-eqb (args .letter) 0x79 (match .rest .0 .0 .0 .0 .0 .0 .0 .0 .0 .0 .0 .0 .0 .0 .1),
+      ne-eqb (args .letter) 0x7a (match .rest .0 .0 .0 .0 .0 .0 .0 .0 .0 .0 .0 .0 .0 .1),
+      ne-eqb (args .letter) 0x77 (match .rest .0 .0 .0 .0 .0 .0 .0 .0 .0 .0 .0 .0 .1),
+      ne-eqb (args .letter) 0x30 (match .rest .0 .0 .0 .0 .0 .0 .0 .0 .0 .0 .0 .1),
+      ne-eqb (args .letter) 0x31 (match .rest .0 .0 .0 .0 .0 .0 .0 .0 .0 .0 .1),
+      ne-eqb (args .letter) 0x32 (match .rest .0 .0 .0 .0 .0 .0 .0 .0 .0 .1),
+      ne-eqb (args .letter) 0x33 (match .rest .0 .0 .0 .0 .0 .0 .0 .0 .1),
+      ne-eqb (args .letter) 0x68 (match .rest .0 .0 .0 .0 .0 .0 .0 .1),
+      ne-eqb (args .letter) 0x74 (match .rest .0 .0 .0 .0 .0 .0 .1),
+      ne-eqb (args .letter) 0x2d (match .rest .0 .0 .0 .0 .0 .1),
+      ne-eqb (args .letter) 0x65 (match .rest .0 .0 .0 .0 .1),
+      ne-eqb (args .letter) 0x54 (match .rest .0 .0 .0 .1),
+      ne-eqb (args .letter) 0x6e (match .rest .0 .0 .1),
+      ne-eqb (args .letter) 0x6d (match .rest .0 .1),
+      ne-eqb (args .letter) 0x6f (match .rest .1),
     )
     (c .operator-code .ensures)
 
@@ -132,4 +137,5 @@ code-of-spec =
     returns-16
     returns-17
     returns-18
-    returns-19)
+    returns-19
+    returns-20)

@@ -52,11 +52,14 @@ returns-11 : tie.Need-returns-11
 returns-11 c = rw (c .before .before .match .keys11) (c .less-one .ensures ∙ ap less-one (c .before .exponent-bits2 .ensures))
 
 returns-12 : tie.Need-returns-12
-returns-12 c =
-    literal-past _ (c .before .before .before .args .which) (c .match .rest .0 .0 .0 .0 .0 .0 .0 .0 .0 .0 .1)
-    (c .match .rest .0 .0 .0 .0 .0 .0 .0 .0 .0 .1) (c .match .rest .0 .0 .0 .0 .0 .0 .0 .0 .1) (c .match .rest .0 .0 .0 .0 .0 .0 .0 .1)
-    (c .match .rest .0 .0 .0 .0 .0 .0 .1) (c .match .rest .0 .0 .0 .0 .0 .1) (c .match .rest .0 .0 .0 .0 .1) (c .match .rest .0 .0 .0 .1)
-    (c .match .rest .0 .0 .1) (c .match .rest .0 .1) (c .match .rest .1)
+returns-12 c = search needs
+
+returns-13 : tie.Need-returns-13
+returns-13 c =
+    literal-past _ (c .before .before .before .args .which) (c .match .rest .0 .0 .0 .0 .0 .0 .0 .0 .0 .0 .0 .1)
+    (c .match .rest .0 .0 .0 .0 .0 .0 .0 .0 .0 .0 .1) (c .match .rest .0 .0 .0 .0 .0 .0 .0 .0 .0 .1) (c .match .rest .0 .0 .0 .0 .0 .0 .0 .0 .1)
+    (c .match .rest .0 .0 .0 .0 .0 .0 .0 .1) (c .match .rest .0 .0 .0 .0 .0 .0 .1) (c .match .rest .0 .0 .0 .0 .0 .1) (c .match .rest .0 .0 .0 .0 .1)
+    (c .match .rest .0 .0 .0 .1) (c .match .rest .0 .0 .1) (c .match .rest .0 .1) (c .match .rest .1)
 
 pub literal-bits-spec : {M : Type 1} → statement M
 literal-bits-spec =
@@ -76,4 +79,5 @@ literal-bits-spec =
     returns-9
     returns-10
     returns-11
-    returns-12)
+    returns-12
+    returns-13)
