@@ -1,6 +1,7 @@
 -- Theorems about the derivative tree.
 pub mod Homomorphism
 pub mod Attributes
+pub mod Erased
 pub mod Faultless
 pub mod Sound
 pub mod Typing

@@ -1,4 +1,5 @@
 pub mod Lists
+pub mod Recorded
 pub mod Leaves
 pub mod Texts
 pub mod Whole

@@ -1,5 +1,5 @@
 -- The whole derivative, and how a caller comes to it.
-use mathlib.Core.Path.{_≡_, refl, sym, ap, _∙_}
+use mathlib.Core.Path.{_≡_, refl, sym, ap, _∙_, subst}
 use mathlib.Core.Bool.{Bool, true, false, cond}
 use mathlib.Core.List.{List, [], _++_, append-assoc, append-nil}
 use mathlib.Core.Option.{Option, none, some}
@@ -9,13 +9,14 @@ use lib.ListN.{length}
 use lib.Dec.{leb}
 use borrow.Author.Tests.{leb-true}
 use Rattle.formula.specs.Formula.{Formula, size, depth, within}
-use Rattle.formula.specs.Node.{encode, node-bytes, inner-fields, tree-at, formula-of, node-size}
+use Rattle.formula.specs.Node.{encode, tree-at, formula-of}
 use Rattle.derivative.specs.Differentiate.{differentiate, derivative, and-then, with-primal}
+use Rattle.derivative.specs.Records.{Recorded, erase, copy, recorded-literal, outer, recorded-with-primal, recorded-derivative, records-of, derivative-records, list-bytes}
 use Rattle.derivative.specs.Attributes.{Attributes, Survey, attributes-of, survey, primal-attributes}
 use Rattle.derivative.proofs.Attributes.{survey-right, map-option}
+use Rattle.derivative.proofs.Erased.{erase-copy}
 use Rattle.reader.specs.Read.{is-some, limited}
 use Rattle.reader.proofs.Heads.{and-first, and-second}
-use Rattle.reader.proofs.Encode.{encode-length}
 use Rattle.reader.proofs.Scan.{whole}
 use Rattle.survey.specs.Derived.{derived}
 use Rattle.survey.specs.Table.{tree, Room, Filled, found, optional-attributes, reading}
@@ -24,8 +25,9 @@ use Rattle.survey.specs.declared.Attributes as Declared
 use Rattle.survey.proofs.Capped.{capped-tree}
 use Rattle.survey.specs.declared.Found.{Found}
 use Rattle.survey.proofs.Derivative.{fine-some}
-use Rattle.differentiate.specs.Written.{Known, Job, literal-bytes, primal-bytes, Writes}
+use Rattle.differentiate.specs.Written.{Known, Job, step, bytes, outer-node, primal-bytes, recorded, asked, Writes}
 use Rattle.differentiate.proofs.Lists.{as-text}
+use Rattle.differentiate.proofs.Recorded.{erase-recorded, recorded-fine, bytes-nodes, bytes-records, bytes-length}
 
 some-of : (a b : Formula) → _≡_ {A = Option Formula} (some a) (some b) → a ≡ b
 some-of a b e = cc
@@ -45,24 +47,39 @@ written-is s b t d e p = some-of (with-primal t (derived s b t)) d (sym (derivat
 nested : (a b l x d : List ℕ) → (((a ++ b) ++ l) ++ x) ++ d ≡ a ++ ((b ++ (l ++ (x ++ []))) ++ (d ++ []))
 nested a b l x d = simp (append-assoc, append-nil)
 
-pub primal-text : (t d : Formula) → primal-bytes t ++ encode d ≡ encode (with-primal t d)
-unfolding encode
-primal-text t d = nested (node-bytes (inner-fields 4 0 2)) (node-bytes (inner-fields 4 2 2)) (literal-bytes 0) (encode t) (encode d)
+primal-text : (m : Bool) (t : Formula) (d : Recorded) → primal-bytes m t ++ bytes m d ≡ bytes m (recorded-with-primal t d)
+unfolding bytes
+primal-text m t d = nested (outer-node m 4 0 2) (outer-node m 4 2 2) (bytes m (recorded-literal outer 0 0)) (bytes m (copy 0 t)) (bytes m d)
 
-module _ (s : ℕ) (b : Bool) (f T : List ℕ) (levels : ℕ) (out : List ℕ) (j : Job s b f T levels out) where
+module _ (m : Bool) (s : ℕ) (b : Bool) (f T : List ℕ) (levels : ℕ) (out : List ℕ) (j : Job m s b f T levels out) where
   abbrev t : Formula
   t = tree f 0
 
-  abbrev D : Formula
-  D = derived s b t
+  abbrev D : Recorded
+  D = recorded s b 0 t
 
-  pub job-room : length (primal-bytes t ++ encode D) ≤ length out
+  erase-whole : erase (recorded-with-primal t D) ≡ with-primal t (derived s b t)
+  erase-whole = rw (erase-copy 0 t, erase-recorded s b 0 t)
+
+  pub job-room : length (primal-bytes m t ++ bytes m D) ≤ length out
   job-room =
-      let h = j .room (with-primal t D) (derivative-is s b t (j .fine)) in
-      omega (arith, h, ap length (primal-text t D), encode-length (with-primal t D))
+      let h = j .room (with-primal t (derived s b t)) (derivative-is s b t (j .fine)) in
+      let e : length (primal-bytes m t ++ bytes m D) ≡ step m * size (with-primal t (derived s b t)) =
+      ap length (primal-text m t D) ∙ bytes-length m (recorded-with-primal t D) ∙ ap (λ (x : Formula). step m * size x) erase-whole in
+      subst (λ (x : ℕ). x ≤ length out) (sym e) h
 
-  pub job-done : (out′ : List ℕ) (r : ℕ) → Writes (primal-bytes t ++ encode D) out out′ r → (d : Formula) → derivative s b t ≡ some d → Writes (encode d) out out′ r
-  job-done out′ r w d p = as-text _ _ _ _ _ (primal-text t D ∙ ap encode (written-is s b t d (j .fine) p)) w
+  recorded-whole : recorded-derivative s b t ≡ some (recorded-with-primal t D)
+  recorded-whole =
+      ap (λ (o : Option Recorded). and-then o (λ d. some (recorded-with-primal t d))) (recorded-fine s b 0 t (of-fine s b t (differentiate s b t) refl (j .fine)))
+
+  asked-text : (x : Bool) (d : Formula) → derivative s b t ≡ some d → bytes x (recorded-with-primal t D) ≡ asked x (derivative-records s b t) d
+  unfolding derivative-records
+  asked-text true d p = bytes-records (recorded-with-primal t D) ∙ ap (λ (o : Option Recorded). list-bytes (records-of o)) (sym recorded-whole)
+  asked-text false d p = bytes-nodes (recorded-with-primal t D) ∙ ap encode (erase-whole ∙ written-is s b t d (j .fine) p)
+
+  pub job-done : (out′ : List ℕ) (r : ℕ) → Writes (primal-bytes m t ++ bytes m D) out out′ r → (d : Formula) → derivative s b t ≡ some d
+      → Writes (asked m (derivative-records s b t) d) out out′ r
+  job-done out′ r w d p = as-text _ _ _ _ _ (primal-text m t D ∙ asked-text m d p) w
 
 -- ---- from the answers of the readers and of the survey
 
@@ -112,13 +129,14 @@ module _ (s : ℕ) (b : Bool) (f T T′ : List ℕ) (levels : ℕ) (room : Room 
       p ∙ ap (λ (x : Attributes). primal-attributes x (reading (r .diff)) .nodes) own ∙ ap (λ (x : Attributes). primal-attributes (attributes-of u) x .nodes) df
       ∙ omega (arith, ap size w)
 
-  pub job-of : (n : ℕ) (out : List ℕ) → n ≡ primal-attributes (reading (r .own)) (reading (r .diff)) .nodes → n ≤ 16384 → node-size * n ≤ length out → Job s b f T′ levels out
-  job-of n out p h k =
+  pub job-of : (m : Bool) (n : ℕ) (out : List ℕ) → n ≡ primal-attributes (reading (r .own)) (reading (r .diff)) .nodes → n ≤ 16384 → step m * n ≤ length out
+      → Job m s b f T′ levels out
+  job-of m n out p h k =
       record {
         known = known-of s b f T T′ levels room l i;
         deep = room .deep;
         fine = is-fine;
-        room = λ d q. omega (arith, sized n p d q);
+        room = λ d q. subst (λ (x : ℕ). step m * x ≤ length out) (let e = sized n p d q in omega arith) k;
       }
 
 -- what the survey found is within the caps

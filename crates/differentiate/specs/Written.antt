@@ -13,7 +13,7 @@ use Rattle.derivative.specs.Differentiate.{derivative, second-literal, the-rule
 use Rattle.derivative.specs.Records.{Record, Recorded, Recordeds, noted, stop, more, gathered, erase, erase-all, arm, by-rule, recorded-literal, copied, copy, copies, written-by, to-the-zeroth, without-symbol, outer, record-bytes, record-size, list-bytes}
 use Rattle.reader.specs.Read.{is-some}
 use Rattle.rules.specs.Notation.{rules-from, end-at, extremum, or-zero, literal-code}
-use Rattle.survey.specs.Derived.{rule-for, children-of, head-of-tree}
+use Rattle.survey.specs.Derived.{rule-for, children-of, head-of-tree, or-else}
 use Rattle.survey.specs.Table.{tree, Owned, Surveyed}
 
 -- t is written to the start, and its length is told
@@ -85,15 +85,11 @@ abbrev pub arm-literal : Bool → ℕ → Formula → ℕ → List ℕ
 arm-literal m k t b = bytes m (recorded-literal (arm-of t) k b)
 
 -- the derivative of node k with its records, with a literal 0 where there is none
-abbrev pub or-absent : ℕ → Formula → Option Rule → Parts Recorded → Recorded
-or-absent k t none e = recorded-literal without-symbol k 0
-or-absent k t (some r) e = instance (arms k t) e r
-
 abbrev mutual
   pub recorded : ℕ → Bool → ℕ → Formula → Recorded
   recorded s by-state k (node h ts) =
       cond (depends s (node h ts))
-      (or-absent k (node h ts) (the-rule s by-state h ts)
+      (or-else (written-by (arm h) k) (recorded-literal without-symbol k 0) (the-rule s by-state h ts)
       (record { own = copy k (node h ts); children = copies (suc k) ts; diffs = recorded-all s by-state (suc k) ts }))
       (recorded-literal without-symbol k 0)
 

@@ -6,39 +6,40 @@ use mathlib.Core.Option.{Option, none, some}
 use Prim.Native.Nat.{ℕ}
 use native.Mathlib.Omega.{arith}
 use Rattle.formula.specs.Formula.{Formula, Formulas, node, last, next, to-list, depends, size}
-use Rattle.derivative.specs.Rules.{Rule, instance}
+use Rattle.derivative.specs.Rules.{Algebra, Rule, instance}
 use Rattle.derivative.specs.Differentiate.{formulas, the-rule, differentiate, differentiate-all, and-then, applied}
 use Rattle.derivative.specs.Attributes.{Attributes, Survey, attributes-of, survey}
 use Rattle.derivative.proofs.Attributes.{survey-right, map-option}
 use Rattle.reader.specs.Read.{is-some}
-use Rattle.survey.specs.Derived.{derived, derived-all, or-zero-literal, zero-literal}
+use Rattle.survey.specs.Derived.{derived, derived-all, or-else, zero-literal}
 use Rattle.survey.specs.Table.{optional-attributes}
 
-some-of : {A : Type 0} (a b : A) → _≡_ {A = Option A} (some a) (some b) → a ≡ b
+pub some-of : {A : Type 0} (a b : A) → _≡_ {A = Option A} (some a) (some b) → a ≡ b
 some-of a b e = cc
 
-node-right : (c : Bool) (A : Option (List Formula)) (DA : List Formula) (r : Option Rule) (own : Formula) (cs : List Formula) (d : Formula)
-    → ((ds : List Formula) → A ≡ some ds → DA ≡ ds) → cond c (and-then A (λ ds. applied formulas r own cs ds)) (some zero-literal) ≡ some d
-    → cond c (or-zero-literal r (record { own = own; children = cs; diffs = DA })) zero-literal ≡ d
-node-right false A DA r own cs d h e = some-of zero-literal d e
-node-right true none DA r own cs d h e = let z : _≡_ {A = ℕ} 0 1 = cc in absurd (omega arith)
-node-right true (some ds) DA none own cs d h e = let z : _≡_ {A = ℕ} 0 1 = cc in absurd (omega arith)
-node-right true (some ds) DA (some r) own cs d h e =
-    ap (λ (x : List Formula). instance formulas (record { own = own; children = cs; diffs = x }) r) (h ds refl)
-    ∙ some-of (instance formulas (record { own = own; children = cs; diffs = ds }) r) d e
+-- what is made of formulas or of trees with records: a node's, where its children's are there
+pub node-right : {A : Type 0} (G : Algebra A) (z : A) (c : Bool) (as′ : Option (List A)) (DA : List A) (r : Option Rule) (own : A) (cs : List A) (d : A)
+    → ((ds : List A) → as′ ≡ some ds → DA ≡ ds) → cond c (and-then as′ (λ ds. applied G r own cs ds)) (some z) ≡ some d
+    → cond c (or-else G z r (record { own = own; children = cs; diffs = DA })) z ≡ d
+node-right G z false as′ DA r own cs d h e = some-of z d e
+node-right G z true none DA r own cs d h e = let y : _≡_ {A = ℕ} 0 1 = cc in absurd (omega arith)
+node-right G z true (some ds) DA none own cs d h e = let y : _≡_ {A = ℕ} 0 1 = cc in absurd (omega arith)
+node-right {A} G z true (some ds) DA (some r) own cs d h e =
+    ap (λ (x : List A). instance G (record { own = own; children = cs; diffs = x }) r) (h ds refl)
+    ∙ some-of (instance G (record { own = own; children = cs; diffs = ds }) r) d e
 
-next-right : (o : Option Formula) (os : Option (List Formula)) (x : Formula) (xs ds : List Formula) → ((d : Formula) → o ≡ some d → x ≡ d)
-    → ((es : List Formula) → os ≡ some es → xs ≡ es) → and-then o (λ d. and-then os (λ es. some (d ∷ es))) ≡ some ds → x ∷ xs ≡ ds
+pub next-right : {A : Type 0} (o : Option A) (os : Option (List A)) (x : A) (xs ds : List A) → ((d : A) → o ≡ some d → x ≡ d)
+    → ((es : List A) → os ≡ some es → xs ≡ es) → and-then o (λ d. and-then os (λ es. some (d ∷ es))) ≡ some ds → x ∷ xs ≡ ds
 next-right none os x xs ds h g e = let z : _≡_ {A = ℕ} 0 1 = cc in absurd (omega arith)
 next-right (some d) none x xs ds h g e = let z : _≡_ {A = ℕ} 0 1 = cc in absurd (omega arith)
-next-right (some d) (some es) x xs ds h g e =
-    ap (λ (y : Formula). y ∷ xs) (h d refl) ∙ ap (λ (ys : List Formula). d ∷ ys) (g es refl) ∙ some-of (d ∷ es) ds e
+next-right {A} (some d) (some es) x xs ds h g e =
+    ap (λ (y : A). y ∷ xs) (h d refl) ∙ ap (λ (ys : List A). d ∷ ys) (g es refl) ∙ some-of (d ∷ es) ds e
 
 module _ (s : ℕ) (b : Bool) where
   mutual
     pub derived-right : (t d : Formula) → differentiate s b t ≡ some d → derived s b t ≡ d
     derived-right (node h ts) d e =
-        node-right (depends s (node h ts)) (differentiate-all s b ts) (derived-all s b ts) (the-rule s b h ts) (node h ts) (to-list ts) d (λ ds p. derived-all-right ts ds p) e
+        node-right formulas zero-literal (depends s (node h ts)) (differentiate-all s b ts) (derived-all s b ts) (the-rule s b h ts) (node h ts) (to-list ts) d (λ ds p. derived-all-right ts ds p) e
 
     derived-all-right : (ts : Formulas) (ds : List Formula) → differentiate-all s b ts ≡ some ds → derived-all s b ts ≡ ds
     derived-all-right last ds e = some-of [] ds e

@@ -5,7 +5,7 @@ use mathlib.Core.Option.{Option, none, some}
 use Prim.Native.Nat.{ℕ}
 use lib.ListN.{getD}
 use Rattle.formula.specs.Formula.{Head, number, Formula, Formulas, node, last, next, count, to-list, depends}
-use Rattle.derivative.specs.Rules.{Rule, Parts, instance, instances}
+use Rattle.derivative.specs.Rules.{Algebra, Rule, Parts, instance, instances}
 use Rattle.derivative.specs.Differentiate.{formulas, the-rule, second-literal}
 use Rattle.derivative.specs.Attributes.{Attributes, attribute-algebra, attributes-of, total-nodes, most-levels}
 use Rattle.reader.specs.Read.{is-some}
@@ -14,9 +14,13 @@ use Rattle.rules.specs.Notation.{rule-at, rules-from, end-at, or-zero}
 abbrev pub zero-literal : Formula
 zero-literal = node (number 0) last
 
+-- what a rule gives, where there is one
+abbrev pub or-else : {A : Type 0} → Algebra A → A → Option Rule → Parts A → A
+or-else G z none e = z
+or-else G z (some r) e = instance G e r
+
 abbrev pub or-zero-literal : Option Rule → Parts Formula → Formula
-or-zero-literal none e = zero-literal
-or-zero-literal (some r) e = instance formulas e r
+or-zero-literal r e = or-else formulas zero-literal r e
 
 abbrev mutual
   pub derived : ℕ → Bool → Formula → Formula

@@ -5,10 +5,10 @@ use Rattle.survey.proofs.Rows.{row-inside}
 use Rattle.differentiate.proofs.Lists.{as-text}
 use Rattle.differentiate.proofs.Leaves.{tree-room, tree-bytes, tree-fits}
 use borrow.Author.Needs.{needs}
-use Rattle.differentiate.proofs.put_tree.Statement.{statement}
-use Rattle.differentiate.proofs.put_tree.Tie as tie
-use Rattle.differentiate.proofs.put_tree.Reads as reads
-use Rattle.differentiate.proofs.put_tree.Lts as lts
+use Rattle.differentiate.proofs.put_copy.Statement.{statement}
+use Rattle.differentiate.proofs.put_copy.Tie as tie
+use Rattle.differentiate.proofs.put_copy.Reads as reads
+use Rattle.differentiate.proofs.put_copy.Lts as lts
 use Rattle.differentiate.proofs.copy.Reads as copy-reads
 use Rattle.formula.specs.Node.{node-size}
 
@@ -76,8 +76,8 @@ returns c =
     (node-size * args .k + node-size * getD (args .table .now) (8 * args .k) 0 - node-size * args .k) (omega arith))
     (copy .ensures)
 
-pub put-tree-spec : {M : Type 1} → statement M
-put-tree-spec =
+pub put-copy-spec : {M : Type 1} → statement M
+put-copy-spec =
     tie.close
     (tie.spec
     mul-start

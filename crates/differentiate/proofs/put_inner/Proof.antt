@@ -1,10 +1,10 @@
 use Rattle.differentiate.proofs.Lists.{as-text}
 use Rattle.differentiate.proofs.Leaves.{node-is}
 use borrow.Author.Needs.{needs}
-use Rattle.differentiate.proofs.put_node.Statement.{statement}
-use Rattle.differentiate.proofs.put_node.Tie as tie
-use Rattle.differentiate.proofs.put_node.Reads as reads
-use Rattle.differentiate.proofs.put_node.Lts as lts
+use Rattle.differentiate.proofs.put_inner.Statement.{statement}
+use Rattle.differentiate.proofs.put_inner.Tie as tie
+use Rattle.differentiate.proofs.put_inner.Reads as reads
+use Rattle.differentiate.proofs.put_inner.Lts as lts
 use Rattle.differentiate.proofs.copy.Reads as copy-reads
 
 cast-t6 : tie.Need-cast-t6
@@ -32,7 +32,7 @@ returns c =
     let copy = c .before .before .copy in
     as-text _ _ _ _ _ (node-is (args .kind) (args .operator) (args .children) (pre .2)) (copy .ensures)
 
-pub put-node-spec : {M : Type 1} → statement M
-put-node-spec =
+pub put-inner-spec : {M : Type 1} → statement M
+put-inner-spec =
     tie.close
     (tie.spec cast-t6 cast-t7 cast-t8 slice-aggregate-copy copy-requires same-length returns)

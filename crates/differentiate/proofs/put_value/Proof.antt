@@ -1,10 +1,10 @@
 use Rattle.differentiate.proofs.Lists.{as-text}
 use Rattle.differentiate.proofs.Leaves.{literal-is}
 use borrow.Author.Needs.{needs}
-use Rattle.differentiate.proofs.put_literal.Statement.{statement}
-use Rattle.differentiate.proofs.put_literal.Tie as tie
-use Rattle.differentiate.proofs.put_literal.Reads as reads
-use Rattle.differentiate.proofs.put_literal.Lts as lts
+use Rattle.differentiate.proofs.put_value.Statement.{statement}
+use Rattle.differentiate.proofs.put_value.Tie as tie
+use Rattle.differentiate.proofs.put_value.Reads as reads
+use Rattle.differentiate.proofs.put_value.Lts as lts
 use Rattle.differentiate.proofs.copy.Reads as copy-reads
 use Rattle.differentiate.proofs.low.Reads as low-reads
 
@@ -58,8 +58,8 @@ returns c =
     (low .ensures) (low2 .ensures) (low3 .ensures) (low4 .ensures) (low5 .ensures) (low6 .ensures) (low7 .ensures) (low8 .ensures))
     (copy .ensures)
 
-pub put-literal-spec : {M : Type 1} → statement M
-put-literal-spec =
+pub put-value-spec : {M : Type 1} → statement M
+put-value-spec =
     tie.close
     (tie.spec
     low-requires

@@ -1,0 +1,53 @@
+use mathlib.Core.Path.{ap, _∙_}
+use Prim.Native.Nat.{ℕ}
+use native.Mathlib.Omega.{arith}
+use Rattle.derivative.specs.Records.{by-rule, record-bytes}
+use Rattle.survey.specs.Table.{tree}
+use Rattle.differentiate.specs.Written.{arm-of}
+use Rattle.differentiate.proofs.Lists.{as-text}
+use Rattle.differentiate.proofs.Leaves.{literal-record, literal-node, step-record, step-node}
+use borrow.Author.Needs.{needs}
+use Rattle.differentiate.proofs.put_arm_literal.Statement.{statement}
+use Rattle.differentiate.proofs.put_arm_literal.Tie as tie
+use Rattle.differentiate.proofs.put_arm_literal.Reads as reads
+use Rattle.differentiate.proofs.put_arm_literal.Lts as lts
+use Rattle.differentiate.proofs.arm_of.Reads as arm-of-reads
+use Rattle.differentiate.proofs.put_record.Reads as put-record-reads
+use Rattle.differentiate.proofs.put_value.Reads as put-value-reads
+
+arm-of-requires : tie.Need-arm-of-requires
+arm-of-requires c κs = search needs
+
+put-record-requires : tie.Need-put-record-requires
+put-record-requires c κs = omega (arith, step-record (c .before .before .before .before .before .args .records) (c .before .before .if1 .taken), c .before .before .before .before .before .pre .1)
+
+same-length : tie.Need-same-length
+same-length c = search needs
+
+returns : tie.Need-returns
+returns c =
+    as-text _ _ _ _ _
+    (ap (λ (r : ℕ). record-bytes (by-rule r (c .before .before .before .before .before .before .before .before .args .k))) (c .before .before .before .before .arm-of .ensures)
+    ∙ literal-record (c .before .before .before .before .before .before .before .before .args .records) (arm-of (tree (c .before .before .before .before .before .before .before .before .args .f .now) (c .before .before .before .before .before .before .before .before .args .k))) (c .before .before .before .before .before .before .before .before .args .k) (c .before .before .before .before .before .before .before .before .args .bits) (c .before .before .before .before .before .if1 .taken))
+    (c .before .before .put-record .ensures)
+
+put-value-requires : tie.Need-put-value-requires
+put-value-requires c κs = omega (arith, step-node (c .before .before .before .before .args .records) (c .before .if1 .left), c .before .before .before .before .pre .1)
+
+same-length-2 : tie.Need-same-length-2
+same-length-2 c = search needs
+
+returns-2 : tie.Need-returns-2
+returns-2 c = as-text _ _ _ _ _ (literal-node (c .before .before .before .before .before .before .before .args .records) (arm-of (tree (c .before .before .before .before .before .before .before .args .f .now) (c .before .before .before .before .before .before .before .args .k))) (c .before .before .before .before .before .before .before .args .k) (c .before .before .before .before .before .before .before .args .bits) (c .before .before .before .before .if1 .left)) (c .before .before .put-value .ensures)
+
+pub put-arm-literal-spec : {M : Type 1} → statement M
+put-arm-literal-spec =
+    tie.close
+    (tie.spec
+    arm-of-requires
+    put-record-requires
+    same-length
+    returns
+    put-value-requires
+    same-length-2
+    returns-2)
