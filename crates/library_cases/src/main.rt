@@ -2,10 +2,10 @@
 // program, cut by budgets, refused, and with forged states. The answers are the Rust reference's, and for budgets and states those
 // of the model in tools/compare/machine.rs, whose whole runs agree with the reference's.
 //
-// Standard input has a record for each case; numbers are 8 bytes, the least first. A case has 16 numbers (`Head`), then formula,
-// names, path text, tree and program, and for its calls the inputs. A call has 38 numbers: 0 for a run, 1 for a resume, 2 for one
-// with a value, the path slice's length, budget, value, the state's cells before, the answer, the cells after, the length of the
-// path's text; then that text and the registers before and after.
+// Standard input has a record for each case; numbers are 8 bytes, the least first. A case has 18 numbers (`Head`), then formula,
+// names, path text, tree, list of records and program, and for its calls the inputs. A call has 38 numbers: 0 for a run, 1 for a
+// resume, 2 for one with a value, the path slice's length, budget, value, the state's cells before, the answer, the cells after,
+// the length of the path's text; then that text and the registers before and after.
 use cases::HELD;
 use cases::Tally;
 use cases::all;
@@ -29,10 +29,12 @@ struct Head {
     symbol: u64,
     path: usize,
     tree: usize,
+    list: usize,
     program: usize,
     answer: usize,
     text: usize,
     tree_text: usize,
+    list_text: usize,
     program_text: usize,
     tree_zero: bool,
     program_zero: bool,
@@ -49,17 +51,19 @@ fn head_of(b: &[u8]) -> Head {
         symbol: cell(b, 2),
         path: size(b, 3),
         tree: size(b, 4),
-        program: size(b, 5),
-        answer: size(b, 6),
-        text: size(b, 7),
-        tree_text: size(b, 8),
-        program_text: size(b, 9),
-        tree_zero: cell(b, 10) == 1,
-        program_zero: cell(b, 11) == 1,
-        inputs: size(b, 12),
-        registers: size(b, 13),
-        calls: size(b, 14),
-        node: cell(b, 15),
+        list: size(b, 5),
+        program: size(b, 6),
+        answer: size(b, 7),
+        text: size(b, 8),
+        tree_text: size(b, 9),
+        list_text: size(b, 10),
+        program_text: size(b, 11),
+        tree_zero: cell(b, 12) == 1,
+        program_zero: cell(b, 13) == 1,
+        inputs: size(b, 14),
+        registers: size(b, 15),
+        calls: size(b, 16),
+        node: cell(b, 17),
     }
 }
 
@@ -70,11 +74,13 @@ fn made(
     names: &[u8],
     path: &mut [u8],
     tree: &mut [u8],
+    list: &mut [u8],
     program: &mut [u8],
     report: &mut [u64],
 ) -> usize {
     fill(path);
     fill(tree);
+    fill(list);
     fill(program);
     if symbol < 4294967296 {
         return vebrostin::vebrostin_derive(
@@ -83,6 +89,7 @@ fn made(
             symbol as u32,
             path,
             tree,
+            list,
             program,
             report,
         );
@@ -232,23 +239,34 @@ fn is_read_after(b: &[u8], text: &mut [u8], n: usize, zero: bool) -> bool {
     is_left(b, text, 0, n, zero)
 }
 
-// The case whose head was read: its formula and names are given, its texts come next.
+// The case whose head was read: its formula and names are given, its texts come next. The list is zero wherever the tree is.
 fn compared(
     h: Head,
     formula: &[u8],
     names: &[u8],
     path: &mut [u8],
     tree: &mut [u8],
+    list: &mut [u8],
     program: &mut [u8],
     text: &mut [u8],
 ) -> bool {
     let mut report = [HELD; 8];
-    let answer = made(h.symbol, formula, names, path, tree, program, &mut report);
+    let answer = made(
+        h.symbol,
+        formula,
+        names,
+        path,
+        tree,
+        list,
+        program,
+        &mut report,
+    );
     let told = all(answer == h.answer, is_reported(&report, h.node));
     let first = is_read_after(path, text, h.text, false);
     let second = is_read_after(tree, text, h.tree_text, h.tree_zero);
-    let third = is_read_after(program, text, h.program_text, h.program_zero);
-    all(all(told, first), all(second, third))
+    let third = is_read_after(list, text, h.list_text, h.tree_zero);
+    let fourth = is_read_after(program, text, h.program_text, h.program_zero);
+    all(all(told, first), all(second, all(third, fourth)))
 }
 
 // Its calls, with slices just as long as it says.
@@ -276,18 +294,28 @@ fn ran(h: Head, program: &[u8], path: &mut [u8]) -> bool {
     all(all(h.inputs <= 256, h.registers <= 256), same)
 }
 
-// A case whose formula, names, tree and program slices are just as long as it says.
+// A case whose formula, names, tree, list and program slices are just as long as it says.
 fn both(
     h: Head,
     formula: &[u8],
     names: &[u8],
     path: &mut [u8],
     tree: &mut [u8],
+    list: &mut [u8],
     program: &mut [u8],
     text: &mut [u8],
 ) -> bool {
     let n = cut(h.path, path.len());
-    let first = compared(h, formula, names, &mut path[0..n], tree, program, text);
+    let first = compared(
+        h,
+        formula,
+        names,
+        &mut path[0..n],
+        tree,
+        list,
+        program,
+        text,
+    );
     let second = ran(h, program, path);
     all(n == h.path, all(first, second))
 }
@@ -298,12 +326,14 @@ fn case_in(
     names: &mut [u8],
     path: &mut [u8],
     tree: &mut [u8],
+    list: &mut [u8],
     program: &mut [u8],
     text: &mut [u8],
 ) -> bool {
     let f = cut(h.formula, formula.len());
     let n = cut(h.names, names.len());
     let t = cut(h.tree, tree.len());
+    let l = cut(h.list, list.len());
     let p = cut(h.program, program.len());
     let first = take(formula, f);
     let second = take(names, n);
@@ -313,6 +343,7 @@ fn case_in(
         &names[0..n],
         path,
         &mut tree[0..t],
+        &mut list[0..l],
         &mut program[0..p],
         text,
     );
@@ -323,7 +354,7 @@ fn case_in(
 fn fits(h: Head) -> bool {
     all(
         all(h.formula <= 8192, h.names <= 8192),
-        all(h.tree <= 8192, h.program <= 65536),
+        all(h.tree <= 8192, all(h.list <= 4096, h.program <= 65536)),
     )
 }
 
@@ -332,6 +363,7 @@ fn one_case(h: Head) -> bool {
     let mut names = [0u8; 8192];
     let mut path = [0u8; 8200];
     let mut tree = [0u8; 8192];
+    let mut list = [0u8; 4096];
     let mut program = [0u8; 65536];
     let mut text = [0u8; 16384];
     let same = case_in(
@@ -340,6 +372,7 @@ fn one_case(h: Head) -> bool {
         &mut names,
         &mut path,
         &mut tree,
+        &mut list,
         &mut program,
         &mut text,
     );
@@ -348,13 +381,13 @@ fn one_case(h: Head) -> bool {
 
 // What comes after a case that is not as recorded can't be told from it.
 fn next_case(t: Tally) -> Tally {
-    let mut head = [0u8; 128];
-    let read = take(&mut head, 128);
+    let mut head = [0u8; 144];
+    let read = take(&mut head, 144);
     if !read {
         return cases::end(t);
     }
     let right = one_case(head_of(&head));
-    let counted = cases::counted(t, right, cell(&head, 14));
+    let counted = cases::counted(t, right, cell(&head, 16));
     if right {
         return counted;
     }
