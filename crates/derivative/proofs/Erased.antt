@@ -1,15 +1,16 @@
 -- The derivative with records, without them, is the derivative: one record for each node.
-use mathlib.Core.Path.{_≡_, refl, ap, _∙_}
+use mathlib.Core.Path.{_≡_, refl, sym, ap, _∙_}
 use mathlib.Core.Bool.{Bool, true, false, cond}
-use mathlib.Core.List.{List, [], _∷_, _++_, map}
+use mathlib.Core.List.{List, [], _∷_, _++_, map, append-nil, append-assoc}
 use mathlib.Core.Option.{Option, none, some}
-use Prim.Native.Nat.{ℕ, zero, suc, _+_}
+use Prim.Native.Nat.{ℕ, zero, suc, _+_, _*_}
 use native.Mathlib.Omega.{arith}
 use lib.ListN.{length, length-append}
 use Rattle.formula.specs.Formula.{Formula, Formulas, node, last, next, of-list, to-list, size, sizes, depends}
 use Rattle.derivative.specs.Rules.{Parts, Rule, instance}
 use Rattle.derivative.specs.Differentiate.{formulas, and-then, applied, the-rule, differentiate, differentiate-all, with-primal, derivative}
-use Rattle.derivative.specs.Records.{Record, Recorded, Recordeds, noted, stop, more, gathered, erase, erase-all, records, records-all, by-rule, copied, copy, copies, written-by, arm, recorded-literal, without-symbol, differentiate-at, differentiate-from, recorded-with-primal, recorded-derivative, records-of, derivative-records}
+use Rattle.derivative.specs.Records.{Record, Recorded, Recordeds, noted, stop, more, gathered, erase, erase-all, records, records-all, by-rule, copied, copy, copies, written-by, arm, differentiate-at, differentiate-from, recorded-with-primal, recorded-derivative, records-of, derivative-records, outer, record-size, record-bytes, list-bytes}
+use Rattle.derivative.specs.Provenance.{numbered}
 use Rattle.derivative.proofs.Homomorphism.{homomorphism, mapped}
 use Rattle.derivative.proofs.Attributes.{map-option}
 use Rattle.derivative.proofs.Faultless.{none-some}
@@ -27,23 +28,27 @@ erase-instance r k e q =
 
 -- ---- copies
 
+next-is : {t u : Formula} {ts us : Formulas} → t ≡ u → ts ≡ us → next t ts ≡ next u us
+next-is {t} {u} {ts} {us} p q = rw (p, q)
+
+cons-is : {A : Type 0} {x y : A} {xs ys : List A} → x ≡ y → xs ≡ ys → x ∷ xs ≡ y ∷ ys
+cons-is {A} {x} {y} {xs} {ys} p q = rw (p, q)
+
+append-is : {A : Type 0} {xs ys us vs : List A} → xs ≡ us → ys ≡ vs → xs ++ ys ≡ us ++ vs
+append-is {A} {xs} {ys} {us} {vs} p q = rw (p, q)
+
 mutual
   -- a copy of a part, without records, is that part
   pub erase-copy : (k : ℕ) (t : Formula) → erase (copy k t) ≡ t
-  erase-copy k (node h ts) = ap (node h) (erase-copied (suc k) ts)
+  erase-copy k (node h ts) = ap (node h) (erase-copied _ ts)
 
   erase-copied : (k : ℕ) (ts : Formulas) → erase-all (gathered (copies k ts)) ≡ ts
   erase-copied k last = refl
-  erase-copied k (next t ts) = rw (erase-copy k t, erase-copied (k + size t) ts)
+  erase-copied k (next t ts) = next-is (erase-copy _ t) (erase-copied _ ts)
 
 pub erase-copies : (k : ℕ) (ts : Formulas) → map erase (copies k ts) ≡ to-list ts
 erase-copies k last = refl
-erase-copies k (next t ts) = rw (erase-copy k t, erase-copies (k + size t) ts)
-
--- the records of n nodes copied from node k on
-abbrev pub numbered : ℕ → ℕ → List Record
-numbered k zero = []
-numbered k (suc n) = by-rule copied k ∷ numbered (suc k) n
+erase-copies k (next t ts) = cons-is (erase-copy _ t) (erase-copies _ ts)
 
 -- copies one after another
 pub numbered-append : (k n m : ℕ) → numbered k n ++ numbered (k + n) m ≡ numbered k (n + m)
@@ -56,11 +61,11 @@ numbered-append k (suc n) m =
 mutual
   -- in a copy each node has its own number
   pub copy-records : (k : ℕ) (t : Formula) → records (copy k t) ≡ numbered k (size t)
-  copy-records k (node h ts) = rw (copies-records (suc k) ts)
+  copy-records k (node h ts) = ap (λ (rs : List Record). by-rule copied k ∷ rs) (copies-records _ ts)
 
   pub copies-records : (k : ℕ) (ts : Formulas) → records-all (gathered (copies k ts)) ≡ numbered k (sizes ts)
   copies-records k last = refl
-  copies-records k (next t ts) = rw (copy-records k t, copies-records (k + size t) ts) (numbered-append k (size t) (sizes ts))
+  copies-records k (next t ts) = append-is (copy-records _ t) (copies-records _ ts) ∙ numbered-append k (size t) (sizes ts)
 
 -- ---- as many records as nodes
 
@@ -98,7 +103,7 @@ module _ (s : ℕ) (by-state : Bool) where
     -- of the formula's node k: erased, it is the derivative
     pub erase-differentiate : (k : ℕ) (f : Formula) → map-option erase (differentiate-at s by-state k f) ≡ differentiate s by-state f
     erase-differentiate k (node h ts) =
-        cond-erased (depends s (node h ts)) _ _ (recorded-literal without-symbol k 0)
+        cond-erased (depends s (node h ts)) _ _ _
         (applied-erased (arm h) k (the-rule s by-state h ts) (copy k (node h ts)) (copies (suc k) ts) (differentiate-from s by-state (suc k) ts)
         ∙ rw (erase-differentiate-all (suc k) ts, erase-copied (suc k) ts, erase-copies (suc k) ts))
 
@@ -134,3 +139,22 @@ module _ (s : ℕ) (by-state : Bool) where
   derivative-records-length f d e =
       let g = recorded-there f d e in
       ap (λ (o : Option Recorded). length (records-of o)) (g .1) ∙ records-length (g .0) ∙ ap size (g .2)
+
+-- ---- the list
+
+-- three outer records, those of the formula's copy, those of the derivative by the rules
+pub outer-list : (f : Formula) (d : Recorded)
+    → records (recorded-with-primal f d) ≡ by-rule outer 0 ∷ by-rule outer 0 ∷ by-rule outer 0 ∷ (numbered 0 (size f) ++ records d)
+outer-list f d = rw (append-nil (records (copy 0 f)), append-nil (records d), copy-records 0 f)
+
+pub list-bytes-append : (xs ys : List Record) → list-bytes (xs ++ ys) ≡ list-bytes xs ++ list-bytes ys
+unfolding list-bytes
+list-bytes-append [] ys = refl
+list-bytes-append (x ∷ xs) ys =
+    ap (λ (zs : List ℕ). record-bytes x ++ zs) (list-bytes-append xs ys) ∙ sym (append-assoc (record-bytes x) (list-bytes xs) (list-bytes ys))
+
+-- 8 bytes for each record
+pub list-bytes-length : (xs : List Record) → length (list-bytes xs) ≡ record-size * length xs
+unfolding list-bytes record-bytes
+list-bytes-length [] = refl
+list-bytes-length (x ∷ xs) = omega (arith, length-append (record-bytes x) (list-bytes xs), list-bytes-length xs)

@@ -1,13 +1,18 @@
 -- Theorems about the derivative tree.
 pub mod Homomorphism
 pub mod Attributes
-pub mod Erased
 pub mod Faultless
+pub mod Erased
+pub mod Indexed
+pub mod Written
+pub mod RulesWritten
 pub mod Sound
 pub mod Typing
 pub mod LessOne
 pub mod RulesTyped
 pub mod Compiles
+pub mod Says
+pub mod Provenance
 pub mod Paths
 pub mod Primal
 pub mod Reach
@@ -21,3 +26,4 @@ pub mod Bounds
 pub mod Slopes
 pub mod Polynomial
 pub mod Worked
+pub mod Recorded

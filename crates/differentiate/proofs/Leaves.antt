@@ -10,7 +10,8 @@ use Rattle.formula.specs.Text.{byte-at, half-at}
 use Rattle.formula.specs.Operator.{unary, binary, compare, call, Positive, Negative, Not, Add, Subtract, Multiply, Divide, Power, Modulo, Exp, Log, Log10, Sqrt, Sin, Cos, Tan, Tanh, Abs, Floor, Ceil, Min, Max, Hill, InverseGaussianDensity}
 use Rattle.formula.specs.Formula.{Head, number, truth, symbol, operation, junction, ifelse, conditional, malformed, Formula, node, last, size, well-formed}
 use Rattle.formula.specs.Node.{Fields, fields-at, fields-of, encode, node-bytes, inner-fields, tree-in, node-size}
-use Rattle.derivative.specs.Records.{Record, Recorded, erase, by-rule, copy, arm, recorded-literal, to-the-zeroth, record-bytes, record-size}
+use Rattle.derivative.specs.Records.{Record, Recorded, erase, by-rule, copy, arm, recorded-literal, to-the-zeroth, record-bytes, record-size, list-bytes}
+use Rattle.derivative.specs.Provenance.{numbered}
 use Rattle.reader.proofs.Bytes.{Bytes}
 use Rattle.reader.proofs.Trees.{size-pos}
 use Rattle.reader.proofs.Encode.{copied-tree, encode-length}
@@ -20,8 +21,8 @@ use Rattle.survey.specs.Derived.{children-of}
 use Rattle.survey.specs.Table.{tree, Owned, IsChild}
 use Rattle.survey.proofs.Rows.{own-row}
 use Rattle.survey.proofs.Trees.{tree-ends, opened}
-use Rattle.differentiate.specs.Written.{start, step, bytes, numbers, coded-arm, arm-of, arm-literal, literal-part, copy-of}
-use Rattle.differentiate.proofs.Recorded.{record-length, bytes-length, numbers-length, copy-numbers, copy-nodes, copy-is, copy-none}
+use Rattle.differentiate.specs.Written.{start, step, bytes, coded-arm, arm-of, arm-literal, literal-part, copy-of}
+use Rattle.differentiate.proofs.Recorded.{record-length, bytes-length, numbered-length, copy-numbers, copy-nodes, copy-is, copy-none}
 pub use Rattle.reader.proofs.Encode.{node-length}
 
 pub node-is : (k o n : ℕ) → n < 256 → k ∷ o ∷ n ∷ 0 ∷ 0 ∷ 0 ∷ 0 ∷ 0 ∷ 0 ∷ 0 ∷ 0 ∷ 0 ∷ 0 ∷ 0 ∷ 0 ∷ 0 ∷ [] ≡ node-bytes (inner-fields k o n)
@@ -101,16 +102,16 @@ bytes-room false t x n e h = omega (arith, ap length e, bytes-length false t, si
 -- ---- copies
 
 module _ (f T : List ℕ) (k : ℕ) (o : Owned f T k) (m : Bool) where
-  pub copy-record : m ≡ true → numbers k (getD T (8 * k) 0) ≡ bytes m (copy k (tree f k))
+  pub copy-record : m ≡ true → list-bytes (numbered k (getD T (8 * k) 0)) ≡ bytes m (copy k (tree f k))
   copy-record e =
-      ap (λ (n : ℕ). numbers k n) (own-row f T k o .nodes) ∙ copy-numbers k (tree f k) ∙ sym (ap (λ (x : Bool). bytes x (copy k (tree f k))) e)
+      ap (λ (n : ℕ). list-bytes (numbered k n)) (own-row f T k o .nodes) ∙ copy-numbers k (tree f k) ∙ sym (ap (λ (x : Bool). bytes x (copy k (tree f k))) e)
 
   pub copy-node : m ≡ false → encode (tree f k) ≡ bytes m (copy k (tree f k))
   copy-node e = copy-nodes k (tree f k) ∙ sym (ap (λ (x : Bool). bytes x (copy k (tree f k))) e)
 
 pub copy-length : (f : List ℕ) (k : ℕ) (m : Bool) → m ≡ true → length (bytes m (copy k (tree f k))) ≡ record-size * size (tree f k)
 copy-length f k m e =
-    ap (λ (x : Bool). length (bytes x (copy k (tree f k)))) e ∙ ap length (sym (copy-numbers k (tree f k))) ∙ numbers-length k (size (tree f k))
+    ap (λ (x : Bool). length (bytes x (copy k (tree f k)))) e ∙ ap length (sym (copy-numbers k (tree f k))) ∙ numbered-length k (size (tree f k))
 
 pub child-text : (m : Bool) (f : List ℕ) (k i r : ℕ) → IsChild f k i r → bytes m (copy r (tree f r)) ≡ bytes m (copy-of k (tree f k) i)
 child-text m f k i r c = ap (bytes m) (sym (copy-is f k i r c))

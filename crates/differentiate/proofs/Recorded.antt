@@ -13,16 +13,17 @@ use Rattle.formula.specs.Node.{encode, encode-all, node-bytes, fields-of, node-
 use Rattle.derivative.specs.Rules.{Parts, Rule, instance}
 use Rattle.derivative.specs.Differentiate.{formulas, differentiate, the-rule}
 use Rattle.derivative.specs.Records.{Record, Recorded, Recordeds, noted, stop, more, erase, erase-all, records, records-all, by-rule, copied, copy, copies, written-by, arm, recorded-literal, without-symbol, differentiate-at, differentiate-from, record-bytes, record-size, list-bytes}
+use Rattle.derivative.specs.Provenance.{numbered}
 use Rattle.derivative.proofs.Attributes.{map-option}
 use Rattle.derivative.proofs.Homomorphism.{mapped}
-use Rattle.derivative.proofs.Erased.{erase-copy, erase-copies, erase-instance, erase-differentiate, copy-records, numbered, numbered-append, records-length}
+use Rattle.derivative.proofs.Erased.{erase-copy, erase-copies, erase-instance, erase-differentiate, copy-records, numbered-append, records-length, list-bytes-append, list-bytes-length}
 use Rattle.reader.specs.Read.{is-some}
 use Rattle.reader.proofs.Encode.{encode-length}
 use Rattle.survey.specs.Derived.{derived, derived-all, parts-of, children-of, or-else, zero-literal}
 use Rattle.survey.specs.Table.{tree, nth, number-from, IsChild}
 use Rattle.survey.proofs.Derivative.{node-right, next-right, some-of}
 use Rattle.survey.proofs.Trees.{count-is}
-use Rattle.differentiate.specs.Written.{start, step, bytes, bytes-all, numbers, arms, recorded, recorded-all, recorded-parts, copy-of, recorded-of}
+use Rattle.differentiate.specs.Written.{start, step, bytes, bytes-all, arms, recorded, recorded-all, recorded-parts, copy-of, recorded-of}
 
 -- ---- without the records
 
@@ -130,11 +131,6 @@ mutual
   bytes-all-nodes stop = refl
   bytes-all-nodes (more t ts) = rw (bytes-nodes t, bytes-all-nodes ts)
 
-list-append : (xs ys : List Record) → list-bytes (xs ++ ys) ≡ list-bytes xs ++ list-bytes ys
-unfolding list-bytes
-list-append [] ys = refl
-list-append (x ∷ xs) ys = ap (λ (l : List ℕ). record-bytes x ++ l) (list-append xs ys) ∙ sym (append-assoc (record-bytes x) (list-bytes xs) (list-bytes ys))
-
 mutual
   unfolding bytes list-bytes
 
@@ -143,46 +139,36 @@ mutual
 
   bytes-all-records : (ts : Recordeds) → bytes-all true ts ≡ list-bytes (records-all ts)
   bytes-all-records stop = refl
-  bytes-all-records (more t ts) = rw (bytes-records t, bytes-all-records ts) (sym (list-append (records t) (records-all ts)))
+  bytes-all-records (more t ts) = rw (bytes-records t, bytes-all-records ts) (sym (list-bytes-append (records t) (records-all ts)))
 
 pub record-length : (r : Record) → length (record-bytes r) ≡ record-size
 unfolding record-bytes
 record-length r = refl
 
-pub list-length : (rs : List Record) → length (list-bytes rs) ≡ record-size * length rs
-unfolding list-bytes
-list-length [] = refl
-list-length (r ∷ rs) = omega (arith, length-append (record-bytes r) (list-bytes rs), record-length r, list-length rs)
-
 -- a record or a node of 16 bytes for each node
 pub bytes-length : (m : Bool) (t : Recorded) → length (bytes m t) ≡ step m * size (erase t)
-bytes-length true t = omega (arith, ap length (bytes-records t), list-length (records t), records-length t)
+bytes-length true t = omega (arith, ap length (bytes-records t), list-bytes-length (records t), records-length t)
 bytes-length false t = omega (arith, ap length (bytes-nodes t), encode-length (erase t))
 
 -- ---- the records of a copy
 
-pub numbers-next : (k n : ℕ) → numbers k (n + 1) ≡ numbers k n ++ record-bytes (by-rule copied (k + n))
-unfolding numbers
-numbers-next k n = ap (λ (x : ℕ). numbers k x) (add-one n)
+pub numbered-next : (k n : ℕ) → list-bytes (numbered k (n + 1)) ≡ list-bytes (numbered k n) ++ record-bytes (by-rule copied (k + n))
+unfolding list-bytes
+numbered-next k n =
+    ap list-bytes (sym (numbered-append k n 1))
+    ∙ list-bytes-append (numbered k n) (numbered (k + n) 1)
+    ∙ ap (λ (x : List ℕ). list-bytes (numbered k n) ++ x) (append-nil (record-bytes (by-rule copied (k + n))))
 
-numbers-are : (k n : ℕ) → numbers k n ≡ list-bytes (numbered k n)
-unfolding numbers list-bytes
-numbers-are k zero = refl
-numbers-are k (suc n) =
-    let e : n + 1 ≡ suc n = add-one n in
-    ap (λ (x : List ℕ). x ++ record-bytes (by-rule copied (k + n))) (numbers-are k n)
-    ∙ ap (λ (x : List ℕ). list-bytes (numbered k n) ++ x) (sym (append-nil (record-bytes (by-rule copied (k + n)))))
-    ∙ sym (list-append (numbered k n) (numbered (k + n) 1))
-    ∙ ap list-bytes (numbered-append k n 1 ∙ ap (λ (x : ℕ). numbered k x) e)
+count-numbered : (k n : ℕ) → length (numbered k n) ≡ n
+count-numbered k zero = refl
+count-numbered k (suc n) = ap suc (count-numbered (suc k) n)
 
-pub numbers-length : (k n : ℕ) → length (numbers k n) ≡ record-size * n
-unfolding numbers
-numbers-length k zero = refl
-numbers-length k (suc n) = omega (arith, length-append (numbers k n) (record-bytes (by-rule copied (k + n))), numbers-length k n, record-length (by-rule copied (k + n)))
+pub numbered-length : (k n : ℕ) → length (list-bytes (numbered k n)) ≡ record-size * n
+numbered-length k n = list-bytes-length (numbered k n) ∙ ap (λ (x : ℕ). record-size * x) (count-numbered k n)
 
 -- a copy's records are its nodes' numbers, and its nodes the part's
-pub copy-numbers : (k : ℕ) (t : Formula) → numbers k (size t) ≡ bytes true (copy k t)
-copy-numbers k t = numbers-are k (size t) ∙ ap list-bytes (sym (copy-records k t)) ∙ sym (bytes-records (copy k t))
+pub copy-numbers : (k : ℕ) (t : Formula) → list-bytes (numbered k (size t)) ≡ bytes true (copy k t)
+copy-numbers k t = ap list-bytes (sym (copy-records k t)) ∙ sym (bytes-records (copy k t))
 
 pub copy-nodes : (k : ℕ) (t : Formula) → encode t ≡ bytes false (copy k t)
 copy-nodes k t = ap encode (sym (erase-copy k t)) ∙ sym (bytes-nodes (copy k t))

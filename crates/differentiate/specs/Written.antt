@@ -10,7 +10,7 @@ use Rattle.formula.specs.Formula.{Formula, Formulas, last, next, node, count, s
 use Rattle.formula.specs.Node.{encode, inner-fields, node-bytes, fields-of, node-size}
 use Rattle.derivative.specs.Rules.{Algebra, Parts, Rule, instance, instances, extremum-from, add-of, mul-of, zero-of}
 use Rattle.derivative.specs.Differentiate.{derivative, second-literal, the-rule}
-use Rattle.derivative.specs.Records.{Record, Recorded, Recordeds, noted, stop, more, gathered, erase, erase-all, arm, by-rule, recorded-literal, copied, copy, copies, written-by, to-the-zeroth, without-symbol, outer, record-bytes, record-size, list-bytes}
+use Rattle.derivative.specs.Records.{Record, Recorded, Recordeds, noted, stop, more, gathered, erase, erase-all, arm, by-rule, recorded-literal, copy, copies, written-by, to-the-zeroth, without-symbol, outer, record-bytes, record-size, list-bytes}
 use Rattle.reader.specs.Read.{is-some}
 use Rattle.rules.specs.Notation.{rules-from, end-at, extremum, or-zero, literal-code}
 use Rattle.survey.specs.Derived.{rule-for, children-of, head-of-tree, or-else}
@@ -50,11 +50,6 @@ unfoldable mutual
 -- the bytes that a node or its record takes
 abbrev pub step : Bool → ℕ
 step m = cond m record-size node-size
-
--- the records of a copy of n nodes, the first of number k
-unfoldable pub numbers : ℕ → ℕ → List ℕ
-numbers k zero = []
-numbers k (suc n) = numbers k n ++ record-bytes (by-rule copied (k + n))
 
 -- the number of an arm by a node's kind and operator
 abbrev pub coded-arm : ℕ → ℕ → ℕ

@@ -11,11 +11,12 @@ ghost use lib.ListN.{length};
 ghost use Rattle.formula.specs.Formula.{Formula, node, number, last, well-formed};
 ghost use Rattle.formula.specs.Node.{encode, inner-fields, node-bytes, node-size};
 ghost use Rattle.derivative.specs.Differentiate.{derivative};
-ghost use Rattle.derivative.specs.Records.{by-rule, copy as copy-from, derivative-records, record-bytes, record-size, recorded-literal};
+ghost use Rattle.derivative.specs.Records.{by-rule, copy as copy-from, derivative-records, list-bytes, record-bytes, record-size, recorded-literal};
+ghost use Rattle.derivative.specs.Provenance.{numbered};
 ghost use Rattle.rules.specs.Notation.{end-at};
 ghost use Rattle.survey.specs.Table.{tree, Owned};
 ghost use Rattle.writer.specs.Over.{over};
-ghost use Rattle.differentiate.specs.Written.{Writes, Task, bytes, step, numbers, coded-arm, arm-of, arm-literal, literal-part, arm-node, outer-node, recorded, recorded-of, copy-of, part, parts-bytes, extremum-bytes, extremum-tree, tie-bytes, sum-bytes, product-bytes, Small, primal-bytes, asked, Job};
+ghost use Rattle.differentiate.specs.Written.{Writes, Task, bytes, step, coded-arm, arm-of, arm-literal, literal-part, arm-node, outer-node, recorded, recorded-of, copy-of, part, parts-bytes, extremum-bytes, extremum-tree, tie-bytes, sum-bytes, product-bytes, Small, primal-bytes, asked, Job};
 use reader::NODE_SIZE;
 use reader::byte;
 use reader::half;
@@ -152,7 +153,7 @@ fn put_record(rule: usize, k: usize, out: &mut [u8]) -> usize
 // The records of a copy of n nodes: each has its own number, from k on.
 fn put_numbers(k: usize, n: usize, out: &mut [u8]) -> usize
     requires { ⌜ (k + n < 18446744073709551616) × (record-size * n ≤ length (now out)) ⌝ }
-    ensures { λ r. ⌜ Writes (numbers k n) (now (out .entry)) (now (out .exit)) r ⌝ }
+    ensures { λ r. ⌜ Writes (list-bytes (numbered k n)) (now (out .entry)) (now (out .exit)) r ⌝ }
 {
     let mut i = 0;
     while i < n {

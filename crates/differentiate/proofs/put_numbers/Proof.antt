@@ -3,12 +3,12 @@ use mathlib.Core.List.{List}
 use Prim.Native.Nat.{ℕ, _+_, _*_, _≤_, _-_}
 use native.Mathlib.Omega.{arith}
 use lib.ListN.{length}
-use Rattle.derivative.specs.Records.{by-rule, copied, record-bytes, record-size}
+use Rattle.derivative.specs.Records.{by-rule, copied, list-bytes, record-bytes, record-size}
+use Rattle.derivative.specs.Provenance.{numbered}
 use Rattle.writer.proofs.Over.{over-nil, next-over, over-length}
 use Rattle.differentiate.proofs.Lists.{as-text, written-over}
-use Rattle.differentiate.proofs.Recorded.{numbers-next, numbers-length}
+use Rattle.differentiate.proofs.Recorded.{numbered-next, numbered-length}
 use Rattle.writer.specs.Over.{over}
-use Rattle.differentiate.specs.Written.{numbers}
 use Rattle.differentiate.proofs.put_numbers.Statement.{statement}
 use Rattle.differentiate.proofs.put_numbers.Tie as tie
 use Rattle.differentiate.proofs.put_numbers.Reads as reads
@@ -16,16 +16,16 @@ use Rattle.differentiate.proofs.put_numbers.Lts as lts
 use Rattle.differentiate.proofs.put_record_at.Reads as put-record-at-reads
 
 abbrev Inv-loop : tie.InvT-loop
-Inv-loop k n out₀ i₀ out i = (i ≤ n) × (out ≡ over out₀ 0 (numbers k i))
+Inv-loop k n out₀ i₀ out i = (i ≤ n) × (out ≡ over out₀ 0 (list-bytes (numbered k i)))
 
-written-length : (k n : ℕ) (out₀ out : List ℕ) (i : ℕ) → (i ≤ n) × (out ≡ over out₀ 0 (numbers k i)) → record-size * n ≤ length out₀ → length out ≡ length out₀
-written-length k n out₀ out i inv h = ap length (inv .1) ∙ over-length out₀ 0 (numbers k i) (omega (arith, numbers-length k i, inv .0))
+written-length : (k n : ℕ) (out₀ out : List ℕ) (i : ℕ) → (i ≤ n) × (out ≡ over out₀ 0 (list-bytes (numbered k i))) → record-size * n ≤ length out₀ → length out ≡ length out₀
+written-length k n out₀ out i inv h = ap length (inv .1) ∙ over-length out₀ 0 (list-bytes (numbered k i)) (omega (arith, numbered-length k i, inv .0))
 
 abbrev μ-loop : tie.MeasureT-loop
 μ-loop k n out₀ i₀ out i = n - i
 
 loop-holds : tie.Need-loop-holds Inv-loop μ-loop
-unfolding numbers
+unfolding list-bytes
 loop-holds c = (omega arith, sym (over-nil (c .before .args .out .now) 0))
 
 add-put-record-at : tie.Need-add-put-record-at Inv-loop μ-loop
@@ -45,11 +45,11 @@ loop-less c = omega (arith, c .before .before .before .before .loop-test .taken)
 
 loop-again : tie.Need-loop-again Inv-loop μ-loop
 loop-again c =
-    let n = numbers-length (c .before .before .before .before .before .before .before .args .k) (c .before .before .before .before .before .loop .i) in (
+    let n = numbered-length (c .before .before .before .before .before .before .before .args .k) (c .before .before .before .before .before .loop .i) in (
       omega (arith, c .before .before .before .before .loop-test .taken),
-      next-over (c .before .before .before .before .before .before .before .args .out .now) _ _ 0 (record-size * c .before .before .before .before .before .loop .i) (numbers (c .before .before .before .before .before .before .before .args .k) (c .before .before .before .before .before .loop .i)) (record-bytes (by-rule copied (c .before .before .before .before .before .before .before .args .k + c .before .before .before .before .before .loop .i))) (c .before .before .before .before .before .loop .inv .1) (c .before .before .put-record-at .ensures)
+      next-over (c .before .before .before .before .before .before .before .args .out .now) _ _ 0 (record-size * c .before .before .before .before .before .loop .i) (list-bytes (numbered (c .before .before .before .before .before .before .before .args .k) (c .before .before .before .before .before .loop .i))) (record-bytes (by-rule copied (c .before .before .before .before .before .before .before .args .k + c .before .before .before .before .before .loop .i))) (c .before .before .before .before .before .loop .inv .1) (c .before .before .put-record-at .ensures)
           (omega (arith, n)) (omega (arith, n, c .before .before .before .before .before .before .before .pre .1, c .before .before .before .before .before .loop .inv .0))
-      ∙ ap (λ (x : List ℕ). over (c .before .before .before .before .before .before .before .args .out .now) 0 x) (sym (numbers-next (c .before .before .before .before .before .before .before .args .k) (c .before .before .before .before .before .loop .i))),
+      ∙ ap (λ (x : List ℕ). over (c .before .before .before .before .before .before .before .args .out .now) 0 x) (sym (numbered-next (c .before .before .before .before .before .before .before .args .k) (c .before .before .before .before .before .loop .i))),
     )
 
 mul-result : tie.Need-mul-result Inv-loop μ-loop
@@ -61,8 +61,8 @@ same-length c = written-length (c .before .before .before .args .k) (c .before .
 returns : tie.Need-returns Inv-loop μ-loop
 returns c =
     let e : c .before .loop .i ≡ c .before .before .before .args .n = omega (arith, c .loop-test .left, c .before .loop .inv .0) in
-    as-text _ _ _ _ _ (ap (numbers (c .before .before .before .args .k)) e)
-    (written-over (numbers (c .before .before .before .args .k) (c .before .loop .i)) (c .before .before .before .args .out .now) (c .before .loop .out) (record-size * c .before .loop .i) (omega (arith, numbers-length (c .before .before .before .args .k) (c .before .loop .i))) (c .before .loop .inv .1))
+    as-text _ _ _ _ _ (ap (λ (x : ℕ). list-bytes (numbered (c .before .before .before .args .k) x)) e)
+    (written-over (list-bytes (numbered (c .before .before .before .args .k) (c .before .loop .i))) (c .before .before .before .args .out .now) (c .before .loop .out) (record-size * c .before .loop .i) (omega (arith, numbered-length (c .before .before .before .args .k) (c .before .loop .i))) (c .before .loop .inv .1))
 
 pub put-numbers-spec : {M : Type 1} → statement M
 put-numbers-spec =
