@@ -34,8 +34,8 @@ formula-demand formula names p q f symbols e =
     lists binary64 (own-context symbols) (term f) (a .faultless) (narrow f (omega arith)) (omega (arith, path-size f))
 
 pub derivative-demand : Derivative-demand
-derivative-demand formula names s p t q d symbols e =
-    let c = derived-compiles formula names s p t q d symbols e in
+derivative-demand formula names s p l d rs symbols e =
+    let c = derived-compiles formula names s p l d rs symbols e in
     lists binary64 (generated-context symbols) (term d) (c .0) (c .2) (c .3)
 
 pub demand-3 : Demand-3

@@ -20,7 +20,8 @@ use Rattle.machine.specs.Check.{Context}
 use Rattle.machine.specs.Lower.{program}
 use Rattle.machine.specs.Machine.{Answer, Call, Reply, State, asks, fresh, gives, more, outside, refuse, refused, resume, run, spent}
 use Rattle.machine.specs.Compile.{accepted, compile, own-context}
-use Rattle.derivative.specs.Derive.{derive, derived, generated-context}
+use Rattle.derivative.specs.Records.{Record}
+use Rattle.derivative.specs.Derive.{Lengths, derive, derived, generated-context}
 
 -- ---- what an outsider knows after some calls
 
@@ -132,8 +133,8 @@ Formula-demand =
 -- "or its derivative by a named symbol where one is given"
 abbrev pub Derivative-demand : Type 0
 Derivative-demand =
-    (formula names : List ℕ) (s path-length tree-length program-length : ℕ) (d : Formula) (symbols : List Symbol)
-    → derive formula names s path-length tree-length program-length ≡ derived d symbols
+    (formula names : List ℕ) (s path-length : ℕ) (l : Lengths) (d : Formula) (rs : List Record) (symbols : List Symbol)
+    → derive formula names s path-length l ≡ derived d rs symbols
     → Lists binary64 (generated-context symbols) (term d)
 
 abbrev pub Demand-3 : Type 0

@@ -13,12 +13,12 @@ use Rattle.machine.specs.Compile as Compile
 use Rattle.layout.specs.Decode.{program-at}
 use Rattle.layout.specs.Image.{image}
 use Rattle.reader.proofs.Bytes.{Bytes}
-use Rattle.derivative.specs.Derive.{Derived, derive, derived, formula-refused, formula-refused-at}
+use Rattle.derivative.specs.Derive.{Derived, Lengths, derive, derived, formula-refused, formula-refused-at}
 use Rattle.derivative.specs.Derive as Derive
 use Rattle.compile.specs.Entry as Entry
 use Rattle.compile.specs.declared.Answer as Compiling
 use Rattle.compile.specs.declared.Answer.the-variants as Compiles
-use Rattle.derive.specs.Outcome.{Leaves}
+use Rattle.derive.specs.Outcome.{Leaves, lengths}
 use Rattle.derive.specs.Outcome as Outcome
 use Rattle.derive.specs.declared.Answer as Deriving
 use Rattle.derive.specs.declared.Answer.the-variants as Derives
@@ -26,7 +26,7 @@ use Rattle.run.specs.Views.{reply-of}
 use Rattle.run.specs.declared.Reply as Declared
 use Rattle.demand.specs.Listed.{play-at}
 use Rattle.demand.specs.Last.{Demand}
-use Rattle.demand.specs.Made.{Made, answer-of, made, make, of-compiled, of-derived, place-of, program-left, refused, refused-at, tree-left}
+use Rattle.demand.specs.Made.{Made, answer-of, made, make, of-compiled, of-derived, place-of, program-left, refused, refused-at, tree-left, list-left}
 use Rattle.demand.specs.Owed.{Owes}
 use Rattle.demand.specs.declared.Making.{Making}
 use Rattle.demand.specs.declared.Making.the-variants as Making
@@ -62,31 +62,35 @@ derived-answer : (X : Derived) → differentiating (Outcome.answer X) ≡ answer
 derived-answer (formula-refused n place) = refl
 derived-answer (formula-refused-at n k) = refl
 derived-answer (Derive.refused n place) = refl
-derived-answer (derived d ss) = refl
+derived-answer (derived d rs ss) = refl
 
 derived-place : (X : Derived) → Derive.place-of X ≡ place-of (of-derived X)
 derived-place (formula-refused n place) = refl
 derived-place (formula-refused-at n k) = refl
 derived-place (Derive.refused n place) = refl
-derived-place (derived d ss) = refl
+derived-place (derived d rs ss) = refl
 
-module _ (b l q q′ t t′ p p′ : List ℕ) where
+module _ (b names q q′ t t′ l l′ p p′ : List ℕ) where
   abbrev pub Done : Wanted → Making → Type 0
   Done w r =
-      (r ≡ answer-of (make b l w (length q) (length t) (length p))) × (q′ ≡ placed (place-of (make b l w (length q) (length t) (length p))) q)
-      × (t′ ≡ tree-left b l w (length q) t (length p)) × (p′ ≡ program-left b l w (length q) (length t) p)
+      let lens = lengths t l p in
+      (r ≡ answer-of (make b names w (length q) lens)) × (q′ ≡ placed (place-of (make b names w (length q) lens)) q)
+      × (t′ ≡ tree-left b names w (length q) lens t) × (l′ ≡ list-left b names w (length q) lens l) × (p′ ≡ program-left b names w (length q) lens p)
 
-  pub formula-done : (w : Wanted) (a : Compiling.Answer) (r : Making) → w ≡ Wanted.Formula → compiling a ≡ r → t′ ≡ t → a ≡ Entry.answer (compile b l (length q) (length p))
-      → q′ ≡ Compile.path-after (compile b l (length q) (length p)) q → p′ ≡ Compile.program-after image (compile b l (length q) (length p)) p → Done w r
-  formula-done w a r ew er et ea eq ep =
-      let X = compile b l (length q) (length p) in
-      subst (λ (v : Wanted). Done v r) (sym ew) (sym er ∙ ap compiling ea ∙ compiled-answer X, eq ∙ ap (λ (o : Option Path). placed o q) (compiled-place X), et, ep)
+  pub formula-done : (w : Wanted) (a : Compiling.Answer) (r : Making) → w ≡ Wanted.Formula → compiling a ≡ r → t′ ≡ t → l′ ≡ l
+      → a ≡ Entry.answer (compile b names (length q) (length p)) → q′ ≡ Compile.path-after (compile b names (length q) (length p)) q
+      → p′ ≡ Compile.program-after image (compile b names (length q) (length p)) p → Done w r
+  formula-done w a r ew er et el ea eq ep =
+      let X = compile b names (length q) (length p) in
+      subst (λ (v : Wanted). Done v r) (sym ew)
+      (sym er ∙ ap compiling ea ∙ compiled-answer X, eq ∙ ap (λ (o : Option Path). placed o q) (compiled-place X), et, el, ep)
 
   pub derivative-done : (w : Wanted) (s : ℕ) (a : Deriving.Answer) (r : Making) → w ≡ Wanted.Derivative s → differentiating a ≡ r
-      → Leaves (derive b l s (length q) (length t) (length p)) a q q′ t t′ p p′ → Done w r
+      → Leaves (derive b names s (length q) (lengths t l p)) a q q′ t t′ l l′ p p′ → Done w r
   derivative-done w s a r ew er L =
-      let X = derive b l s (length q) (length t) (length p) in
-      subst (λ (v : Wanted). Done v r) (sym ew) (sym er ∙ ap differentiating (L .0) ∙ derived-answer X, L .1 ∙ ap (λ (o : Option Path). placed o q) (derived-place X), L .2, L .3)
+      let X = derive b names s (length q) (lengths t l p) in
+      subst (λ (v : Wanted). Done v r) (sym ew)
+      (sym er ∙ ap differentiating (L .0) ∙ derived-answer X, L .1 ∙ ap (λ (o : Option Path). placed o q) (derived-place X), L .2, L .3, L .4)
 
 -- ---- the list of calls
 
@@ -122,12 +126,12 @@ kept (refused n place) e = absurd (let z : _≡_ {A = ℕ} 0 1 = cc in omega ari
 kept (refused-at n k) e = refl
 kept (made C f) e = refl
 
-module _ (b l : List ℕ) (bytes : Bytes b) (w : Wanted) (t : ℕ) (program program′ : List ℕ) (inputs : List Float) (rooms budgets flags : List ℕ) (values regs regs′ : List Float)
+module _ (b l : List ℕ) (bytes : Bytes b) (w : Wanted) (lens : Lengths) (program program′ : List ℕ) (inputs : List Float) (rooms budgets flags : List ℕ) (values regs regs′ : List Float)
     (path path₁ path′ : List ℕ) (reply : Declared.Reply) where
   abbrev X : Made
-  X = make b l w (length path) t (length program)
+  X = make b l w (length path) lens
 
-  owes-at : (Y : Made) → X ≡ Y → Making.Written ≡ answer-of Y → program′ ≡ program-left b l w (length path) t program
+  owes-at : (Y : Made) → X ≡ Y → Making.Written ≡ answer-of Y → program′ ≡ program-left b l w (length path) lens program
       → reply-of program′ reply regs′ ≡ play-at inputs program′ path rooms budgets flags values regs .reply
       → path′ ≡ play-at inputs program′ path rooms budgets flags values regs .path
       → Demand inputs program′ (length path) rooms budgets flags values regs (reply-of program′ reply regs′)
@@ -135,10 +139,10 @@ module _ (b l : List ℕ) (bytes : Bytes b) (w : Wanted) (t : ℕ) (program prog
   owes-at (refused n place) e a ep er eq D = absurd (let z : _≡_ {A = ℕ} 0 1 = cc in omega arith)
   owes-at (refused-at n k) e a ep er eq D = absurd (let z : _≡_ {A = ℕ} 0 1 = cc in omega arith)
   owes-at (made C f) e a ep er eq D =
-      let S = source b l bytes w (length path) t program C f e in
+      let S = source b l bytes w (length path) lens program C f e in
       (reply, refl, er, eq, λ same fins many. D C (term f) (S .0) (ap program-at ep ∙ S .1) same fins many)
 
-  pub played : (r : Making) → r ≡ answer-of X → r ≡ Making.Written → path₁ ≡ placed (place-of X) path → program′ ≡ program-left b l w (length path) t program
+  pub played : (r : Making) → r ≡ answer-of X → r ≡ Making.Written → path₁ ≡ placed (place-of X) path → program′ ≡ program-left b l w (length path) lens program
       → reply-of program′ reply regs′ ≡ play-at inputs program′ path₁ rooms budgets flags values regs .reply
       → path′ ≡ play-at inputs program′ path₁ rooms budgets flags values regs .path
       → Demand inputs program′ (length path₁) rooms budgets flags values regs (reply-of program′ reply regs′)

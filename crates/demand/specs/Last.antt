@@ -14,7 +14,8 @@ use Rattle.machine.specs.Check.{Context}
 use Rattle.machine.specs.Lower.{program}
 use Rattle.machine.specs.Machine.{Call, Reply, resume, run}
 use Rattle.machine.specs.Compile.{accepted, compile, own-context}
-use Rattle.derivative.specs.Derive.{derive, derived, generated-context}
+use Rattle.derivative.specs.Records.{Record}
+use Rattle.derivative.specs.Derive.{Lengths, derive, derived, generated-context}
 use Rattle.layout.specs.Decode.{program-at}
 use Rattle.claim.specs.Claim.{Fulfils, History, after, ready, refusal, start}
 use Rattle.demand.specs.Listed.{call-at, calls-from, first-call}
@@ -23,8 +24,8 @@ use Rattle.demand.specs.Listed.{call-at, calls-from, first-call}
 pub data Source : Context → Term → Type 0 where
   compiled : (formula names : List ℕ) (path-length program-length : ℕ) (f : Formula) (symbols : List Symbol)
       → compile formula names path-length program-length ≡ accepted f symbols → Source (own-context symbols) (term f)
-  differentiated : (formula names : List ℕ) (s path-length tree-length program-length : ℕ) (d : Formula) (symbols : List Symbol)
-      → derive formula names s path-length tree-length program-length ≡ derived d symbols → Source (generated-context symbols) (term d)
+  differentiated : (formula names : List ℕ) (s path-length : ℕ) (l : Lengths) (d : Formula) (rs : List Record) (symbols : List Symbol)
+      → derive formula names s path-length l ≡ derived d rs symbols → Source (generated-context symbols) (term d)
 
 module _ (C : Context) (inputs : List Float) (t : Term) where
   -- what is known after the run, and after some resumes more

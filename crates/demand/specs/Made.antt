@@ -2,14 +2,13 @@
 use mathlib.Core.List.{List}
 use mathlib.Core.Option.{Option, none}
 use Prim.Native.Nat.{ℕ}
-use lib.ListN.{length}
 use Rattle.formula.specs.Formula as Tree
 use Rattle.formula.specs.Path.{Path}
 use Rattle.machine.specs.Check.{Context}
 use Rattle.machine.specs.Compile.{Compiled, accepted, compile, own-context}
 use Rattle.machine.specs.Compile as Compile
 use Rattle.layout.specs.Image.{image}
-use Rattle.derivative.specs.Derive.{Derived, derive, derived, formula-refused, formula-refused-at, generated-context, tree-after}
+use Rattle.derivative.specs.Derive.{Derived, Lengths, derive, derived, formula-refused, formula-refused-at, generated-context, list-after, tree-after}
 use Rattle.derivative.specs.Derive as Derive
 use Rattle.demand.specs.declared.Making.{Making}
 use Rattle.demand.specs.declared.Making.the-variants as Making
@@ -31,7 +30,7 @@ abbrev pub of-derived : Derived → Made
 of-derived (formula-refused n place) = refused n place
 of-derived (formula-refused-at n k) = refused-at n k
 of-derived (Derive.refused n place) = refused n place
-of-derived (derived d symbols) = made (generated-context symbols) d
+of-derived (derived d rs symbols) = made (generated-context symbols) d
 
 abbrev pub answer-of : Made → Making
 answer-of (refused n place) = Making.Refused n
@@ -45,16 +44,20 @@ place-of (made C f) = none
 
 -- of formula bytes and a name line, with slices of these lengths
 module _ (formula names : List ℕ) where
-  abbrev pub make : Wanted → ℕ → ℕ → ℕ → Made
-  make Formula path tree program = of-compiled (compile formula names path program)
-  make (Derivative s) path tree program = of-derived (derive formula names s path tree program)
+  abbrev pub make : Wanted → ℕ → Lengths → Made
+  make Formula path l = of-compiled (compile formula names path (l .program))
+  make (Derivative s) path l = of-derived (derive formula names s path l)
 
   -- ---- what the slices hold after
 
-  abbrev pub tree-left : Wanted → ℕ → List ℕ → ℕ → List ℕ
-  tree-left Formula path tree program = tree
-  tree-left (Derivative s) path tree program = tree-after (derive formula names s path (length tree) program) tree
+  abbrev pub tree-left : Wanted → ℕ → Lengths → List ℕ → List ℕ
+  tree-left Formula path l tree = tree
+  tree-left (Derivative s) path l tree = tree-after (derive formula names s path l) tree
 
-  abbrev pub program-left : Wanted → ℕ → ℕ → List ℕ → List ℕ
-  program-left Formula path tree program = Compile.program-after image (compile formula names path (length program)) program
-  program-left (Derivative s) path tree program = Derive.program-after image (derive formula names s path tree (length program)) program
+  abbrev pub list-left : Wanted → ℕ → Lengths → List ℕ → List ℕ
+  list-left Formula path l list = list
+  list-left (Derivative s) path l list = list-after (derive formula names s path l) list
+
+  abbrev pub program-left : Wanted → ℕ → Lengths → List ℕ → List ℕ
+  program-left Formula path l program = Compile.program-after image (compile formula names path (l .program)) program
+  program-left (Derivative s) path l program = Derive.program-after image (derive formula names s path l) program

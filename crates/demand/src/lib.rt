@@ -4,7 +4,8 @@ pub mod calls;
 ghost use mathlib.Core.Path.{_≡_};
 ghost use lib.ListN.{length};
 ghost use Rattle.formula.specs.Path.{placed};
-ghost use Rattle.demand.specs.Made.{answer-of, make, place-of, program-left, tree-left};
+ghost use Rattle.derive.specs.Outcome.{lengths};
+ghost use Rattle.demand.specs.Made.{answer-of, list-left, make, place-of, program-left, tree-left};
 ghost use Rattle.demand.specs.Owed.{Owes};
 use calls::play;
 use compile::compile;
@@ -30,9 +31,10 @@ fn write_program(
     wanted: Wanted,
     path: &mut [u8],
     tree: &mut [u8],
+    list: &mut [u8],
     program: &mut [u8],
 ) -> Making
-    ensures { λ r. ⌜ (r ≡ answer-of (make (now (formula .entry)) (now (names .entry)) wanted (length (now (path .entry))) (length (now (tree .entry))) (length (now (program .entry))))) × (now (path .exit) ≡ placed (place-of (make (now (formula .entry)) (now (names .entry)) wanted (length (now (path .entry))) (length (now (tree .entry))) (length (now (program .entry))))) (now (path .entry))) × (now (tree .exit) ≡ tree-left (now (formula .entry)) (now (names .entry)) wanted (length (now (path .entry))) (now (tree .entry)) (length (now (program .entry)))) × (now (program .exit) ≡ program-left (now (formula .entry)) (now (names .entry)) wanted (length (now (path .entry))) (length (now (tree .entry))) (now (program .entry))) ⌝ }
+    ensures { λ r. ⌜ (r ≡ answer-of (make (now (formula .entry)) (now (names .entry)) wanted (length (now (path .entry))) (lengths (now (tree .entry)) (now (list .entry)) (now (program .entry))))) × (now (path .exit) ≡ placed (place-of (make (now (formula .entry)) (now (names .entry)) wanted (length (now (path .entry))) (lengths (now (tree .entry)) (now (list .entry)) (now (program .entry))))) (now (path .entry))) × (now (tree .exit) ≡ tree-left (now (formula .entry)) (now (names .entry)) wanted (length (now (path .entry))) (lengths (now (tree .entry)) (now (list .entry)) (now (program .entry))) (now (tree .entry))) × (now (list .exit) ≡ list-left (now (formula .entry)) (now (names .entry)) wanted (length (now (path .entry))) (lengths (now (tree .entry)) (now (list .entry)) (now (program .entry))) (now (list .entry))) × (now (program .exit) ≡ program-left (now (formula .entry)) (now (names .entry)) wanted (length (now (path .entry))) (lengths (now (tree .entry)) (now (list .entry)) (now (program .entry))) (now (program .entry))) ⌝ }
 {
     match wanted {
         Wanted::Formula => {
@@ -44,7 +46,7 @@ fn write_program(
             }
         }
         Wanted::Derivative(symbol) => {
-            let a = derive(formula, names, symbol, path, tree, program);
+            let a = derive(formula, names, symbol, path, tree, list, program);
             match a {
                 derive::Answer::Derived(_) => Making::Written,
                 derive::Answer::Refused(n) => Making::Refused(n),
@@ -67,6 +69,7 @@ pub fn make_and_play(
     names: &[u8],
     wanted: Wanted,
     tree: &mut [u8],
+    list: &mut [u8],
     program: &mut [u8],
     inputs: &[f64],
     regs: &mut [f64],
@@ -76,10 +79,10 @@ pub fn make_and_play(
     flags: &[u8],
     values: &[f64],
 ) -> Played
-    ensures written { λ r. ⌜ (now (tree .exit) ≡ tree-left (now (formula .entry)) (now (names .entry)) wanted (length (now (path .entry))) (now (tree .entry)) (length (now (program .entry)))) × (now (program .exit) ≡ program-left (now (formula .entry)) (now (names .entry)) wanted (length (now (path .entry))) (length (now (tree .entry))) (now (program .entry))) ⌝ }
-    ensures demand { λ r. ⌜ Owes (make (now (formula .entry)) (now (names .entry)) wanted (length (now (path .entry))) (length (now (tree .entry))) (length (now (program .entry)))) (now (program .exit)) (now (inputs .entry)) (now (rooms .entry)) (now (budgets .entry)) (now (flags .entry)) (now (values .entry)) (now (regs .entry)) (now (regs .exit)) (now (path .entry)) (now (path .exit)) r ⌝ }
+    ensures written { λ r. ⌜ (now (tree .exit) ≡ tree-left (now (formula .entry)) (now (names .entry)) wanted (length (now (path .entry))) (lengths (now (tree .entry)) (now (list .entry)) (now (program .entry))) (now (tree .entry))) × (now (list .exit) ≡ list-left (now (formula .entry)) (now (names .entry)) wanted (length (now (path .entry))) (lengths (now (tree .entry)) (now (list .entry)) (now (program .entry))) (now (list .entry))) × (now (program .exit) ≡ program-left (now (formula .entry)) (now (names .entry)) wanted (length (now (path .entry))) (lengths (now (tree .entry)) (now (list .entry)) (now (program .entry))) (now (program .entry))) ⌝ }
+    ensures demand { λ r. ⌜ Owes (make (now (formula .entry)) (now (names .entry)) wanted (length (now (path .entry))) (lengths (now (tree .entry)) (now (list .entry)) (now (program .entry)))) (now (program .exit)) (now (inputs .entry)) (now (rooms .entry)) (now (budgets .entry)) (now (flags .entry)) (now (values .entry)) (now (regs .entry)) (now (regs .exit)) (now (path .entry)) (now (path .exit)) r ⌝ }
 {
-    let made = write_program(formula, names, wanted, path, tree, program);
+    let made = write_program(formula, names, wanted, path, tree, list, program);
     match made {
         Making::Refused(n) => Played::Refused(n),
         Making::RefusedAt(n, k) => Played::RefusedAt(n, k),

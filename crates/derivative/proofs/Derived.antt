@@ -44,7 +44,7 @@ module _ (formula names : List ℕ) (s path-length : ℕ) (l : Lengths) where
   from-fitted : (symbols ss : List Symbol) (qs rs : List Record) (o : Option Formula) (d : Formula) → fitted l symbols qs o ≡ derived d rs ss
       → (o ≡ some d) × (symbols ≡ ss) × (derivative-limit d ≡ true) × (qs ≡ rs)
   from-fitted symbols ss qs rs none d e = absurd (let z : _≡_ {A = ℕ} 0 1 = cc in omega arith)
-  from-fitted symbols ss qs rs (some d′) d e = go (derivative-limit d′) refl (too-short l d′) e
+  from-fitted symbols ss qs rs (some d′) d e = go (derivative-limit d′) refl (too-short l (size d′)) e
     where
       go : (b : Bool) → derivative-limit d′ ≡ b → (c : Bool) → cond b (cond c (refused 1 none) (derived d′ qs symbols)) (refused 4 (some root)) ≡ derived d rs ss
           → (some d′ ≡ some d) × (symbols ≡ ss) × (derivative-limit d ≡ true) × (qs ≡ rs)
@@ -98,7 +98,7 @@ module _ (formula names : List ℕ) (s path-length : ℕ) (l : Lengths) where
 
   -- of a derivative that is there the only refusal with a place is 4
   fitted-four : (symbols : List Symbol) (rs : List Record) (d : Formula) (n : ℕ) → fitted l symbols rs (some d) ≡ refused n (some root) → n ≡ 4
-  fitted-four symbols rs d n e = go (derivative-limit d) (too-short l d) e
+  fitted-four symbols rs d n e = go (derivative-limit d) (too-short l (size d)) e
     where
       go : (b c : Bool) → cond b (cond c (refused 1 none) (derived d rs symbols)) (refused 4 (some root)) ≡ refused n (some root) → n ≡ 4
       go true true h = absurd (let z : _≡_ {A = ℕ} 0 1 = cc in omega arith)

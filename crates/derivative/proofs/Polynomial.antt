@@ -141,7 +141,7 @@ module _ (formula names : List ℕ) (s path-length : ℕ) (l : Lengths) where
         (d : Formula) × (derivative s (by-state symbols s) f ≡ some d) × (size d ≤ 8963) × (depth d ≤ 64)
         × (derive formula names s path-length l
         ≡ cond (ltb s (length symbols))
-        (cond (too-short l d) (refused slice-too-short none) (derived d (derivative-records s (by-state symbols s) f) symbols))
+        (cond (too-short l (size d)) (refused slice-too-short none) (derived d (derivative-records s (by-state symbols s) f) symbols))
         (refused unknown-symbol (some root)))
     unfolding derive
     plain-derive =
@@ -161,7 +161,7 @@ module _ (formula names : List ℕ) (s path-length : ℕ) (l : Lengths) where
         let x = plain-derive in
         let d = x .0 in
         let n : size d ≤ 8963 = x .2 in
-        let a : tree-room d ≤ l .tree = omega arith in
-        let h : list-room d ≤ l .list = omega arith in
-        let b : program-room (tree-room d) ≤ l .program = omega arith in
-        (d, x .4 ∙ rw (lt-ltb s (length symbols) k, le-ltb (l .tree) (tree-room d) a, le-ltb (l .list) (list-room d) h, le-ltb (l .program) (program-room (tree-room d)) b))
+        let a : tree-room (size d) ≤ l .tree = omega arith in
+        let h : list-room (size d) ≤ l .list = omega arith in
+        let b : program-room (tree-room (size d)) ≤ l .program = omega arith in
+        (d, x .4 ∙ rw (lt-ltb s (length symbols) k, le-ltb (l .tree) (tree-room (size d)) a, le-ltb (l .list) (list-room (size d)) h, le-ltb (l .program) (program-room (tree-room (size d))) b))

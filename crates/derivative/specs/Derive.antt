@@ -35,12 +35,12 @@ generated-context symbols = record { symbols = kinds symbols; generated = true }
 abbrev pub by-state : List Symbol → ℕ → Bool
 by-state symbols s = is-state (getD (kinds symbols) s Parameter)
 
--- the bytes that a tree takes, and its records
-abbrev pub tree-room : Formula → ℕ
-tree-room d = node-size * size d
+-- the bytes that a tree of n nodes takes, and its records
+abbrev pub tree-room : ℕ → ℕ
+tree-room n = node-size * n
 
-abbrev pub list-room : Formula → ℕ
-list-room d = record-size * size d
+abbrev pub list-room : ℕ → ℕ
+list-room n = record-size * n
 
 -- the lengths of the slices for the tree, the list of records and the program
 pub record Lengths : Type 0 where
@@ -48,13 +48,14 @@ pub record Lengths : Type 0 where
   pub list : ℕ
   pub program : ℕ
 
-abbrev pub too-short : Lengths → Formula → Bool
-too-short l d = ltb (l .tree) (tree-room d) || ltb (l .list) (list-room d) || ltb (l .program) (program-room (tree-room d))
+-- whether one of them is for a tree of n nodes
+abbrev pub too-short : Lengths → ℕ → Bool
+too-short l n = ltb (l .tree) (tree-room n) || ltb (l .list) (list-room n) || ltb (l .program) (program-room (tree-room n))
 
 abbrev pub fitted : Lengths → List Symbol → List Record → Option Formula → Derived
 fitted l symbols rs none = refused unsupported (some root)
 fitted l symbols rs (some d) =
-    cond (derivative-limit d) (cond (too-short l d) (refused slice-too-short none) (derived d rs symbols)) (refused expression-limit (some root))
+    cond (derivative-limit d) (cond (too-short l (size d)) (refused slice-too-short none) (derived d rs symbols)) (refused expression-limit (some root))
 
 abbrev pub continued : Lengths → ℕ → Compiled → Derived
 continued l s (Compile.refused n place) = formula-refused n place

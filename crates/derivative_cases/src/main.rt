@@ -82,7 +82,15 @@ fn is_right(f: &[u8], by: By, recorded: u8, wanted: &[u8], out: &mut [u8]) -> bo
     }
 }
 
-fn compare(f: &[u8], n: usize, by: By, recorded: u8, wanted: &[u8], m: usize, out: &mut [u8]) -> bool
+fn compare(
+    f: &[u8],
+    n: usize,
+    by: By,
+    recorded: u8,
+    wanted: &[u8],
+    m: usize,
+    out: &mut [u8],
+) -> bool
     requires { ⌜ (n ≤ length (now f)) × (m ≤ length (now wanted)) × (m ≤ length (now out)) ⌝ }
 {
     is_right(&f[0..n], by, recorded, &wanted[0..m], &mut out[0..m])

@@ -1,13 +1,13 @@
 -- What each end of derive's parts leaves.
 use mathlib.Core.Path.{_≡_, refl, sym, ap, ap₂, _∙_, subst}
-use mathlib.Core.Bool.{Bool, true, false}
+use mathlib.Core.Bool.{Bool, true, false, _||_}
 use mathlib.Core.List.{List, [], _∷_, _++_, map}
 use mathlib.Core.Option.{Option, none, some}
 use Prim.Native.Nat.{ℕ, zero, suc, _-_, _*_, _/_, _≤_, _<_}
 use native.Mathlib.Omega.{arith}
 use lib.ListN.{length, take, getD}
 use lib.Dec.{eqb, ltb}
-use borrow.Author.Tests.{le-ltb, lt-ltb}
+use borrow.Author.Tests.{le-ltb, lt-ltb, ltb-true, ltb-false}
 use Rattle.formula.specs.Text.{zeros}
 use Rattle.formula.specs.Operator.{Boolean, Number, ValueKind, same-kind}
 use Rattle.formula.specs.Formula.{Formula, derivative-limit, size}
@@ -26,15 +26,16 @@ use Rattle.compile.specs.declared.Lowered.{Lowered}
 use Rattle.compile.specs.declared.Lowered.the-variants as Lows
 use Rattle.compile.proofs.Entries.{listed-length}
 use Rattle.derivative.specs.Differentiate.{derivative}
-use Rattle.derivative.specs.Derive.{Derived, by-state, continued, derive, derived, fitted, formula-refused, formula-refused-at, refused}
+use Rattle.derivative.specs.Records.{Record, derivative-records, record-size}
+use Rattle.derivative.specs.Derive.{Derived, Lengths, by-state, continued, derive, derived, fitted, formula-refused, formula-refused-at, refused, too-short}
 use Rattle.derive.specs.Outcome.{Leaves}
 use Rattle.derive.specs.declared.Answer.{Answer}
 use Rattle.derive.specs.declared.Answer.the-variants as Given
 use Rattle.derive.proofs.Parts.{leaves}
 
 -- the path slice before is the one that was lent
-pub from-path : (X : Derived) (r : Answer) (q q₁ q′ t t′ p p′ : List ℕ) → q₁ ≡ q → Leaves X r q₁ q′ t t′ p p′ → Leaves X r q q′ t t′ p p′
-from-path X r q q₁ q′ t t′ p p′ e L = subst (λ (x : List ℕ). Leaves X r x q′ t t′ p p′) e L
+pub from-path : (X : Derived) (r : Answer) (q q₁ q′ t t′ l l′ p p′ : List ℕ) → q₁ ≡ q → Leaves X r q₁ q′ t t′ l l′ p p′ → Leaves X r q q′ t t′ l l′ p p′
+from-path X r q q₁ q′ t t′ l l′ p p′ e L = subst (λ (x : List ℕ). Leaves X r x q′ t t′ l l′ p p′) e L
 
 none-taken : (t : List ℕ) → take 0 t ≡ []
 none-taken [] = refl
@@ -44,56 +45,88 @@ pub all-zeroed : (t : List ℕ) → zeroed t 0 ≡ zeros (length t)
 unfolding zeroed
 all-zeroed t = let z : length t - 0 ≡ length t = omega arith in ap₂ (λ (x : List ℕ) (k : ℕ). x ++ zeros k) (none-taken t) z
 
+pub records-are : (s : ℕ) (f : Formula) (st : Bool) (ss : List Symbol) → st ≡ by-state ss s → derivative-records s st f ≡ derivative-records s (by-state ss s) f
+records-are s f st ss e = ap (λ (c : Bool). derivative-records s c f) e
+
 pub by-is : (s : ℕ) (f : Formula) (st : Bool) (ss : List Symbol) → st ≡ by-state ss s → derivative s st f ≡ derivative s (by-state ss s) f
 by-is s f st ss e = ap (λ (c : Bool). derivative s c f) e
 
+-- ---- the room for a tree of n nodes
+
+or-first : (a b : Bool) → a ≡ true → (a || b) ≡ true
+or-first a b e = rw e
+
+or-second : (a b : Bool) → b ≡ true → (a || b) ≡ true
+or-second true b e = refl
+or-second false b e = e
+
+module _ (tree list program n : ℕ) where
+  abbrev L : Lengths
+  L = record { tree = tree; list = list; program = program }
+
+  pub tree-short : tree / 16 < n → too-short L n ≡ true
+  tree-short k = rw (lt-ltb tree (node-size * n) (omega arith))
+
+  pub list-short : list / 8 < n → too-short L n ≡ true
+  list-short k =
+      let x : ltb list (record-size * n) ≡ true = lt-ltb list (record-size * n) (omega arith) in
+      or-first (ltb tree (node-size * n) || ltb list (record-size * n)) _ (or-second (ltb tree (node-size * n)) _ x)
+
+  pub program-decides : n ≤ tree / 16 → n ≤ list / 8 → ltb (program / 240) n ≡ too-short L n
+  program-decides j k =
+      let x : ltb tree (node-size * n) ≡ false = le-ltb tree (node-size * n) (omega arith) in
+      let y : ltb list (record-size * n) ≡ false = le-ltb list (record-size * n) (omega arith) in
+      go (ltb (program / 240) n) refl ∙ sym (rw (x, y))
+    where
+      go : (c : Bool) → ltb (program / 240) n ≡ c → c ≡ ltb program (program-room (node-size * n))
+      go true e = let h = ltb-true (program / 240) n e in sym (lt-ltb program (program-room (node-size * n)) (omega arith))
+      go false e = let h = ltb-false (program / 240) n e in sym (le-ltb program (program-room (node-size * n)) (omega arith))
+
+or-neither : (a b : Bool) → (a || b) ≡ false → (a ≡ false) × (b ≡ false)
+or-neither true b e = absurd (let z : _≡_ {A = ℕ} 0 1 = cc in omega arith)
+or-neither false b e = (refl, e)
+
+-- no slice is too short
+pub rooms : (l : Lengths) (n : ℕ) → too-short l n ≡ false → (node-size * n ≤ l .tree) × (record-size * n ≤ l .list) × (240 * n ≤ l .program)
+rooms l n e =
+    let x = or-neither (ltb (l .tree) (node-size * n) || ltb (l .list) (record-size * n)) _ e in
+    let y = or-neither (ltb (l .tree) (node-size * n)) _ (x .0) in
+    let z = ltb-false (l .program) (program-room (node-size * n)) (x .1) in
+    (ltb-false (l .tree) (node-size * n) (y .0), ltb-false (l .list) (record-size * n) (y .1), omega arith)
+
 -- ---- after a formula that compiles to a Number, over its symbols
 
-module _ (tree program : ℕ) (ss : List Symbol) (o : Option Formula) where
-  pub unruled : o ≡ none → fitted tree program ss o ≡ refused 8 (some root)
-  unruled e = ap (fitted tree program ss) e
+module _ (l : Lengths) (ss : List Symbol) (rs : List Record) (o : Option Formula) where
+  pub unruled : o ≡ none → fitted l ss rs o ≡ refused 8 (some root)
+  unruled e = ap (fitted l ss rs) e
 
   module _ (d : Formula) (e : o ≡ some d) where
-    pub too-large : derivative-limit d ≡ false → fitted tree program ss o ≡ refused 4 (some root)
-    too-large h = ap (fitted tree program ss) e ∙ rw h
+    pub too-large : derivative-limit d ≡ false → fitted l ss rs o ≡ refused 4 (some root)
+    too-large h = ap (fitted l ss rs) e ∙ rw h
 
     module _ (h : derivative-limit d ≡ true) where
-      pub tree-short : tree / 16 < size d → fitted tree program ss o ≡ refused 1 none
-      tree-short k =
-          let x : ltb tree (node-size * size d) ≡ true = lt-ltb tree (node-size * size d) (omega arith) in
-          ap (fitted tree program ss) e ∙ rw (h, x)
+      pub short : too-short l (size d) ≡ true → fitted l ss rs o ≡ refused 1 none
+      short k = ap (fitted l ss rs) e ∙ rw (h, k)
 
-      pub program-short : program / 240 < size d → fitted tree program ss o ≡ refused 1 none
-      program-short k =
-          let y : ltb program (program-room (node-size * size d)) ≡ true = lt-ltb program (program-room (node-size * size d)) (omega arith) in
-          ap (fitted tree program ss) e ∙ either (ltb tree (node-size * size d)) refl y
-        where
-          either : (u : Bool) → ltb tree (node-size * size d) ≡ u → ltb program (program-room (node-size * size d)) ≡ true → fitted tree program ss (some d) ≡ refused 1 none
-          either true x y = rw (h, x)
-          either false x y = rw (h, x, y)
-
-      pub long-enough : size d ≤ tree / 16 → size d ≤ program / 240 → fitted tree program ss o ≡ derived d ss
-      long-enough j k =
-          let x : ltb tree (node-size * size d) ≡ false = le-ltb tree (node-size * size d) (omega arith) in
-          let y : ltb program (program-room (node-size * size d)) ≡ false = le-ltb program (program-room (node-size * size d)) (omega arith) in
-          ap (fitted tree program ss) e ∙ rw (h, x, y)
+      pub long-enough : too-short l (size d) ≡ false → fitted l ss rs o ≡ derived d rs ss
+      long-enough k = ap (fitted l ss rs) e ∙ rw (h, k)
 
 -- ---- after a formula within the limits, over its symbols
 
-module _ (tree program s : ℕ) (f : Formula) (ss : List Symbol) where
+module _ (lens : Lengths) (s : ℕ) (f : Formula) (ss : List Symbol) where
   abbrev O : Option Fault
   O = fault (own-context ss) (term f) root
 
   abbrev X : Option Fault → Derived
-  X o = continued tree program s (lowered-or f ss o)
+  X o = continued lens s (lowered-or f ss o)
 
   module _ (l : Lowered) (q q′ : List ℕ) where
-    faulty-at : (o : Option Fault) (n : ℕ) (t p : List ℕ) → l ≡ lowered-to f o → q′ ≡ placed (fault-place o) q → l ≡ Lows.Refused n → Leaves (X o) (Given.Refused n) q q′ t t p p
-    faulty-at none n t p e k h = absurd (let z : _≡_ {A = ℕ} 0 1 = cc in omega arith)
-    faulty-at (some x) n t p e k h = let m : n ≡ x .number = cc in (ap Given.Refused m, k, refl, refl)
+    faulty-at : (o : Option Fault) (n : ℕ) (t w p : List ℕ) → l ≡ lowered-to f o → q′ ≡ placed (fault-place o) q → l ≡ Lows.Refused n → Leaves (X o) (Given.Refused n) q q′ t t w w p p
+    faulty-at none n t w p e k h = absurd (let z : _≡_ {A = ℕ} 0 1 = cc in omega arith)
+    faulty-at (some x) n t w p e k h = let m : n ≡ x .number = cc in (ap Given.Refused m, k, refl, refl, refl)
 
-    pub faulty : (n : ℕ) (t p : List ℕ) → l ≡ lowered-to f O → q′ ≡ placed (fault-place O) q → l ≡ Lows.Refused n → Leaves (X O) (Given.Refused n) q q′ t t p p
-    faulty n t p e k h = faulty-at O n t p e k h
+    pub faulty : (n : ℕ) (t w p : List ℕ) → l ≡ lowered-to f O → q′ ≡ placed (fault-place O) q → l ≡ Lows.Refused n → Leaves (X O) (Given.Refused n) q q′ t t w w p p
+    faulty n t w p e k h = faulty-at O n t w p e k h
 
     faultless-at : (o : Option Fault) (b : Bool) → l ≡ lowered-to f o → q′ ≡ placed (fault-place o) q → l ≡ Lows.Kind b → (o ≡ none) × (b ≡ same-kind (kind (term f)) Boolean) × (q′ ≡ q)
     faultless-at none b e k h = let m : b ≡ same-kind (kind (term f)) Boolean = cc in (refl, m, k)
@@ -110,7 +143,7 @@ module _ (tree program s : ℕ) (f : Formula) (ss : List Symbol) where
       pub unknown-symbol : length ss ≤ s → X O ≡ refused 6 (some root)
       unknown-symbol h = ap X e ∙ rw (k, le-ltb s (length ss) h)
 
-      pub known-symbol : s < length ss → X O ≡ fitted tree program ss (derivative s (by-state ss s) f)
+      pub known-symbol : s < length ss → X O ≡ fitted lens ss (derivative-records s (by-state ss s) f) (derivative s (by-state ss s) f)
       known-symbol h = ap X e ∙ rw (k, lt-ltb s (length ss) h)
 
 pub not-boolean : (κ : ValueKind) → same-kind κ Boolean ≡ false → κ ≡ Number
@@ -132,20 +165,21 @@ state-is K ss s e h = ap (λ (x : List ℕ). eqb (getD x s 0) 1) e ∙ ap (λ (k
 
 -- ---- after the refusals of compile
 
-module _ (b l : List ℕ) (s : ℕ) (q q′ : List ℕ) (tree program : ℕ) where
-  pub refused-first : (n : ℕ) (place : Option Path) (t p : List ℕ) → compile b l (length q) program ≡ Compile.refused n place → q′ ≡ placed place q
-      → Leaves (derive b l s (length q) tree program) (Given.Refused n) q q′ t t p p
+module _ (b names : List ℕ) (s : ℕ) (q q′ : List ℕ) (lens : Lengths) where
+  pub refused-first : (n : ℕ) (place : Option Path) (t l p : List ℕ) → compile b names (length q) (lens .program) ≡ Compile.refused n place → q′ ≡ placed place q
+      → Leaves (derive b names s (length q) lens) (Given.Refused n) q q′ t t l l p p
   unfolding derive
-  refused-first n place t p e k =
-      leaves (continued tree program s (compile b l (length q) program)) (formula-refused n place) (Given.Refused n) q q′ t t p p (ap (continued tree program s) e) (refl, k, refl, refl)
+  refused-first n place t l p e k =
+      leaves (continued lens s (compile b names (length q) (lens .program))) (formula-refused n place) (Given.Refused n) q q′ t t l l p p (ap (continued lens s) e)
+      (refl, k, refl, refl, refl)
 
-  pub goes-on : (X : Compiled) → compile b l (length q) program ≡ X → derive b l s (length q) tree program ≡ continued tree program s X
+  pub goes-on : (X : Compiled) → compile b names (length q) (lens .program) ≡ X → derive b names s (length q) lens ≡ continued lens s X
   unfolding derive
-  goes-on X e = ap (continued tree program s) e
+  goes-on X e = ap (continued lens s) e
 
-pub refused-at-node : (b l : List ℕ) (s : ℕ) (q : List ℕ) (tree program n k : ℕ) (t p : List ℕ) → compile b l (length q) program ≡ Compile.refused-at n k
-    → Leaves (derive b l s (length q) tree program) (Given.RefusedAt n k) q q t t p p
+pub refused-at-node : (b names : List ℕ) (s : ℕ) (q : List ℕ) (lens : Lengths) (n k : ℕ) (t l p : List ℕ) → compile b names (length q) (lens .program) ≡ Compile.refused-at n k
+    → Leaves (derive b names s (length q) lens) (Given.RefusedAt n k) q q t t l l p p
 unfolding derive
-refused-at-node b l s q tree program n k t p e =
-    leaves (continued tree program s (compile b l (length q) program)) (formula-refused-at n k) (Given.RefusedAt n k) q q t t p p (ap (continued tree program s) e)
-    (refl, refl, refl, refl)
+refused-at-node b names s q lens n k t l p e =
+    leaves (continued lens s (compile b names (length q) (lens .program))) (formula-refused-at n k) (Given.RefusedAt n k) q q t t l l p p (ap (continued lens s) e)
+    (refl, refl, refl, refl, refl)

@@ -23,8 +23,8 @@ use Rattle.survey.specs.declared.Found.{Found}
 use Rattle.derive.specs.Outcome.{Leaves}
 use Rattle.derive.specs.declared.Answer.{Answer}
 
-pub leaves : (X Y : Derived) (r : Answer) (q q′ t t′ p p′ : List ℕ) → X ≡ Y → Leaves Y r q q′ t t′ p p′ → Leaves X r q q′ t t′ p p′
-leaves X Y r q q′ t t′ p p′ e L = subst (λ (Z : Derived). Leaves Z r q q′ t t′ p p′) (sym e) L
+pub leaves : (X Y : Derived) (r : Answer) (q q′ t t′ l l′ p p′ : List ℕ) → X ≡ Y → Leaves Y r q q′ t t′ l l′ p p′ → Leaves X r q q′ t t′ l l′ p p′
+leaves X Y r q q′ t t′ l l′ p p′ e L = subst (λ (Z : Derived). Leaves Z r q q′ t t′ l l′ p p′) (sym e) L
 
 -- ---- what the survey found
 

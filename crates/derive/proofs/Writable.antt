@@ -15,7 +15,7 @@ use Rattle.formula.specs.Operator.{Operation, unary, binary, compare, call, Pos
 use Rattle.formula.specs.Formula.{Head, number, truth, symbol, operation, junction, ifelse, conditional, malformed, Formula, Formulas, node, last, next, of-list, to-list, count, depends}
 use Rattle.reader.specs.Writable.{writable, all-writable, writable-head}
 use Rattle.formula.proofs.Tests.{and-both, and-first, and-second}
-use Rattle.derivative.specs.Rules.{Parts, Rule, Rules, child, whole, diff, make, add, mul, unless-zero, end, _and_, instance, instances, zero-bits, one-bits, less-one, power, power-rule, binary-rule, branch-rule, extremum-from, extremum-rule, call-rule, operation-rule, rule-of}
+use Rattle.derivative.specs.Rules.{Parts, Rule, Rules, child, whole, diff, make, add, mul, unless-zero, zeroth, end, _and_, instance, instances, zero-bits, one-bits, less-one, power, power-rule, binary-rule, branch-rule, extremum-from, extremum-rule, call-rule, operation-rule, rule-of}
 use Rattle.derivative.specs.Differentiate.{formulas, literal-bits, second-literal, and-then, applied, the-rule, differentiate, differentiate-all, with-primal, binary-node, derivative}
 use Rattle.derivative.proofs.Compiles.{and-then-some}
 
@@ -35,6 +35,7 @@ abbrev mutual
   fitting (add a b) = fitting a && fitting b
   fitting (mul a b) = fitting a && fitting b
   fitting (unless-zero i r) = fitting r
+  fitting zeroth = true
 
   all-fitting : Rules → Bool
   all-fitting end = true
@@ -93,6 +94,7 @@ module _ (e : Parts Formula) (own : writable (e .own) ≡ true) (children : All 
         (chosen (formulas .is-one x) y _ q (chosen (formulas .is-one y) x _ p (pair Multiply x y p q)))
     written (unless-zero i r) h =
         chosen (formulas .is-zero (getD (e .diffs) i (node (number 0) last))) (node (number 0) last) (instance formulas e r) refl (written r h)
+    written zeroth h = refl
 
     written-all : (rs : Rules) → all-fitting rs ≡ true → All (instances formulas e rs)
     written-all end h = tt
@@ -111,7 +113,7 @@ less-one-fits n = lt-ltb _ 18446744073709551616 (toBits-lt binary64 _ (sub-fits 
 power-fits : (n : ℕ) → ltb n 18446744073709551616 ≡ true → fitting (power (child 0) n) ≡ true
 power-fits n h = go (one-bits n) (zero-bits n)
   where
-    go : (a b : Bool) → fitting (cond a (child 0) (cond b (make (number 0x3ff0000000000000) end) (make (operation (binary Power)) (child 0 and make (number n) end and end)))) ≡ true
+    go : (a b : Bool) → fitting (cond a (child 0) (cond b zeroth (make (operation (binary Power)) (child 0 and make (number n) end and end)))) ≡ true
     go true b = refl
     go false true = refl
     go false false = rw h

@@ -30,7 +30,9 @@ use Rattle.lower.specs.Piece.{context-of}
 use Rattle.compile.specs.Outcome.{Fits, fault-place, slice-after}
 use Rattle.compile.proofs.Entries.{few, same-context}
 use Rattle.derivative.specs.Differentiate.{derivative}
+use Rattle.derivative.specs.Records.{derivative-records, list-bytes, record-size}
 use Rattle.derivative.specs.Derive.{by-state, generated-context}
+use Rattle.derivative.proofs.Erased.{derivative-records-length, list-bytes-length}
 use Rattle.derivative.proofs.Compiles.{derivative-compiles}
 use Rattle.derivative.proofs.Paths.{derivative-paths}
 use Rattle.survey.specs.Table.{tree}
@@ -46,12 +48,33 @@ held-writable b f bytes e =
     let i = formula-in b f (depth f) e (le-refl (depth f)) in
     sym (ap writable (i .0)) ∙ writable-tree b bytes (depth f) 0 (ap well-formed (i .0) ∙ i .1)
 
+-- what is written at the start of a slice, zero after it
+module _ (x t t₁ t₂ : List ℕ) (n : ℕ) (room : length x ≤ length t) (W : Writes x t t₁ n) (e : t₂ ≡ zeroed t₁ n) where
+  pub same-long : length t₁ ≡ length t
+  same-long = ap length (W .held) ∙ length-append x (drop (length x) t) ∙ omega (arith, length-drop (length x) t)
+
+  pub written-inside : n ≤ length t₁
+  written-inside = omega (arith, W .count, same-long)
+
+  pub filled-with : t₂ ≡ filled x t
+  unfolding zeroed
+  filled-with =
+      let z : length t₁ - n ≡ length t - length x = omega (arith, same-long, W .count) in
+      e ∙ ap₂ (λ (y : List ℕ) (k : ℕ). y ++ zeros k) (ap (take n) (W .held) ∙ take-at x (drop (length x) t) n (sym (W .count))) z
+
 module _ (b K : List ℕ) (s : ℕ) (st : Bool) (program : ℕ) (f : Formula) (ss : List Symbol) (d : Formula) (D : Derives b K s st program f ss d) where
   G : Formed b K f ss
   G = D .given .given
 
   pub derives-tree : derivative s st (tree b 0) ≡ some d
   derives-tree = ap₂ (λ (c : Bool) (g : Formula). derivative s c g) (D .given .is-state) (tree-is b f (G .formed) (G .limit)) ∙ D .derives
+
+  pub derives-records : derivative-records s st (tree b 0) ≡ derivative-records s (by-state ss s) f
+  derives-records = ap₂ (λ (c : Bool) (g : Formula). derivative-records s c g) (D .given .is-state) (tree-is b f (G .formed) (G .limit))
+
+  -- the room for the records
+  pub records-room : (n : ℕ) → record-size * size d ≤ n → length (list-bytes (derivative-records s st (tree b 0))) ≤ n
+  records-room n h = omega (arith, list-bytes-length (derivative-records s st (tree b 0)), derivative-records-length s st (tree b 0) d derives-tree)
 
   few-nodes : size d ≤ 16384
   few-nodes = leb-true (size d) 16384 (and-first (leb (size d) 16384) (leb (depth d) 128) (D .limit))
@@ -70,20 +93,14 @@ module _ (b K : List ℕ) (s : ℕ) (st : Bool) (program : ℕ) (f : Formula) (s
       n-is : n ≡ node-size * size d
       n-is = W .count ∙ encode-length d
 
-      long : length t₁ ≡ length t
-      long = ap length (W .held) ∙ length-append (encode d) (drop l t) ∙ omega (arith, length-drop l t, encode-length d)
+      fits-in : l ≤ length t
+      fits-in = omega (arith, encode-length d)
 
       pub inside-first : n ≤ length t₁
-      inside-first = omega (arith, n-is, long)
-
-      taken : take n t₁ ≡ encode d
-      taken = ap (take n) (W .held) ∙ take-at (encode d) (drop l t) n (sym (W .count))
+      inside-first = written-inside (encode d) t t₁ t₂ n fits-in W e
 
       pub tree-filled : t₂ ≡ filled (encode d) t
-      unfolding zeroed
-      tree-filled =
-          let z : length t₁ - n ≡ length t - l = omega (arith, long, W .count) in
-          e ∙ ap₂ (λ (x : List ℕ) (k : ℕ). x ++ zeros k) taken z
+      tree-filled = filled-with (encode d) t t₁ t₂ n fits-in W e
 
       pub first-part : take n t₂ ≡ encode d
       first-part = ap (take n) tree-filled ∙ take-at (encode d) (zeros (length t - l)) n (sym (W .count))

@@ -14,7 +14,7 @@ use Rattle.machine.specs.Check.{fault, kind}
 use Rattle.machine.specs.Compile.{own-context}
 use Rattle.layout.specs.Image.{image}
 use Rattle.derivative.specs.Differentiate.{derivative}
-use Rattle.derivative.specs.Derive.{Derived, by-state, derived, formula-refused, formula-refused-at, path-after, program-after, refused, tree-after}
+use Rattle.derivative.specs.Derive.{Derived, Lengths, by-state, derived, formula-refused, formula-refused-at, list-after, path-after, program-after, refused, tree-after}
 use Rattle.compile.specs.Preparation.{Formed}
 use Rattle.derive.specs.declared.Answer.{Answer}
 use Rattle.derive.specs.declared.Answer.the-variants as Given
@@ -23,11 +23,16 @@ abbrev pub answer : Derived → Answer
 answer (formula-refused n place) = Given.Refused n
 answer (formula-refused-at n k) = Given.RefusedAt n k
 answer (refused n place) = Given.Refused n
-answer (derived d symbols) = Given.Derived (size d)
+answer (derived d rs symbols) = Given.Derived (size d)
 
--- the answer, and the path, tree and program slices before and after
-abbrev pub Leaves : Derived → Answer → List ℕ → List ℕ → List ℕ → List ℕ → List ℕ → List ℕ → Type 0
-Leaves X r q q′ t t′ p p′ = (r ≡ answer X) × (q′ ≡ path-after X q) × (t′ ≡ tree-after X t) × (p′ ≡ program-after image X p)
+-- the lengths of the tree, list and program slices
+abbrev pub lengths : List ℕ → List ℕ → List ℕ → Lengths
+lengths t l p = record { tree = length t; list = length l; program = length p }
+
+-- the answer, and the path, tree, list and program slices before and after
+abbrev pub Leaves : Derived → Answer → List ℕ → List ℕ → List ℕ → List ℕ → List ℕ → List ℕ → List ℕ → List ℕ → Type 0
+Leaves X r q q′ t t′ l l′ p p′ =
+    (r ≡ answer X) × (q′ ≡ path-after X q) × (t′ ≡ tree-after X t) × (l′ ≡ list-after X l) × (p′ ≡ program-after image X p)
 
 -- ---- what the parts are given
 

@@ -56,7 +56,6 @@ module _ (f T : List ℕ) (k : ℕ) (o : Owned f T k) where
   pub tree-fits : (out : List ℕ) → length (encode (tree f k)) ≤ length out → node-size * getD T (8 * k) 0 ≤ length out
   tree-fits out h = omega (arith, own-row f T k o .nodes, encode-length (tree f k))
 
-
 -- ---- a node or its record
 
 pub start-record : (m : Bool) (r : Record) (b : List ℕ) → m ≡ true → record-bytes r ≡ start m r b

@@ -96,7 +96,7 @@ abbrev run-derived : List Float → Float → Derived → ℕ × Answer × Answe
 run-derived inputs x (Derived.formula-refused n place) = (0, refused n, refused n)
 run-derived inputs x (Derived.formula-refused-at n k) = (0, refused n, refused n)
 run-derived inputs x (Derived.refused n place) = (0, refused n, refused n)
-run-derived inputs x (derived d symbols) =
+run-derived inputs x (derived d rs symbols) =
     let P = program (generated-context symbols) (term d) in
     let r = run binary64 inputs P (record { room = path-room; budget = 100; given = none }) (zeroed P) in
     let s = resume binary64 inputs P (record { room = path-room; budget = 100; given = some x }) (r .state) (r .registers) in
@@ -118,7 +118,7 @@ branching = node conditional (of-list (node (operation (compare Lt)) (of-list (s
 pub flights :
     (legs (some (encode flight)) input
     ≡ ascii "no,answer,detail,steps\n1,value,4085900000000000,9\n2,domain,root.arguments[1],7\ntotal,1,1,0,0,16\n")
-    × (run-derived flight-inputs (float 0x40e3880000000000) (derive (encode flight) name-line 2 path-room room room)
+    × (run-derived flight-inputs (float 0x40e3880000000000) (derive (encode flight) name-line 2 path-room (record { tree = room; list = room; program = room }))
     ≡ (23, asks (power (float 0x4069000000000000) (float 2e0)), gives (float 0x3ff8000000000000)))
     × (closed (of2 Modulo (lit 0xbff0000000000000) (lit 3e0)) ≡ (gives (float 2e0), 3))
     × (closed (of2 Modulo (lit 0xbbc79ca10c924223) (lit 3e0)) ≡ (gives (float 0), 3))

@@ -21,7 +21,8 @@ use Rattle.machine.proofs.Size.{longest-path, narrow}
 use Rattle.reader.proofs.Heads.{and-first}
 use Rattle.compile.proofs.Faults.{near}
 use Rattle.derivative.specs.Differentiate.{derivative}
-use Rattle.derivative.specs.Derive.{Derived, by-state, continued, derive, derived, fitted, formula-refused, formula-refused-at, tree-room}
+use Rattle.derivative.specs.Records.{Record, derivative-records}
+use Rattle.derivative.specs.Derive.{Derived, Lengths, by-state, continued, derive, derived, fitted, formula-refused, formula-refused-at, too-short}
 use Rattle.derivative.specs.Derive as Derive
 use Rattle.demand.specs.Made.{Made, made, make, of-compiled, of-derived, refused, refused-at}
 use Rattle.demand.specs.declared.Wanted.{Wanted}
@@ -68,27 +69,26 @@ abbrev Later : Derived → Type 0
 Later (formula-refused n place) = 0 < n
 Later (formula-refused-at n k) = 0 < n
 Later (Derive.refused n place) = 0 < n
-Later (derived d ss) = Unit {0}
+Later (derived d rs ss) = Unit {0}
 
 either : (b : Bool) (X Y : Derived) → Later X → Later Y → Later (cond b X Y)
 either true X Y h k = h
 either false X Y h k = k
 
-fitted-positive : (t q : ℕ) (ss : List Symbol) (d : Option Formula) → Later (fitted t q ss d)
-fitted-positive t q ss none = omega arith
-fitted-positive t q ss (some d) =
-    either (derivative-limit d) _ _ (either (ltb t (tree-room d) || ltb q (program-room (tree-room d))) _ _ (omega arith) tt) (omega arith)
+fitted-positive : (l : Lengths) (ss : List Symbol) (rs : List Record) (d : Option Formula) → Later (fitted l ss rs d)
+fitted-positive l ss rs none = omega arith
+fitted-positive l ss rs (some d) = either (derivative-limit d) _ _ (either (too-short l (size d)) _ _ (omega arith) tt) (omega arith)
 
-continued-positive : (t q s : ℕ) (X : Compiled) → Positive X → Later (continued t q s X)
-continued-positive t q s (Compile.refused n place) h = h
-continued-positive t q s (Compile.refused-at n k) h = h
-continued-positive t q s (accepted f ss) h =
+continued-positive : (l : Lengths) (s : ℕ) (X : Compiled) → Positive X → Later (continued l s X)
+continued-positive l s (Compile.refused n place) h = h
+continued-positive l s (Compile.refused-at n k) h = h
+continued-positive l s (accepted f ss) h =
     either (same-kind (kind (term f)) Boolean) _ _ (omega arith)
-    (either (ltb s (length ss)) _ _ (fitted-positive t q ss (derivative s (by-state ss s) f)) (omega arith))
+    (either (ltb s (length ss)) _ _ (fitted-positive l ss (derivative-records s (by-state ss s) f) (derivative s (by-state ss s) f)) (omega arith))
 
-derive-positive : (formula names : List ℕ) (s p t q : ℕ) → Later (derive formula names s p t q)
+derive-positive : (formula names : List ℕ) (s p : ℕ) (l : Lengths) → Later (derive formula names s p l)
 unfolding derive
-derive-positive formula names s p t q = continued-positive t q s (compile formula names p q) (compile-positive formula names p q)
+derive-positive formula names s p l = continued-positive l s (compile formula names p (l .program)) (compile-positive formula names p (l .program))
 
 -- ---- either
 
@@ -106,8 +106,8 @@ of-derive : (X : Derived) → Later X → Told (of-derived X)
 of-derive (formula-refused n place) h = h
 of-derive (formula-refused-at n k) h = h
 of-derive (Derive.refused n place) h = h
-of-derive (derived d ss) h = tt
+of-derive (derived d rs ss) h = tt
 
-pub told : (formula names : List ℕ) (w : Wanted) (p t q : ℕ) → Told (make formula names w p t q)
-told formula names Wanted.Formula p t q = of-compile (compile formula names p q) (compile-positive formula names p q)
-told formula names (Wanted.Derivative s) p t q = of-derive (derive formula names s p t q) (derive-positive formula names s p t q)
+pub told : (formula names : List ℕ) (w : Wanted) (p : ℕ) (l : Lengths) → Told (make formula names w p l)
+told formula names Wanted.Formula p l = of-compile (compile formula names p (l .program)) (compile-positive formula names p (l .program))
+told formula names (Wanted.Derivative s) p l = of-derive (derive formula names s p l) (derive-positive formula names s p l)

@@ -19,13 +19,14 @@ use Rattle.machine.specs.Compile as Compile
 use Rattle.layout.specs.Decode.{program-at}
 use Rattle.layout.specs.Image.{image}
 use Rattle.reader.proofs.Bytes.{Bytes}
-use Rattle.derivative.specs.Derive.{Derived, derive, derived, formula-refused, formula-refused-at}
+use Rattle.derivative.specs.Derive.{Derived, Lengths, derive, derived, formula-refused, formula-refused-at}
 use Rattle.derivative.specs.Derive as Derive
 use Rattle.compile.specs.Entry as Entry
+use Rattle.derive.specs.Outcome.{lengths}
 use Rattle.derive.specs.Outcome as Entered
 use Rattle.demand.specs.Listed.{play-at}
 use Rattle.demand.proofs.Lasts.{demand}
-use Rattle.demand.specs.Made.{Made, made, make, of-compiled, of-derived, place-of, program-left, refused, refused-at, tree-left}
+use Rattle.demand.specs.Made.{Made, made, make, of-compiled, of-derived, place-of, program-left, refused, refused-at, tree-left, list-left}
 use Rattle.demand.specs.declared.Wanted as Making
 use Rattle.demand.proofs.Sources.{source}
 use Rattle.vebrostin.specs.Calls.{Compiles, Derives, Leaves, Outcome, compile-node, compile-number, compile-outcome, derive-node, derive-number, derive-outcome, node-place, report-length, report-short, reported, short, with-room}
@@ -53,13 +54,13 @@ derived-number : (X : Derived) → derive-number (Entered.answer X) ≡ made-num
 derived-number (formula-refused n place) = refl
 derived-number (formula-refused-at n k) = refl
 derived-number (Derive.refused n place) = refl
-derived-number (derived d ss) = refl
+derived-number (derived d rs ss) = refl
 
 derived-place : (X : Derived) → Derive.place-of X ≡ place-of (of-derived X)
 derived-place (formula-refused n place) = refl
 derived-place (formula-refused-at n k) = refl
 derived-place (Derive.refused n place) = refl
-derived-place (derived d ss) = refl
+derived-place (derived d rs ss) = refl
 
 compiled-node : (X : Compiled) → compile-node (Entry.answer X) ≡ made-node (of-compiled X)
 compiled-node (Compile.refused n place) = refl
@@ -70,7 +71,7 @@ derived-node : (X : Derived) → derive-node (Entered.answer X) ≡ made-node (o
 derived-node (formula-refused n place) = refl
 derived-node (formula-refused-at n k) = refl
 derived-node (Derive.refused n place) = refl
-derived-node (derived d ss) = refl
+derived-node (derived d rs ss) = refl
 
 asked-compiled : (few : Bool) (X : Compiled)
     → of-compiled (with-room few (Compile.refused slice-too-short none) X) ≡ with-room few (refused slice-too-short none) (of-compiled X)
@@ -97,39 +98,48 @@ derived-tree : (few : Bool) (X : Derived) (t : List ℕ)
 derived-tree true X t = refl
 derived-tree false X t = refl
 
+derived-list : (few : Bool) (X : Derived) (l : List ℕ)
+    → Derive.list-after (with-room few (formula-refused slice-too-short none) X) l ≡ with-room few l (Derive.list-after X l)
+derived-list true X l = refl
+derived-list false X l = refl
+
 as-it-was : (few : Bool) (t : List ℕ) → t ≡ with-room few t t
 as-it-was true t = refl
 as-it-was false t = refl
 
-module _ (b l q q′ t t′ p p′ u u′ : List ℕ) (number : ℕ) where
+module _ (b names q q′ t t′ l l′ p p′ u u′ : List ℕ) (number : ℕ) where
   abbrev few : Bool
   few = report-short u
 
+  abbrev lens : Lengths
+  lens = lengths t l p
+
   abbrev pub Done : Wanted → Type 0
   Done w =
-      (Makes (asked u (make b l (wanted-of w) (length q) (length t) (length p))) number q q′ × (u′ ≡ reported (made-node (asked u (make b l (wanted-of w) (length q) (length t) (length p)))) u))
-      × ((t′ ≡ with-room few t (tree-left b l (wanted-of w) (length q) t (length p)))
-      × (p′ ≡ with-room few p (program-left b l (wanted-of w) (length q) (length t) p)))
+      let X = asked u (make b names (wanted-of w) (length q) lens) in
+      (Makes X number q q′ × (u′ ≡ reported (made-node X) u))
+      × ((t′ ≡ with-room few t (tree-left b names (wanted-of w) (length q) lens t))
+      × (l′ ≡ with-room few l (list-left b names (wanted-of w) (length q) lens l))
+      × (p′ ≡ with-room few p (program-left b names (wanted-of w) (length q) lens p)))
 
-  pub formula-done : (w : Wanted) → w ≡ Wanted.Formula → t′ ≡ t → Compiles (compile-outcome b l (length q) (length p) u) number q q′ p p′ u u′ → Done w
-  formula-done w ew et h =
-      let X = compile-outcome b l (length q) (length p) u in
-      let C = compile b l (length q) (length p) in
+  pub formula-done : (w : Wanted) → w ≡ Wanted.Formula → t′ ≡ t → l′ ≡ l → Compiles (compile-outcome b names (length q) (length p) u) number q q′ p p′ u u′ → Done w
+  formula-done w ew et el h =
+      let X = compile-outcome b names (length q) (length p) u in
+      let C = compile b names (length q) (length p) in
       let e : of-compiled X ≡ asked u (of-compiled C) = asked-compiled few C in
       subst (λ (v : Wanted). Done v) (sym ew) (
         ((h .0 ∙ compiled-number X ∙ ap made-number e, h .1 ∙ ap (λ (o : Option Path). placed o q) (compiled-place X ∙ ap place-of e)), h .3 ∙ ap (λ (k : ℕ). reported k u) (compiled-node X ∙ ap made-node e)),
-        (et ∙ as-it-was few t, h .2 ∙ compiled-program few C p),
+        (et ∙ as-it-was few t, el ∙ as-it-was few l, h .2 ∙ compiled-program few C p),
       )
 
-  pub derivative-done : (w : Wanted) (s : ℕ) → w ≡ Wanted.Derivative s
-      → Derives (derive-outcome b l s (length q) (length t) (length p) u) number q q′ t t′ p p′ u u′ → Done w
+  pub derivative-done : (w : Wanted) (s : ℕ) → w ≡ Wanted.Derivative s → Derives (derive-outcome b names s (length q) lens u) number q q′ t t′ l l′ p p′ u u′ → Done w
   derivative-done w s ew h =
-      let X = derive-outcome b l s (length q) (length t) (length p) u in
-      let D = derive b l s (length q) (length t) (length p) in
+      let X = derive-outcome b names s (length q) lens u in
+      let D = derive b names s (length q) lens in
       let e : of-derived X ≡ asked u (of-derived D) = asked-derived few D in
       subst (λ (v : Wanted). Done v) (sym ew) (
-        ((h .0 ∙ derived-number X ∙ ap made-number e, h .1 ∙ ap (λ (o : Option Path). placed o q) (derived-place X ∙ ap place-of e)), h .4 ∙ ap (λ (k : ℕ). reported k u) (derived-node X ∙ ap made-node e)),
-        (h .2 ∙ derived-tree few D t, h .3 ∙ derived-program few D p),
+        ((h .0 ∙ derived-number X ∙ ap made-number e, h .1 ∙ ap (λ (o : Option Path). placed o q) (derived-place X ∙ ap place-of e)), h .5 ∙ ap (λ (k : ℕ). reported k u) (derived-node X ∙ ap made-node e)),
+        (h .2 ∙ derived-tree few D t, h .3 ∙ derived-list few D l, h .4 ∙ derived-program few D p),
       )
 
 -- ---- a refusal
@@ -178,15 +188,15 @@ enough-cells : (few : Bool) (n : ℕ) → few ≡ false → 16 ≤ n → (few ||
 enough-cells true n e h = e
 enough-cells false n e h = le-ltb n 16 h
 
-module _ (b l : List ℕ) (bytes : Bytes b) (w : Making.Wanted) (t : ℕ) (program program′ : List ℕ) (inputs : List Float) (rooms budgets flags : List ℕ) (values regs regs′ : List Float)
+module _ (b l : List ℕ) (bytes : Bytes b) (w : Making.Wanted) (lens : Lengths) (program program′ : List ℕ) (inputs : List Float) (rooms budgets flags : List ℕ) (values regs regs′ : List Float)
     (path path₁ path′ cells cells′ report report₁ report′ : List ℕ) (number : ℕ) where
   abbrev X : Made
-  X = make b l w (length path) t (length program)
+  X = make b l w (length path) lens
 
   X-told : Told (asked report X)
-  X-told = told-asked (report-short report) X (told b l w (length path) t (length program))
+  X-told = told-asked (report-short report) X (told b l w (length path) lens)
 
-  owes-at : (Y : Made) → asked report X ≡ Y → Told Y → 0 ≡ made-number Y → program′ ≡ with-room (report-short report) program (program-left b l w (length path) t program)
+  owes-at : (Y : Made) → asked report X ≡ Y → Told Y → 0 ≡ made-number Y → program′ ≡ with-room (report-short report) program (program-left b l w (length path) lens program)
       → Leaves (host-at inputs program′ cells path (reported 0 report) rooms budgets flags values regs) number cells′ regs′ path′ report′
       → (short cells (reported 0 report) ≡ false → Follows (play-at inputs program′ path rooms budgets flags values regs) number cells′ regs′ path′)
       → Owes Y program′ inputs rooms budgets flags values regs regs′ path path′ cells cells′ report report′ number
@@ -194,8 +204,8 @@ module _ (b l : List ℕ) (bytes : Bytes b) (w : Making.Wanted) (t : ℕ) (progr
   owes-at (refused-at n k) e z a ep h f = absurd (omega arith)
   owes-at (made C g) e z a ep h f =
       let m = made-asked (report-short report) X C g e in
-      let S = source b l bytes w (length path) t program C g (m .1) in
-      let same-program : program′ ≡ program-left b l w (length path) t program = ep ∙ sym (roomy (report-short report) program _ (m .0)) in (
+      let S = source b l bytes w (length path) lens program C g (m .1) in
+      let same-program : program′ ≡ program-left b l w (length path) lens program = ep ∙ sym (roomy (report-short report) program _ (m .0)) in (
         h,
         λ few. subst (λ (o : Outcome). Leaves o number cells′ regs′ path′ report′)
             (host-short inputs program′ regs cells path (reported 0 report) (same-short cells report 0 ∙ few-cells (report-short report) (length cells) few) rooms budgets flags values) h,
@@ -206,7 +216,7 @@ module _ (b l : List ℕ) (bytes : Bytes b) (w : Making.Wanted) (t : ℕ) (progr
       )
 
   pub called : (refusal : ℕ) → refusal ≡ 0 → Makes (asked report X) refusal path path₁ → report₁ ≡ reported (made-node (asked report X)) report
-      → program′ ≡ with-room (report-short report) program (program-left b l w (length path) t program)
+      → program′ ≡ with-room (report-short report) program (program-left b l w (length path) lens program)
       → Leaves (host-at inputs program′ cells path₁ report₁ rooms budgets flags values regs) number cells′ regs′ path′ report′
       → (short cells report₁ ≡ false → Follows (play-at inputs program′ path₁ rooms budgets flags values regs) number cells′ regs′ path′)
       → Owes (asked report X) program′ inputs rooms budgets flags values regs regs′ path path′ cells cells′ report report′ number

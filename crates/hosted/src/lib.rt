@@ -4,8 +4,9 @@ ghost use mathlib.Core.Bool.{false};
 ghost use lib.ListN.{length};
 ghost use Rattle.run.specs.Calls.{resume-at};
 ghost use Rattle.run.specs.Views.{supplied-of};
+ghost use Rattle.derive.specs.Outcome.{lengths};
 ghost use Rattle.demand.specs.Listed.{play-at};
-ghost use Rattle.demand.specs.Made.{make, program-left, tree-left};
+ghost use Rattle.demand.specs.Made.{list-left, make, program-left, tree-left};
 ghost use Rattle.vebrostin.specs.Cells.{state-in};
 ghost use Rattle.vebrostin.specs.Calls.{Carries, Leaves, report-short, reported, resume-outcome, short, with-room};
 ghost use Rattle.hosted.specs.Hosted.{asked, host-at, made-node, wanted-of};
@@ -33,16 +34,17 @@ fn write_program(
     wanted: Wanted,
     path: &mut [u8],
     tree: &mut [u8],
+    list: &mut [u8],
     program: &mut [u8],
     report: &mut [u64],
 ) -> usize
-    ensures made { λ r. ⌜ Makes (asked (now (report .entry)) (make (now (formula .entry)) (now (names .entry)) (wanted-of wanted) (length (now (path .entry))) (length (now (tree .entry))) (length (now (program .entry))))) r (now (path .entry)) (now (path .exit)) × (now (report .exit) ≡ reported (made-node (asked (now (report .entry)) (make (now (formula .entry)) (now (names .entry)) (wanted-of wanted) (length (now (path .entry))) (length (now (tree .entry))) (length (now (program .entry)))))) (now (report .entry))) ⌝ }
-    ensures written { λ r. ⌜ (now (tree .exit) ≡ with-room (report-short (now (report .entry))) (now (tree .entry)) (tree-left (now (formula .entry)) (now (names .entry)) (wanted-of wanted) (length (now (path .entry))) (now (tree .entry)) (length (now (program .entry))))) × (now (program .exit) ≡ with-room (report-short (now (report .entry))) (now (program .entry)) (program-left (now (formula .entry)) (now (names .entry)) (wanted-of wanted) (length (now (path .entry))) (length (now (tree .entry))) (now (program .entry)))) ⌝ }
+    ensures made { λ r. ⌜ Makes (asked (now (report .entry)) (make (now (formula .entry)) (now (names .entry)) (wanted-of wanted) (length (now (path .entry))) (lengths (now (tree .entry)) (now (list .entry)) (now (program .entry))))) r (now (path .entry)) (now (path .exit)) × (now (report .exit) ≡ reported (made-node (asked (now (report .entry)) (make (now (formula .entry)) (now (names .entry)) (wanted-of wanted) (length (now (path .entry))) (lengths (now (tree .entry)) (now (list .entry)) (now (program .entry)))))) (now (report .entry))) ⌝ }
+    ensures written { λ r. ⌜ (now (tree .exit) ≡ with-room (report-short (now (report .entry))) (now (tree .entry)) (tree-left (now (formula .entry)) (now (names .entry)) (wanted-of wanted) (length (now (path .entry))) (lengths (now (tree .entry)) (now (list .entry)) (now (program .entry))) (now (tree .entry)))) × (now (list .exit) ≡ with-room (report-short (now (report .entry))) (now (list .entry)) (list-left (now (formula .entry)) (now (names .entry)) (wanted-of wanted) (length (now (path .entry))) (lengths (now (tree .entry)) (now (list .entry)) (now (program .entry))) (now (list .entry)))) × (now (program .exit) ≡ with-room (report-short (now (report .entry))) (now (program .entry)) (program-left (now (formula .entry)) (now (names .entry)) (wanted-of wanted) (length (now (path .entry))) (lengths (now (tree .entry)) (now (list .entry)) (now (program .entry))) (now (program .entry)))) ⌝ }
 {
     match wanted {
         Wanted::Formula => vebrostin_compile(formula, names, path, program, report),
         Wanted::Derivative(symbol) => {
-            vebrostin_derive(formula, names, symbol, path, tree, program, report)
+            vebrostin_derive(formula, names, symbol, path, tree, list, program, report)
         }
     }
 }
@@ -140,6 +142,7 @@ pub fn make_and_call(
     names: &[u8],
     wanted: Wanted,
     tree: &mut [u8],
+    list: &mut [u8],
     program: &mut [u8],
     inputs: &[f64],
     registers: &mut [f64],
@@ -151,10 +154,10 @@ pub fn make_and_call(
     cells: &mut [u64],
     report: &mut [u64],
 ) -> usize
-    ensures written { λ r. ⌜ (now (tree .exit) ≡ with-room (report-short (now (report .entry))) (now (tree .entry)) (tree-left (now (formula .entry)) (now (names .entry)) (wanted-of wanted) (length (now (path .entry))) (now (tree .entry)) (length (now (program .entry))))) × (now (program .exit) ≡ with-room (report-short (now (report .entry))) (now (program .entry)) (program-left (now (formula .entry)) (now (names .entry)) (wanted-of wanted) (length (now (path .entry))) (length (now (tree .entry))) (now (program .entry)))) ⌝ }
-    ensures demand { λ r. ⌜ Owes (asked (now (report .entry)) (make (now (formula .entry)) (now (names .entry)) (wanted-of wanted) (length (now (path .entry))) (length (now (tree .entry))) (length (now (program .entry))))) (now (program .exit)) (now (inputs .entry)) (now (rooms .entry)) (now (budgets .entry)) (now (flags .entry)) (now (values .entry)) (now (registers .entry)) (now (registers .exit)) (now (path .entry)) (now (path .exit)) (now (cells .entry)) (now (cells .exit)) (now (report .entry)) (now (report .exit)) r ⌝ }
+    ensures written { λ r. ⌜ (now (tree .exit) ≡ with-room (report-short (now (report .entry))) (now (tree .entry)) (tree-left (now (formula .entry)) (now (names .entry)) (wanted-of wanted) (length (now (path .entry))) (lengths (now (tree .entry)) (now (list .entry)) (now (program .entry))) (now (tree .entry)))) × (now (list .exit) ≡ with-room (report-short (now (report .entry))) (now (list .entry)) (list-left (now (formula .entry)) (now (names .entry)) (wanted-of wanted) (length (now (path .entry))) (lengths (now (tree .entry)) (now (list .entry)) (now (program .entry))) (now (list .entry)))) × (now (program .exit) ≡ with-room (report-short (now (report .entry))) (now (program .entry)) (program-left (now (formula .entry)) (now (names .entry)) (wanted-of wanted) (length (now (path .entry))) (lengths (now (tree .entry)) (now (list .entry)) (now (program .entry))) (now (program .entry)))) ⌝ }
+    ensures demand { λ r. ⌜ Owes (asked (now (report .entry)) (make (now (formula .entry)) (now (names .entry)) (wanted-of wanted) (length (now (path .entry))) (lengths (now (tree .entry)) (now (list .entry)) (now (program .entry))))) (now (program .exit)) (now (inputs .entry)) (now (rooms .entry)) (now (budgets .entry)) (now (flags .entry)) (now (values .entry)) (now (registers .entry)) (now (registers .exit)) (now (path .entry)) (now (path .exit)) (now (cells .entry)) (now (cells .exit)) (now (report .entry)) (now (report .exit)) r ⌝ }
 {
-    let refusal = write_program(formula, names, wanted, path, tree, program, report);
+    let refusal = write_program(formula, names, wanted, path, tree, list, program, report);
     if refusal != 0 {
         return refusal;
     }

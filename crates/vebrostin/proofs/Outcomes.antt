@@ -23,6 +23,7 @@ use Rattle.layout.specs.Image.{image}
 use Rattle.compile.specs.Entry as Entry
 use Rattle.derivative.specs.Derive.{Derived, derive}
 use Rattle.derivative.specs.Derive as Derive
+use Rattle.derive.specs.Outcome.{lengths}
 use Rattle.derive.specs.Outcome as Entered
 use Rattle.run.specs.declared.Answer.{Answer}
 use Rattle.run.specs.declared.Answer.the-variants as Answer
@@ -164,22 +165,22 @@ module _ (b l q p report : List ℕ) where
       (roomy (report-short report) _ _ (le-ltb (length report) report-length h))
       (en, eq, ep, long-report report k h ∙ ap (λ (i : ℕ). reported i report) ek)
 
-module _ (b l : List ℕ) (s : ℕ) (q t p report : List ℕ) where
+module _ (b names : List ℕ) (s : ℕ) (q t l p report : List ℕ) where
   pub derive-short : length report < report-length
-      → Derives (derive-outcome b l s (length q) (length t) (length p) report) slice-too-short q q t t p p report report
+      → Derives (derive-outcome b names s (length q) (lengths t l p) report) slice-too-short q q t t l l p p report report
   derive-short h =
-      subst (λ (X : Derived). Derives X slice-too-short q q t t p p report report)
-      (no-room (report-short report) _ _ (lt-ltb (length report) report-length h)) (refl, refl, refl, refl, short-report report 0 h)
+      subst (λ (X : Derived). Derives X slice-too-short q q t t l l p p report report)
+      (no-room (report-short report) _ _ (lt-ltb (length report) report-length h)) (refl, refl, refl, refl, refl, short-report report 0 h)
 
-  pub derive-leaves : report-length ≤ length report → (n k : ℕ) (q′ t′ p′ : List ℕ)
-      → (let X = derive b l s (length q) (length t) (length p) in
+  pub derive-leaves : report-length ≤ length report → (n k : ℕ) (q′ t′ l′ p′ : List ℕ)
+      → (let X = derive b names s (length q) (lengths t l p) in
       n ≡ derive-number (Entered.answer X) → k ≡ derive-node (Entered.answer X) → q′ ≡ Derive.path-after X q → t′ ≡ Derive.tree-after X t
-      → p′ ≡ Derive.program-after image X p
-      → Derives (derive-outcome b l s (length q) (length t) (length p) report) n q q′ t t′ p p′ report (set report node-place k))
-  derive-leaves h n k q′ t′ p′ en ek eq et ep =
-      subst (λ (X : Derived). Derives X n q q′ t t′ p p′ report (set report node-place k))
+      → l′ ≡ Derive.list-after X l → p′ ≡ Derive.program-after image X p
+      → Derives (derive-outcome b names s (length q) (lengths t l p) report) n q q′ t t′ l l′ p p′ report (set report node-place k))
+  derive-leaves h n k q′ t′ l′ p′ en ek eq et el ep =
+      subst (λ (X : Derived). Derives X n q q′ t t′ l l′ p p′ report (set report node-place k))
       (roomy (report-short report) _ _ (le-ltb (length report) report-length h))
-      (en, eq, et, ep, long-report report k h ∙ ap (λ (i : ℕ). reported i report) ek)
+      (en, eq, et, el, ep, long-report report k h ∙ ap (λ (i : ℕ). reported i report) ek)
 
 -- ---- run
 

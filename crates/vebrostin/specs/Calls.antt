@@ -80,7 +80,7 @@ Compiles X n q q′ p p′ t t′ =
     (n ≡ compile-number (Entry.answer X)) × (q′ ≡ Compile.path-after X q) × (p′ ≡ Compile.program-after image X p)
     × (t′ ≡ reported (compile-node (Entry.answer X)) t)
 
--- 0 for a tree and its program, else the refusal
+-- 0 for a tree, its records and its program, else the refusal
 abbrev pub derive-number : DeriveAnswer.Answer → ℕ
 derive-number (Derived.Derived n) = 0
 derive-number (Derived.Refused n) = n
@@ -91,15 +91,15 @@ derive-node (Derived.Derived n) = 0
 derive-node (Derived.Refused n) = 0
 derive-node (Derived.RefusedAt n k) = k
 
--- of formula bytes, a name line and a symbol, with path, tree and program slices of these lengths and this report
-abbrev pub derive-outcome : List ℕ → List ℕ → ℕ → ℕ → ℕ → ℕ → List ℕ → Derive.Derived
-derive-outcome b l s q t p report = with-room (report-short report) (Derive.formula-refused slice-too-short none) (Derive.derive b l s q t p)
+-- of formula bytes, a name line and a symbol, with a path slice of this length, tree, list and program slices of these and this report
+abbrev pub derive-outcome : List ℕ → List ℕ → ℕ → ℕ → Derive.Lengths → List ℕ → Derive.Derived
+derive-outcome b names s q l report = with-room (report-short report) (Derive.formula-refused slice-too-short none) (Derive.derive b names s q l)
 
--- the number answered, and the path, tree, program and report slices before and after
-abbrev pub Derives : Derive.Derived → ℕ → List ℕ → List ℕ → List ℕ → List ℕ → List ℕ → List ℕ → List ℕ → List ℕ → Type 0
-Derives X n q q′ t t′ p p′ u u′ =
+-- the number answered, and the path, tree, list, program and report slices before and after
+abbrev pub Derives : Derive.Derived → ℕ → List ℕ → List ℕ → List ℕ → List ℕ → List ℕ → List ℕ → List ℕ → List ℕ → List ℕ → List ℕ → Type 0
+Derives X n q q′ t t′ l l′ p p′ u u′ =
     (n ≡ derive-number (Entered.answer X))
-    × (q′ ≡ Derive.path-after X q) × (t′ ≡ Derive.tree-after X t) × (p′ ≡ Derive.program-after image X p)
+    × (q′ ≡ Derive.path-after X q) × (t′ ≡ Derive.tree-after X t) × (l′ ≡ Derive.list-after X l) × (p′ ≡ Derive.program-after image X p)
     × (u′ ≡ reported (derive-node (Entered.answer X)) u)
 
 -- ---- run and resume

@@ -16,6 +16,7 @@ ghost use Rattle.work.specs.View.{kept-values, places};
 ghost use Rattle.run.specs.Views.{answer-of, pending-of, state-of, supplied-of};
 ghost use Rattle.run.specs.Calls.{after, resume-at, run-at, steps-at, unfit-at};
 ghost use Rattle.vebrostin.specs.Cells.{Arguments-back, Askable, Comes-back, Held, bits, kept-in, number-of, padded, question-cells, question-in, state-cells, state-in, value-at, value-cell};
+ghost use Rattle.derive.specs.Outcome.{lengths};
 ghost use Rattle.vebrostin.specs.Calls.{Answers, Carries, Compiles, Derives, Ends, Leaves, Pends, compile-node, compile-number, compile-outcome, derive-node, derive-number, derive-outcome, is-refused, resume-outcome, run-outcome, Settles, short};
 use floats::value::bits_of;
 use floats::value::of_bits;
@@ -105,7 +106,7 @@ fn derive_told(given: derive::Answer) -> Told
     }
 }
 
-// 0, a derivative tree and its program, or the refusal, with its node in the report.
+// 0, a derivative tree, the records of its nodes and its program, or the refusal, with its node in the report.
 #[no_mangle]
 pub extern "C" fn vebrostin_derive(
     formula: &[u8],
@@ -113,15 +114,16 @@ pub extern "C" fn vebrostin_derive(
     symbol: u32,
     path: &mut [u8],
     tree: &mut [u8],
+    list: &mut [u8],
     program: &mut [u8],
     report: &mut [u64],
 ) -> usize
-    ensures { λ r. ⌜ Derives (derive-outcome (now (formula .entry)) (now (names .entry)) symbol (length (now (path .entry))) (length (now (tree .entry))) (length (now (program .entry))) (now (report .entry))) r (now (path .entry)) (now (path .exit)) (now (tree .entry)) (now (tree .exit)) (now (program .entry)) (now (program .exit)) (now (report .entry)) (now (report .exit)) ⌝ }
+    ensures { λ r. ⌜ Derives (derive-outcome (now (formula .entry)) (now (names .entry)) symbol (length (now (path .entry))) (lengths (now (tree .entry)) (now (list .entry)) (now (program .entry))) (now (report .entry))) r (now (path .entry)) (now (path .exit)) (now (tree .entry)) (now (tree .exit)) (now (list .entry)) (now (list .exit)) (now (program .entry)) (now (program .exit)) (now (report .entry)) (now (report .exit)) ⌝ }
 {
     if report.len() < REPORT_LENGTH {
         return SLICE_TOO_SHORT as usize;
     }
-    let given = derive::derive(formula, names, symbol as usize, path, tree, program);
+    let given = derive::derive(formula, names, symbol as usize, path, tree, list, program);
     let told = derive_told(given);
     report[NODE_PLACE] = told.node as u64;
     told.number

@@ -49,7 +49,7 @@ loop-again c =
       omega (arith, c .before .before .before .before .loop-test .taken),
       next-over (c .before .before .before .before .before .before .before .args .out .now) _ _ 0 (record-size * c .before .before .before .before .before .loop .i) (list-bytes (numbered (c .before .before .before .before .before .before .before .args .k) (c .before .before .before .before .before .loop .i))) (record-bytes (by-rule copied (c .before .before .before .before .before .before .before .args .k + c .before .before .before .before .before .loop .i))) (c .before .before .before .before .before .loop .inv .1) (c .before .before .put-record-at .ensures)
           (omega (arith, n)) (omega (arith, n, c .before .before .before .before .before .before .before .pre .1, c .before .before .before .before .before .loop .inv .0))
-      ∙ ap (λ (x : List ℕ). over (c .before .before .before .before .before .before .before .args .out .now) 0 x) (sym (numbered-next (c .before .before .before .before .before .before .before .args .k) (c .before .before .before .before .before .loop .i))),
+          ∙ ap (λ (x : List ℕ). over (c .before .before .before .before .before .before .before .args .out .now) 0 x) (sym (numbered-next (c .before .before .before .before .before .before .before .args .k) (c .before .before .before .before .before .loop .i))),
     )
 
 mul-result : tie.Need-mul-result Inv-loop μ-loop
