@@ -10,8 +10,8 @@ cast-result c = search needs
 
 returns : tie.Need-returns
 returns c =
-    let a = c .before .before .before .before .before .before .before .args in
-    derive-short (a .formula .now) (a .names .now) (a .symbol) (a .path .now) (a .tree .now) (a .program .now) (a .report .now) (c .if1 .taken)
+    let a = c .before .before .before .before .before .before .before .before .args in
+    derive-short (a .formula .now) (a .names .now) (a .symbol) (a .path .now) (a .tree .now) (a .list .now) (a .program .now) (a .report .now) (c .if1 .taken)
 
 derive-requires : tie.Need-derive-requires
 derive-requires c κs = search needs
@@ -34,14 +34,17 @@ same-length-3 c = search needs
 same-length-4 : tie.Need-same-length-4
 same-length-4 c = search needs
 
+same-length-5 : tie.Need-same-length-5
+same-length-5 c = search needs
+
 returns-2 : tie.Need-returns-2
 returns-2 c =
-    let a = c .before .before .before .before .before .before .before .before .before .before .before .before .before .before .before .before .before .before .args in
-    let if1 = c .before .before .before .before .before .before .before .before .before .before .before .if1 in
-    let r = c .before .before .before .before .before .before .before .derive in
-    derive-leaves (a .formula .now) (a .names .now) (a .symbol) (a .path .now) (a .tree .now) (a .program .now) (a .report .now) (if1 .left) _
-    (c .derive-told .result .node) _ _ _ (c .derive-told .ensures .0 ∙ ap derive-number (r .ensures .0))
-    (c .derive-told .ensures .1 ∙ ap derive-node (r .ensures .0)) (r .ensures .1) (r .ensures .2) (r .ensures .3)
+    let a = c .before .before .before .before .before .before .before .before .before .before .before .before .before .before .before .before .before .before .before .before .before .before .args in
+    let if1 = c .before .before .before .before .before .before .before .before .before .before .before .before .before .before .if1 in
+    let r = c .before .before .before .before .before .before .before .before .before .derive in
+    derive-leaves (a .formula .now) (a .names .now) (a .symbol) (a .path .now) (a .tree .now) (a .list .now) (a .program .now) (a .report .now) (if1 .left) _
+    (c .derive-told .result .node) _ _ _ _ (c .derive-told .ensures .0 ∙ ap derive-number (r .ensures .0))
+    (c .derive-told .ensures .1 ∙ ap derive-node (r .ensures .0)) (r .ensures .1) (r .ensures .2) (r .ensures .3) (r .ensures .4)
 
 pub vebrostin-derive-spec : {M : Type 1} → statement M
 vebrostin-derive-spec =
@@ -56,4 +59,5 @@ vebrostin-derive-spec =
     same-length-2
     same-length-3
     same-length-4
+    same-length-5
     returns-2)
