@@ -114,11 +114,14 @@ fn by_machine(
     } else {
         demand::Wanted::Formula
     };
+    let mut list = [0u8; 4096];
+    let n = cut(tree.len() / 2, 4096);
     demand::make_and_play(
         formula,
         names,
         wanted,
         tree,
+        &mut list[0..n],
         program,
         inputs,
         registers,
@@ -203,11 +206,14 @@ fn by_host(
     } else {
         hosted::Wanted::Formula
     };
+    let mut list = [0u8; 4096];
+    let n = cut(tree.len() / 2, 4096);
     hosted::make_and_call(
         formula,
         names,
         wanted,
         tree,
+        &mut list[0..n],
         program,
         inputs,
         registers,
