@@ -1,6 +1,6 @@
 #!/bin/sh
-# Makes each example again, runs `legs` on it and compares with what stands beside it. LEGS names the program, and
-# tools/library/build.sh builds the command that makes them.
+# Makes each example again, runs `legs` on it and compares with what stands beside it, and so with the terms of derivatives. LEGS names the
+# program, and tools/library/build.sh builds the command that makes them.
 set -e
 cd "$(dirname "$0")/.."
 mkdir -p target/examples
@@ -16,4 +16,5 @@ for text in examples/*.txt; do
 done
 # the two flights have no text to make them from
 (cd examples/flights && "$legs" < input) | diff examples/flights/output -
+examples/terms.sh
 echo "examples agree"

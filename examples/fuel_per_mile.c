@@ -8,7 +8,7 @@
 enum { FORMULA = 16 * VEBROSTIN_FORMULA_NODES, TREE = 1024, PROGRAM = VEBROSTIN_PROGRAM_PER_NODE * TREE, REGISTERS = 5 * TREE };
 
 /* one byte more than the longest formula, to see that a file has more */
-static uint8_t formula[FORMULA + 1], names[65536], path[VEBROSTIN_PATH_LENGTH], tree[16 * TREE], program[PROGRAM];
+static uint8_t formula[FORMULA + 1], names[65536], path[VEBROSTIN_PATH_LENGTH], tree[16 * TREE], list[VEBROSTIN_LIST_PER_NODE * TREE], program[PROGRAM];
 static double inputs[256], registers[REGISTERS];
 static uint64_t report[VEBROSTIN_REPORT_LENGTH];
 static size_t input_count;
@@ -87,8 +87,8 @@ int main(int count, char **words) {
     if (number != VEBROSTIN_OK)
         refused("compile", number);
     printf("fuel %g kg\n", evaluate("run"));
-    number = vebrostin_derive(formula, n, names, m, (uint32_t)atol(words[2]), path, sizeof path, tree, sizeof tree, program, PROGRAM,
-                              report, VEBROSTIN_REPORT_LENGTH);
+    number = vebrostin_derive(formula, n, names, m, (uint32_t)atol(words[2]), path, sizeof path, tree, sizeof tree, list, sizeof list,
+                              program, PROGRAM, report, VEBROSTIN_REPORT_LENGTH);
     if (number != VEBROSTIN_OK)
         refused("derive", number);
     printf("fuel per mile %g kg\n", evaluate("run of the derivative"));

@@ -26,8 +26,8 @@ enum {
     /* done: a program, a derivative, a value */
     VEBROSTIN_OK = 0,
     /* a slice is too short: the path slice below 8,192 bytes; the program slice below 240 bytes for each 16 bytes of formula, fewer at
-     * its end counted as 16 (of the derivative tree, for a derivative); the tree slice below 16 bytes for each node; the state below 16 numbers;
-     * the report below 8, which is looked at before anything else */
+     * its end counted as 16 (of the derivative tree, for a derivative); the tree slice below 16 bytes for each node, the list slice below 8; the
+     * state below 16 numbers; the report below 8, which is looked at before anything else */
     VEBROSTIN_SLICE_TOO_SHORT = 1,
     /* compile and derive, at the node: one of its fields is wrong */
     VEBROSTIN_WRONG_FIELD = 2,
@@ -68,6 +68,7 @@ enum {
     VEBROSTIN_STATE_LENGTH = 16,
     VEBROSTIN_REPORT_LENGTH = 8,
     VEBROSTIN_PROGRAM_PER_NODE = 240,
+    VEBROSTIN_LIST_PER_NODE = 8,
     VEBROSTIN_FORMULA_NODES = 256,
     VEBROSTIN_TREE_NODES = 16384
 };
@@ -90,6 +91,39 @@ enum {
     VEBROSTIN_NODE = 0 /* the node of a refusal 2, 12 or 13, else 0 */
 };
 
+/* Rules, as a derivative's records name them; docs/DERIVATIVE.md says what each writes. A record has 8 bytes: the rule's number, then the
+ * formula node that it is applied at, or that is copied, from 0 in byte order; 4 bytes each, least significant first. */
+enum {
+    VEBROSTIN_RULE_COPIED = 0, /* the formula's own node, in a copy of a part */
+    VEBROSTIN_RULE_SYMBOL = 1,
+    VEBROSTIN_RULE_POSITIVE = 2, /* writes nothing, so no record has it */
+    VEBROSTIN_RULE_NEGATIVE = 3,
+    VEBROSTIN_RULE_ADD = 4,
+    VEBROSTIN_RULE_SUBTRACT = 5,
+    VEBROSTIN_RULE_MULTIPLY = 6,
+    VEBROSTIN_RULE_DIVIDE = 7,
+    VEBROSTIN_RULE_POWER = 8,
+    VEBROSTIN_RULE_MODULO = 9,
+    VEBROSTIN_RULE_CONDITIONAL = 10,
+    VEBROSTIN_RULE_IFELSE = 11,
+    VEBROSTIN_RULE_MIN_MAX = 12,
+    VEBROSTIN_RULE_ABS = 13,
+    VEBROSTIN_RULE_DENSITY = 14, /* InverseGaussianDensity */
+    VEBROSTIN_RULE_HILL = 15,
+    VEBROSTIN_RULE_EXP = 16,
+    VEBROSTIN_RULE_LOG = 17,
+    VEBROSTIN_RULE_LOG10 = 18,
+    VEBROSTIN_RULE_SQRT = 19,
+    VEBROSTIN_RULE_SIN = 20,
+    VEBROSTIN_RULE_COS = 21,
+    VEBROSTIN_RULE_TAN = 22,
+    VEBROSTIN_RULE_TANH = 23,
+    VEBROSTIN_RULE_TIMES_ZERO = 24,     /* the 0 of a product that has a literal zero */
+    VEBROSTIN_RULE_POWER_ZERO = 25,     /* the 1 of a power 0; always simplified away, so no record has it */
+    VEBROSTIN_RULE_WITHOUT_SYMBOL = 26, /* the 0 of a part without the symbol */
+    VEBROSTIN_RULE_OUTER = 27           /* 0 times formula, plus derivative */
+};
+
 /* Functions that a run asks its host for. */
 enum {
     VEBROSTIN_EXP = 0,
@@ -108,12 +142,12 @@ size_t vebrostin_compile(const uint8_t *formula, size_t formula_length, const ui
                          uint8_t *path, size_t path_length, uint8_t *program, size_t program_length,
                          uint64_t *report, size_t report_length);
 
-/* The derivative of a formula by a symbol's number (from 0). 0, its tree as formula bytes and the tree's program, zeros after each; or
- * 1 to 9, 12 or 13. A refusal of the formula itself, as 2, 12 and 13 are, leaves the tree slice as it was, a later one all zero; both
- * leave the program slice. */
+/* The derivative of a formula by a symbol's number (from 0). 0, its tree as formula bytes, the list of records of the tree's nodes in their
+ * order, and the tree's program, zeros after each; or 1 to 9, 12 or 13. A refusal of the formula itself, as 2, 12 and 13 are, leaves the
+ * slices for tree and list as they were, a later one all zero; both leave the program slice. */
 size_t vebrostin_derive(const uint8_t *formula, size_t formula_length, const uint8_t *names, size_t names_length, uint32_t symbol,
-                        uint8_t *path, size_t path_length, uint8_t *tree, size_t tree_length, uint8_t *program, size_t program_length,
-                        uint64_t *report, size_t report_length);
+                        uint8_t *path, size_t path_length, uint8_t *tree, size_t tree_length, uint8_t *list, size_t list_length,
+                        uint8_t *program, size_t program_length, uint64_t *report, size_t report_length);
 
 /* Whether a run takes the bytes. */
 bool vebrostin_is_program(const uint8_t *program, size_t program_length);

@@ -1,9 +1,9 @@
 //! Commands and their answers, each one line of text.
-use crate::compile::{Program, Symbol};
+use crate::compile::{Program, Symbol, SymbolKind};
 use crate::errors::{Error, ErrorCode};
 use crate::expression::Expr;
 use crate::libm::{self, Asked, Question, Source};
-use crate::{names, nodes, refusals, steps};
+use crate::{labelled, names, nodes, refusals, steps};
 use std::panic::{catch_unwind, resume_unwind, AssertUnwindSafe};
 
 /// A line to print: an answer, or the refusal or fault that stands in its place.
@@ -15,6 +15,7 @@ pub fn answer(line: &str) -> String {
     let answer = match fields[..] {
         ["compile", formula, names] => compile(formula, names),
         ["derive", formula, names, symbol] => derive(formula, names, symbol),
+        ["records", formula, names, symbol] => records(formula, names, symbol),
         [verb @ ("run" | "trace"), formula, names, inputs, answers] => {
             run(verb == "trace", formula, names, None, inputs, answers)
         }
@@ -46,6 +47,29 @@ fn derive(formula: &str, names: &str, symbol: &str) -> Answer {
         let bytes = nodes::write(&tree, symbols);
         Ok(format!("tree {} {}", hex(&bytes), program.show()))
     })
+}
+
+/// The tree of `derive` once more, with a record for each of its nodes.
+fn records(formula: &str, names: &str, symbol: &str) -> Answer {
+    let number = symbol_number(symbol)?;
+    with_formula(formula, names, |expr, symbols| {
+        let name = names::name_of(symbols, number);
+        Program::derivative(expr, symbols, &name).map_err(refusal)?;
+        let tree = Program::tree_of_derivative(expr, symbols, &name).map_err(refusal)?;
+        let state = symbols[number as usize].kind == SymbolKind::State;
+        let labelled = labelled::derive(expr, &name, state).map_err(refusal)?;
+        let bytes = nodes::write(&labelled.tree, symbols);
+        if bytes != nodes::write(&tree, symbols) {
+            return Err("error the labelled tree differs".into());
+        }
+        let list: Vec<u8> = labelled.records.iter().flat_map(record).collect();
+        Ok(format!("tree {} records {} {}", hex(&bytes), hex(&list), labelled.decided))
+    })
+}
+
+/// A record's 8 bytes.
+fn record((rule, node): &(u32, u32)) -> impl Iterator<Item = u8> {
+    rule.to_le_bytes().into_iter().chain(node.to_le_bytes())
 }
 
 fn run(

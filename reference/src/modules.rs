@@ -10,6 +10,9 @@ mod errors;
 #[path = "expression.rs"]
 mod expression;
 #[allow(dead_code)]
+#[path = "labelled/mod.rs"]
+mod labelled;
+#[allow(dead_code)]
 #[path = "names.rs"]
 mod names;
 #[allow(dead_code)]

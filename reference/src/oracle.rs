@@ -5,6 +5,7 @@ mod compile;
 #[allow(dead_code)]
 mod errors;
 mod expression;
+mod labelled;
 mod libm;
 mod memory;
 mod names;

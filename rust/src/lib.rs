@@ -3,10 +3,12 @@
 //! `Program` and `Run` own their memory; `slices` has the same functions over the caller's slices.
 mod error;
 mod raw;
+mod record;
 pub mod slices;
 
 pub use error::{Action, Error, Refusal};
-use slices::{ASK, COUNT, FIRST, NODE, NODE_AT, NODE_ROOM, PATH, QUESTION, REPORT, SECOND, SPENT, STATE, VALUE};
+pub use record::{Record, Rule};
+use slices::{ASK, COUNT, FIRST, NODE, NODE_AT, NODE_ROOM, PATH, QUESTION, RECORD, REPORT, SECOND, SPENT, STATE, VALUE};
 
 /// Nodes that a derivative tree has at most.
 const LARGEST_TREE: usize = 16384;
@@ -16,10 +18,11 @@ const LARGEST_TREE: usize = 16384;
 #[derive(Clone, Debug, PartialEq, Eq)]
 pub struct Program(Vec<u8>);
 
-/// A derivative: its tree as formula bytes, and the program of that tree.
+/// A derivative: its tree as formula bytes, what made each of the tree's nodes in their order, and the program of that tree.
 #[derive(Clone, Debug, PartialEq, Eq)]
 pub struct Derivative {
     pub tree: Vec<u8>,
+    pub records: Vec<Record>,
     pub program: Program,
 }
 
@@ -47,11 +50,12 @@ impl Program {
         let (mut path, mut report) = ([0; PATH], [0; REPORT]);
         let mut nodes = formula.len().div_ceil(NODE).max(64);
         loop {
-            let (mut tree, mut program) = (vec![0; NODE * nodes], vec![0; NODE_ROOM * nodes]);
-            match slices::derive(formula, names, symbol, &mut path, &mut tree, &mut program, &mut report) {
+            let (mut tree, mut list, mut program) = (vec![0; NODE * nodes], vec![0; RECORD * nodes], vec![0; NODE_ROOM * nodes]);
+            match slices::derive(formula, names, symbol, &mut path, &mut tree, &mut list, &mut program, &mut report) {
                 0 => {
-                    tree.truncate(NODE * tree_nodes(&tree));
-                    return Ok(Derivative { tree, program: Self(program) });
+                    let nodes = tree_nodes(&tree);
+                    tree.truncate(NODE * nodes);
+                    return Ok(Derivative { tree, records: records(&list[..RECORD * nodes]), program: Self(program) });
                 }
                 1 if nodes < LARGEST_TREE => nodes = (4 * nodes).min(LARGEST_TREE),
                 number => return Err(refused(number, Action::Derive, &path, report[NODE_AT])),
@@ -84,6 +88,12 @@ impl Program {
     pub fn evaluate(&self, inputs: &[f64], host: impl FnMut(Question) -> f64) -> Result<f64, Error> {
         Run::new(self).evaluate(inputs, host)
     }
+}
+
+/// The records of a list that `derive` wrote.
+fn records(list: &[u8]) -> Vec<Record> {
+    let record = |bytes: &[u8]| Record::from_bytes(bytes.try_into().ok()?);
+    list.chunks_exact(RECORD).map(|bytes| record(bytes).expect("the library's rules are 0 to 27")).collect()
 }
 
 /// Nodes of the tree at the start of a slice: the trees still owed are counted.

@@ -7,8 +7,8 @@ extern "C" {
     ) -> usize;
     pub fn vebrostin_derive(
         formula: *const u8, formula_length: usize, names: *const u8, names_length: usize, symbol: u32,
-        path: *mut u8, path_length: usize, tree: *mut u8, tree_length: usize, program: *mut u8, program_length: usize,
-        report: *mut u64, report_length: usize,
+        path: *mut u8, path_length: usize, tree: *mut u8, tree_length: usize, list: *mut u8, list_length: usize,
+        program: *mut u8, program_length: usize, report: *mut u64, report_length: usize,
     ) -> usize;
     pub fn vebrostin_is_program(program: *const u8, program_length: usize) -> bool;
     pub fn vebrostin_instructions(program: *const u8, program_length: usize) -> usize;

@@ -8,6 +8,8 @@ pub const PATH: usize = 8192;
 /// Bytes of a formula's node, and of a program slice for each node.
 pub const NODE: usize = 16;
 pub const NODE_ROOM: usize = 240;
+/// Bytes of a derivative node's record in the list slice: the rule's number and the formula node, 4 bytes each, least significant first.
+pub const RECORD: usize = 8;
 /// Numbers of a run's state and outcome.
 pub const STATE: usize = 16;
 /// Numbers of a report, in which a call hands out what it has beside its answer. A report of fewer is refused, and not written.
@@ -49,16 +51,17 @@ pub fn compile(formula: &[u8], names: &[u8], path: &mut [u8], program: &mut [u8]
     }
 }
 
-/// 0, a derivative tree and its program, or a refusal; its node is in the report.
+/// 0, a derivative tree, a record for each of its nodes and its program, or a refusal; its node is in the report.
 pub fn derive(
-    formula: &[u8], names: &[u8], symbol: u32, path: &mut [u8], tree: &mut [u8], program: &mut [u8], report: &mut [u64],
+    formula: &[u8], names: &[u8], symbol: u32, path: &mut [u8], tree: &mut [u8], list: &mut [u8], program: &mut [u8],
+    report: &mut [u64],
 ) -> usize {
     // SAFETY: as in `compile`.
     unsafe {
         raw::vebrostin_derive(
             formula.as_ptr(), formula.len(), names.as_ptr(), names.len(), symbol,
-            path.as_mut_ptr(), path.len(), tree.as_mut_ptr(), tree.len(), program.as_mut_ptr(), program.len(),
-            report.as_mut_ptr(), report.len(),
+            path.as_mut_ptr(), path.len(), tree.as_mut_ptr(), tree.len(), list.as_mut_ptr(), list.len(),
+            program.as_mut_ptr(), program.len(), report.as_mut_ptr(), report.len(),
         )
     }
 }

@@ -1,6 +1,6 @@
 //! Document 01's worked flights, and each refusal's text, through the crate.
-use vebrostin::slices::{self, PATH, REPORT, STATE};
-use vebrostin::{Answer, Error, Program, Question, Refusal, Run};
+use vebrostin::slices::{self, PATH, RECORD, REPORT, STATE};
+use vebrostin::{Answer, Error, Program, Question, Record, Refusal, Rule, Run};
 
 const NAMES: &[u8] = b"climb:p,burn:p,distance:i,tas:i,wind:i";
 
@@ -62,6 +62,79 @@ fn derivative_by_distance() {
     });
     assert_eq!(slope, Ok(1.5));
     assert_eq!(asked, [Question::Power(200.0, 2.0)]);
+}
+
+/// Rule and node of each record of a derivative by symbol 0, less the first three and those of the formula's copy.
+fn records(formula: &[u8], names: &[u8]) -> Vec<(u32, u32)> {
+    let nodes = formula.len() / 16;
+    let derivative = Program::derive(formula, names, 0).unwrap();
+    let pairs: Vec<_> = derivative.records.iter().map(|record| (record.rule.number(), record.node)).collect();
+    assert_eq!(pairs.len(), derivative.tree.len() / 16);
+    assert_eq!(pairs[..3], [(27, 0); 3]);
+    assert!(pairs[3..3 + nodes].iter().copied().eq((0..nodes as u32).map(|node| (0, node))));
+    pairs[3 + nodes..].to_vec()
+}
+
+/// Lists of docs/DERIVATIVE.md; tools/derivative/worked.py has more.
+#[test]
+fn rules_of_nodes() {
+    let derivative = Program::derive(&flight(), NAMES, 2).unwrap();
+    let (divide, copied) = (Rule::Divide, Rule::Copied);
+    let wanted = [(divide, 2), (divide, 2), (copied, 4), (copied, 6), (copied, 7), (copied, 8), (divide, 2), (copied, 6), (copied, 7), (copied, 8), (divide, 2)];
+    assert_eq!(derivative.records[12..], wanted.map(|(rule, node)| Record { rule, node }));
+    let (a, b, zero) = (symbol(0), symbol(1), number(0.0));
+    let both = b"a:p,b:p";
+    assert_eq!(records(&binary(4, a.clone(), number(3.0)), both), [(8, 0), (8, 0), (8, 0), (0, 1), (8, 0)]);
+    let least = call(11, &[a.clone(), b.clone()]);
+    assert_eq!(records(&least, both), [(12, 0), (12, 0), (0, 1), (0, 0), (0, 1), (0, 2), (1, 1), (26, 2)]);
+    let nothing = binary(2, zero, a.clone());
+    assert_eq!(records(&binary(0, b.clone(), nothing.clone()), both), [(24, 2)]);
+    assert_eq!(records(&binary(0, nothing, b.clone()), both), [(26, 4)]);
+    let either = call(14, &[node(5, 0, 0, 0, &[b.clone(), number(1.0)]), a, b]);
+    assert_eq!(records(&either, both), [(11, 0), (0, 1), (0, 2), (0, 3), (1, 4), (26, 5)]);
+}
+
+#[test]
+fn rule_numbers() {
+    for number in 0..28 {
+        let rule = Rule::from_number(number).unwrap();
+        assert_eq!(rule.number(), number);
+        let record = Record { rule, node: 0x0403_0201 };
+        assert_eq!(record.to_bytes(), [number as u8, 0, 0, 0, 1, 2, 3, 4]);
+        assert_eq!(Record::from_bytes(record.to_bytes()), Some(record));
+    }
+    assert_eq!(Rule::from_number(28), None);
+    assert_eq!(Record::from_bytes([0, 1, 0, 0, 0, 0, 0, 0]), None);
+    assert_eq!((Rule::Divide.to_string(), Rule::Outer.name()), ("rule for Divide".into(), "0 × formula + derivative"));
+}
+
+/// The list slice: 8 bytes a node are enough, zeros follow; one record fewer is refusal 1, and then tree and list are all zero.
+#[test]
+fn list_slices() {
+    let formula = flight();
+    let derive = |list: &mut [u8], formula: &[u8], symbol: u32| {
+        let (mut path, mut tree, mut program) = ([7; PATH], [7; 16 * 25], vec![7; 240 * 25]);
+        let number = slices::derive(formula, NAMES, symbol, &mut path, &mut tree, list, &mut program, &mut [0; REPORT]);
+        let left = |slice: &[u8], byte: u8| slice.iter().all(|other| *other == byte);
+        (number, left(&path, 7), left(&tree, 0), left(&tree, 7), left(&program, 7))
+    };
+    let (need, made) = (23 * RECORD, (0, true, false, false, false));
+    let mut list = vec![7; need];
+    assert_eq!(derive(&mut list, &formula, 2), made);
+    let mut longer = vec![7; need + 13];
+    assert_eq!(derive(&mut longer, &formula, 2), made);
+    assert_eq!((&longer[..need], &longer[need..]), (&list[..], &[0; 13][..]));
+    for short in [need - 1, need - RECORD, 0] {
+        let mut list = vec![7; short];
+        assert_eq!(derive(&mut list, &formula, 2), (1, true, true, false, true));
+        assert_eq!(list, vec![0; short]);
+    }
+    let mut list = vec![7; need];
+    assert_eq!(derive(&mut list, &formula, 9), (6, false, true, false, true));
+    assert_eq!(list, vec![0; need]);
+    let mut list = vec![7; need];
+    assert_eq!(derive(&mut list, &formula[..40], 2), (12, true, false, true, true));
+    assert_eq!(list, vec![7; need]);
 }
 
 #[test]
@@ -189,10 +262,10 @@ fn faults() {
 fn reports() {
     let node = |number: usize, node: u64| ((number, number), [node, 7, 7, 7, 7, 7, 7, 7], [node, 7, 7, 7, 7, 7, 7, 7]);
     let both = |formula: &[u8], names: &[u8], room: usize| {
-        let (mut path, mut tree, mut program) = ([7; PATH], [7; 1600], vec![7; room]);
+        let (mut path, mut tree, mut list, mut program) = ([7; PATH], [7; 1600], [7; 800], vec![7; room]);
         let (mut compiled, mut derived) = ([7; REPORT], [7; REPORT]);
         let number = slices::compile(formula, names, &mut path, &mut program, &mut compiled);
-        ((number, slices::derive(formula, names, 2, &mut path, &mut tree, &mut program, &mut derived)), compiled, derived)
+        ((number, slices::derive(formula, names, 2, &mut path, &mut tree, &mut list, &mut program, &mut derived)), compiled, derived)
     };
     let formula = flight();
     assert_eq!(both(&formula, NAMES, 24_000), node(0, 0));
@@ -214,14 +287,14 @@ fn reports() {
 
 #[test]
 fn short_report() {
-    let (mut path, mut tree, mut program, mut cells) = ([7; PATH], [7; 16], [7; 240], [7; STATE]);
+    let (mut path, mut tree, mut list, mut program, mut cells) = ([7; PATH], [7; 16], [7; 8], [7; 240], [7; STATE]);
     let (formula, report) = (number(1.0), &mut [7; REPORT - 1]);
     assert_eq!(slices::compile(&formula, b"", &mut path, &mut program, report), 1);
-    assert_eq!(slices::derive(&formula, b"a:p", 0, &mut path, &mut tree, &mut program, report), 1);
+    assert_eq!(slices::derive(&formula, b"a:p", 0, &mut path, &mut tree, &mut list, &mut program, report), 1);
     assert_eq!(slices::run(&program, &[], &mut [7.0], &mut path, 1, &mut cells, report), 1);
     assert_eq!(slices::resume(&program, &[], &mut [7.0], &mut path, 1, &mut cells, report, None), 1);
     assert_eq!(slices::resume(&program, &[], &mut [7.0], &mut path, 1, &mut cells, report, Some(1.0)), 1);
-    assert_eq!((path, tree, program, cells, *report), ([7; PATH], [7; 16], [7; 240], [7; STATE], [7; REPORT - 1]));
+    assert_eq!((path, tree, list, program, cells, *report), ([7; PATH], [7; 16], [7; 8], [7; 240], [7; STATE], [7; REPORT - 1]));
 }
 
 #[test]

@@ -2,7 +2,7 @@
 use crate::{formulas, names, nodes, Host, Program, NODE_SIZE};
 use std::hint::black_box;
 use std::process::Command;
-use vebrostin::slices::{self, PATH, REPORT};
+use vebrostin::slices::{self, PATH, RECORD, REPORT};
 
 /// The formulas counted, by name.
 const FORMULAS: [&str; 5] = ["flight", "arithmetic", "branches", "Min", "powers"];
@@ -37,7 +37,8 @@ pub fn repeat(work: &str, name: &str, times: u32) {
     let program = vebrostin::Program::compile(&formula, formulas::NAMES).unwrap();
     let mut host = Host::new(program.bytes(), work == "run");
     let (mut workspace, mut path, mut out) = (reference.workspace(), vec![0; PATH], program.bytes().to_vec());
-    let (mut tree, mut derived) = (vec![0; derivative_size(name)], vec![0; 15 * derivative_size(name).max(formula.len())]);
+    let size = derivative_size(name);
+    let (mut tree, mut list, mut derived) = (vec![0; size], vec![0; size / NODE_SIZE * RECORD], vec![0; 15 * size.max(formula.len())]);
     for _ in 0..times {
         match work {
             "check" => assert!(slices::is_program(black_box(program.bytes()))),
@@ -50,7 +51,8 @@ pub fn repeat(work: &str, name: &str, times: u32) {
             }
             "derive" => {
                 let report = &mut [0; REPORT];
-                assert_eq!(slices::derive(black_box(&formula), formulas::NAMES, 0, &mut path, &mut tree, &mut derived, report), 0);
+                let number = slices::derive(black_box(&formula), formulas::NAMES, 0, &mut path, &mut tree, &mut list, &mut derived, report);
+                assert_eq!(number, 0);
             }
             _ => {
                 black_box(host.evaluate(black_box(&inputs)));

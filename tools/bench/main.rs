@@ -19,7 +19,7 @@ use compile::Program;
 use node::NODE_SIZE;
 use std::hint::black_box;
 use std::time::{Duration, Instant};
-use vebrostin::slices::{self, ASK, FIRST, PATH, QUESTION, REPORT, SECOND, STATE, VALUE};
+use vebrostin::slices::{self, ASK, FIRST, PATH, QUESTION, RECORD, REPORT, SECOND, STATE, VALUE};
 use vebrostin::Question;
 
 /// How long the rounds of one line go on.
@@ -83,7 +83,7 @@ fn compile_table() {
 }
 
 fn derive_table() {
-    header("Derive by the first symbol, tree and program", "nodes of the derivative", "Rust");
+    header("Derive by the first symbol, tree, records and program", "nodes of the derivative", "Rust");
     let lists = [2, 8, 32, 64].map(|n| ("Min", formulas::list(n)));
     let arithmetic = [1, 5, 25, 50, 128].map(|n| ("arithmetic", formulas::arithmetic(n)));
     let powers = [1, 4, 8, 16].map(|n| ("powers", formulas::powers(n)));
@@ -91,9 +91,12 @@ fn derive_table() {
         let symbols = names::read(formulas::NAMES).unwrap();
         let tree = Program::tree_of_derivative(&nodes::read(&formula, &symbols), &symbols, "climb").unwrap();
         let size = nodes::write(&tree, &symbols).len();
-        let (mut path, mut tree, mut program) = (vec![0; PATH], vec![0; size], vec![0; (15 * size).max(slices::program_room(formula.len()))]);
-        let report = &mut [0; REPORT];
-        let here = || assert_eq!(slices::derive(black_box(&formula), formulas::NAMES, 0, &mut path, &mut tree, &mut program, report), 0);
+        let (mut path, mut tree, mut list) = (vec![0; PATH], vec![0; size], vec![0; size / NODE_SIZE * RECORD]);
+        let (mut program, report) = (vec![0; (15 * size).max(slices::program_room(formula.len()))], &mut [0; REPORT]);
+        let here = || {
+            let number = slices::derive(black_box(&formula), formulas::NAMES, 0, &mut path, &mut tree, &mut list, &mut program, report);
+            assert_eq!(number, 0);
+        };
         let there = || {
             let symbols = names::read(black_box(formulas::NAMES)).unwrap();
             let expr = nodes::read(black_box(&formula), &symbols);

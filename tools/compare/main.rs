@@ -1,8 +1,8 @@
 //! Compares the library with the Rust reference on random and damaged formulas: compare SEED COUNT [LEGS], or
 //! compare SEED COUNT record FOLDER, which also writes a sample of the answers to FOLDER/library_cases and FOLDER/demand_cases.
 //!
-//! For each formula: compile and derive (refusal, path or node, every instruction, the tree's bytes, what each slice holds after), runs
-//! of both programs (values, questions, Domains, counts, registers), cut by budgets, with refused calls and forged states. With
+//! For each formula: compile and derive (refusal, path or node, every instruction, the tree's bytes and its records, what each slice holds
+//! after), runs of both programs (values, questions, Domains, counts, registers), cut by budgets, with refused calls and forged states. With
 //! LEGS, the path of the program `legs`, its output on files of lines too.
 include!("../../reference/src/modules.rs");
 mod formulas;
@@ -22,7 +22,7 @@ mod steps;
 #[path = "../shared/values.rs"]
 mod values;
 
-use compile::Program;
+use compile::{Program, Symbol, SymbolKind};
 use errors::Error;
 use expression::{Expr, Function};
 use formulas::Case;
@@ -31,11 +31,13 @@ use random::Random;
 use record::{Made, Recorder};
 use runs::Played;
 use std::collections::BTreeMap;
-use vebrostin::slices::{self, NODE_AT, PATH, REPORT};
+use vebrostin::slices::{self, NODE_AT, PATH, RECORD, REPORT};
 
 const FILL: u8 = 170;
 /// Nodes of a derivative at most.
 const LARGEST: usize = 16384;
+/// Rules that a record may name: 0 to 27.
+const RULES: usize = 28;
 
 /// What was compared.
 #[derive(Default)]
@@ -48,6 +50,11 @@ struct Tally {
     /// Derivatives that the reference was not asked for, as it would build too much.
     unasked: u64,
     nodes: u64,
+    /// Records by their rule, and those of them that docs/DECISIONS.md reads otherwise than the reference's text.
+    records: [u64; RULES],
+    decided: u64,
+    /// Derivatives with a list slice of just 8 bytes a node, and refusals for one that is too short by a record, or otherwise.
+    lists: [u64; 3],
     instructions: u64,
     runs: runs::Tally,
     derivative_runs: runs::Tally,
@@ -106,12 +113,44 @@ fn all(slice: &[u8], byte: u8) -> bool {
     slice.iter().all(|other| *other == byte)
 }
 
+/// Whether a slice holds these bytes and zeros after them.
+fn is_filled(slice: &[u8], bytes: &[u8]) -> bool {
+    slice.starts_with(bytes) && all(&slice[bytes.len()..], 0)
+}
+
+/// Records as people read them: rule and node of each.
+fn pairs(list: &[u8]) -> String {
+    let word = |bytes: &[u8]| u32::from_le_bytes(bytes.try_into().expect("four bytes"));
+    list.chunks_exact(RECORD).map(|record| format!("{},{} ", word(&record[..4]), word(&record[4..]))).collect()
+}
+
+/// A derivative as the reference has it: tree, the labelled reference's records and how many of them were decided, program.
+struct Derived {
+    tree: Vec<u8>,
+    list: Vec<u8>,
+    decided: usize,
+    program: Program,
+}
+
+impl Derived {
+    fn new(expr: &Expr, symbols: &[Symbol], symbol: u32) -> Result<Self, Error> {
+        let name = names::name_of(symbols, symbol);
+        let program = Program::derivative(expr, symbols, &name)?;
+        let tree = nodes::write(&Program::tree_of_derivative(expr, symbols, &name)?, symbols);
+        let state = symbols[symbol as usize].kind == SymbolKind::State;
+        let labelled = labelled::derive(expr, &name, state)?;
+        assert_eq!(nodes::write(&labelled.tree, symbols), tree, "the labelled reference writes another tree");
+        let list = labelled.records.iter().flat_map(|(rule, node)| [rule.to_le_bytes(), node.to_le_bytes()]).flatten().collect();
+        Ok(Self { tree, list, decided: labelled.decided, program })
+    }
+}
+
 fn has_extremum(expr: &Expr) -> bool {
     matches!(expr, Expr::Call { name: Function::Min | Function::Max, .. }) || expr.children().iter().any(has_extremum)
 }
 
 /// Formula and names as the reference has them, or refusal 2, 12, 13 or 3.
-fn read(formula: &[u8], names: &[u8]) -> Result<(Expr, Vec<compile::Symbol>), Refused> {
+fn read(formula: &[u8], names: &[u8]) -> Result<(Expr, Vec<Symbol>), Refused> {
     if let Some((number, node)) = nodes::fault(formula) {
         return Err(Refused { number, place: None, node: Some(node) });
     }
@@ -124,6 +163,7 @@ struct Comparison {
     tally: Tally,
     path: Vec<u8>,
     tree: Vec<u8>,
+    list: Vec<u8>,
     program: Vec<u8>,
     recorder: Option<Recorder>,
 }
@@ -148,6 +188,18 @@ impl Comparison {
         }
     }
 
+    /// A list slice's length: mostly just enough, now and then with bytes to spare, seldom a byte, a record or more too short.
+    fn list_length(&mut self, need: usize) -> usize {
+        match self.random.weighted(&[60, 19, 18, 1, 1, 1]) {
+            0 => need,
+            1 => need + 17,
+            2 => need + 34,
+            3 => need - 1,
+            4 => need - RECORD,
+            _ => self.random.below(need),
+        }
+    }
+
     fn path_length(&mut self) -> usize {
         if self.random.chance(0.01) { self.random.choice(&[0, 4, PATH - 1]) } else { PATH + 8 * self.random.below(2) }
     }
@@ -167,7 +219,7 @@ impl Comparison {
         outcome
     }
 
-    fn both(&mut self, case: &Case, read: &Result<(Expr, Vec<compile::Symbol>), Refused>) -> Result<(), String> {
+    fn both(&mut self, case: &Case, read: &Result<(Expr, Vec<Symbol>), Refused>) -> Result<(), String> {
         let program = read.as_ref().map_err(Clone::clone).and_then(|(e, s)| Program::compile(e, s).map_err(refusal));
         let loose = matches!((read, &program), (Ok((expr, _)), Ok(_)) if has_extremum(expr));
         let fault = program.as_ref().err().cloned();
@@ -185,7 +237,7 @@ impl Comparison {
         let short = no_report || path_length < PATH || length < room;
         let expected = if short { Err(Refused::plain(1)) } else { expected };
         reported(number, &report, expected.as_ref().err())?;
-        let made = Made { lengths: [path_length, 0, length], answer: number, no_report, ..Made::default() };
+        let made = Made { lengths: [path_length, 0, 0, length], answer: number, no_report, ..Made::default() };
         match expected {
             Ok(wanted) if number == 0 && all(path, FILL) => {
                 self.tally.instructions += wanted.instruction_count() as u64;
@@ -211,7 +263,7 @@ impl Comparison {
     }
 
     fn derive(
-        &mut self, case: &Case, read: &Result<(Expr, Vec<compile::Symbol>), Refused>, fault: Option<Refused>, loose: bool,
+        &mut self, case: &Case, read: &Result<(Expr, Vec<Symbol>), Refused>, fault: Option<Refused>, loose: bool,
     ) -> Result<(), String> {
         let unasked = fault.is_none() && matches!(read, Ok((expr, _)) if !sizes::buildable(expr));
         if unasked {
@@ -222,53 +274,64 @@ impl Comparison {
         let derived = match (read, fault) {
             (_, Some(fault)) => Err(fault),
             (Err(refused), None) => Err(refused.clone()),
-            (Ok((expr, symbols)), None) => {
-                let name = names::name_of(symbols, case.symbol);
-                let program = Program::derivative(expr, symbols, &name).map_err(refusal);
-                program.map(|program| {
-                    let tree = Program::tree_of_derivative(expr, symbols, &name).expect("a tree that was compiled");
-                    (nodes::write(&tree, symbols), program)
-                })
-            }
+            (Ok((expr, symbols)), None) => Derived::new(expr, symbols, case.symbol).map_err(refusal),
         };
         let own_room = slices::program_room(case.formula.len());
-        let (tree_need, program_need) = derived.as_ref().map_or((64, own_room), |(tree, _)| (tree.len(), 15 * tree.len()));
+        let (tree_need, program_need) = derived.as_ref().map_or((64, own_room), |d| (d.tree.len(), 15 * d.tree.len()));
+        let list_need = tree_need / NODE_SIZE * RECORD;
         let (path_length, tree_length, program_length) =
             (self.path_length(), self.length(tree_need), self.length(program_need.max(own_room)));
+        let list_length = self.list_length(list_need);
         let early = path_length < PATH || program_length < own_room;
+        let fits = tree_length >= tree_need && program_length >= program_need;
+        let list_short = !early && derived.is_ok() && fits && list_length < list_need;
         let expected = match derived {
             _ if early => Err(Refused::plain(1)),
-            Ok(_) if tree_length < tree_need || program_length < program_need => Err(Refused::plain(1)),
+            Ok(_) if !fits || list_short => Err(Refused::plain(1)),
             other => other,
         };
+        let by_a_record = list_length + RECORD == list_need;
         let from_compile = early || from_fault;
-        self.derive_with(case, expected, [path_length, tree_length, program_length], from_compile, loose)
+        let lengths = [path_length, tree_length, list_length, program_length];
+        let made = Made { symbol: u64::from(case.symbol), lengths, list_short, ..Made::default() };
+        self.derive_with(case, expected, made, from_compile, loose)?;
+        if list_short {
+            self.tally.lists[if by_a_record { 1 } else { 2 }] += 1;
+        }
+        Ok(())
     }
 
     /// Derives with slices of these lengths and compares with what is expected.
     fn derive_with(
-        &mut self, case: &Case, expected: Result<(Vec<u8>, Program), Refused>, lengths: [usize; 3], from_compile: bool, loose: bool,
+        &mut self, case: &Case, expected: Result<Derived, Refused>, made: Made, from_compile: bool, loose: bool,
     ) -> Result<(), String> {
         let mut report = self.report();
-        let path = filled(&mut self.path, lengths[0]);
-        let tree = filled(&mut self.tree, lengths[1]);
-        let program = filled(&mut self.program, lengths[2]);
-        let number = slices::derive(&case.formula, &case.names, case.symbol, path, tree, program, &mut report);
+        let path = filled(&mut self.path, made.lengths[0]);
+        let tree = filled(&mut self.tree, made.lengths[1]);
+        let list = filled(&mut self.list, made.lengths[2]);
+        let program = filled(&mut self.program, made.lengths[3]);
+        let number = slices::derive(&case.formula, &case.names, case.symbol, path, tree, list, program, &mut report);
         *self.tally.derived.entry(number).or_default() += 1;
         let no_report = report.len() < REPORT;
         let expected = if no_report { Err(Refused::plain(1)) } else { expected };
         reported(number, &report, expected.as_ref().err())?;
-        let made = Made { symbol: u64::from(case.symbol), lengths, answer: number, no_report, ..Made::default() };
+        let made = Made { answer: number, no_report, ..made };
         match expected {
-            Ok((bytes, wanted)) if number == 0 && all(path, FILL) => {
-                self.tally.nodes += (bytes.len() / NODE_SIZE) as u64;
-                if tree[..bytes.len()] != bytes || !all(&tree[bytes.len()..], 0) {
+            Ok(wanted) if number == 0 && all(path, FILL) => {
+                self.tally.nodes += (wanted.tree.len() / NODE_SIZE) as u64;
+                self.tally.decided += wanted.decided as u64;
+                self.tally.lists[0] += u64::from(list.len() == wanted.list.len());
+                if !is_filled(tree, &wanted.tree) {
                     return Err("the tree differs".into());
                 }
-                let end = programs::compare(program, &wanted)?;
-                self.tally.instructions += wanted.instruction_count() as u64;
-                let played = runs::compare(&wanted, program, loose, &mut self.random, &mut self.tally.derivative_runs)?;
-                record(&mut self.recorder, case, Made { tree: &bytes, program: &program[..end], ..made }, &played);
+                if !is_filled(list, &wanted.list) {
+                    return Err(format!("the records differ: {} here, {} in Rust", pairs(list), pairs(&wanted.list)));
+                }
+                wanted.list.chunks_exact(RECORD).for_each(|record| self.tally.records[usize::from(record[0])] += 1);
+                let end = programs::compare(program, &wanted.program)?;
+                self.tally.instructions += wanted.program.instruction_count() as u64;
+                let played = runs::compare(&wanted.program, program, loose, &mut self.random, &mut self.tally.derivative_runs)?;
+                record(&mut self.recorder, case, Made { tree: &wanted.tree, list: &wanted.list, program: &program[..end], ..made }, &played);
                 Ok(())
             }
             Ok(_) => Err(format!("{number} at {} here, a tree in Rust", slices::text(path))),
@@ -277,7 +340,7 @@ impl Comparison {
                     return Err(format!("{number} at {} here, {wanted} at {place:?} in Rust", slices::text(path)));
                 }
                 let left = if from_compile || no_report { FILL } else { 0 };
-                if !all(program, FILL) || !all(tree, left) {
+                if !all(program, FILL) || !all(tree, left) || !all(list, left) {
                     return Err("a slice is not as a refusal leaves it".into());
                 }
                 let made = Made { text: place.as_deref().unwrap_or_default(), node, tree_zero: !from_compile, ..made };
@@ -309,6 +372,11 @@ fn report(tally: &Tally) {
     println!("compiled: {} programs{}", good(&tally.compiled), by_answer(&tally.compiled));
     let (trees, refused) = (good(&tally.derived), by_answer(&tally.derived));
     println!("derived: {trees} trees of {} nodes{refused}, {} too large for the reference", tally.nodes, tally.unasked);
+    let by_rule = tally.records.iter().enumerate().filter(|(_, count)| **count > 0);
+    let by_rule: Vec<String> = by_rule.map(|(rule, count)| format!("{rule}: {count}")).collect();
+    println!("records by rule: {}; {} as docs/DECISIONS.md has them, not the reference's text", by_rule.join(", "), tally.decided);
+    let [just, record, other] = tally.lists;
+    println!("list slices: {just} of just 8 bytes a node, {record} too short by one record, {other} otherwise too short");
     println!("{} instructions compared", tally.instructions);
     for (name, runs) in [("runs", &tally.runs), ("runs of derivatives", &tally.derivative_runs)] {
         println!(
@@ -334,6 +402,7 @@ fn compare(seed: u64, count: u64, legs: Option<String>, folder: Option<String>) 
         tally: Tally::default(),
         path: Vec::new(),
         tree: vec![0; NODE_SIZE * LARGEST],
+        list: Vec::new(),
         program: Vec::new(),
         recorder: folder.map(Recorder::new),
     };

@@ -25,13 +25,16 @@ impl Call {
 /// What compile or derive answered and left. A symbol above 32 bits stands for compile.
 pub struct Made<'a> {
     pub symbol: u64,
-    pub lengths: [usize; 3],
+    /// Of the slices for path, tree, list and program.
+    pub lengths: [usize; 4],
     pub answer: usize,
     pub text: &'a str,
     /// The node of a refusal that has one.
     pub node: Option<usize>,
     pub tree: &'a [u8],
+    pub list: &'a [u8],
     pub program: &'a [u8],
+    /// Whether the slices for tree and list are all zero.
     pub tree_zero: bool,
     pub program_zero: bool,
     pub registers: usize,
@@ -41,17 +44,20 @@ pub struct Made<'a> {
     pub zeros: bool,
     /// Whether the report was too short; the gate's are not.
     pub no_report: bool,
+    /// Whether only the list slice was too short.
+    pub list_short: bool,
 }
 
 impl Default for Made<'_> {
     fn default() -> Self {
         Made {
             symbol: 1 << 32,
-            lengths: [0; 3],
+            lengths: [0; 4],
             answer: 0,
             text: "",
             node: None,
             tree: &[],
+            list: &[],
             program: &[],
             tree_zero: false,
             program_zero: false,
@@ -60,6 +66,7 @@ impl Default for Made<'_> {
             calls: &[],
             zeros: false,
             no_report: false,
+            list_short: false,
         }
     }
 }
@@ -69,8 +76,10 @@ pub struct Recorder {
     folder: String,
     bytes: Vec<u8>,
     lists: Vec<u8>,
+    /// Lists of calls so far, and their calls.
+    played: usize,
     listed: usize,
-    answers: std::collections::BTreeMap<(bool, usize, bool, bool), usize>,
+    answers: std::collections::BTreeMap<(bool, usize, bool, bool, bool), usize>,
     pub cases: usize,
     pub calls: usize,
 }
@@ -84,13 +93,14 @@ fn extend(bytes: &mut Vec<u8>, numbers: impl IntoIterator<Item = u64>) {
 /// Cases of one answer at most: more where calls follow, fewer of refusals and of zeros that have the other sign in Rust.
 const OTHERS: usize = 12;
 const ANSWERED: usize = 45;
-/// Bytes of a tree and of a program that crates/library_cases has room for.
+/// Bytes of a tree, a list and a program that crates/library_cases has room for.
 const TREE: usize = 8192;
+const LIST: usize = 4096;
 const PROGRAM: usize = 65536;
 
 impl Recorder {
     pub fn new(folder: String) -> Self {
-        Self { folder, bytes: Vec::new(), lists: Vec::new(), listed: 0, answers: Default::default(), cases: 0, calls: 0 }
+        Self { folder, bytes: Vec::new(), lists: Vec::new(), played: 0, listed: 0, answers: Default::default(), cases: 0, calls: 0 }
     }
 
     fn numbers(&mut self, numbers: impl IntoIterator<Item = u64>) {
@@ -100,11 +110,11 @@ impl Recorder {
     /// Takes a case that is small and of an answer that is still wanted.
     pub fn add(&mut self, case: &Case, made: &Made) {
         let small = case.formula.len() <= 400 && case.names.len() <= 400 && made.tree.len() <= 1000 && made.registers <= 64;
-        let room = made.lengths[1] <= TREE && made.lengths[2] <= PROGRAM;
+        let room = made.lengths[1] <= TREE && made.lengths[2] <= LIST && made.lengths[3] <= PROGRAM;
         let short = made.calls.len() <= 9 && made.calls.iter().all(|call| call.text.len() <= 500);
         let refused = made.calls.iter().any(|call| (1..12).contains(&call.numbers[20]) && call.numbers[20] != 9);
         let rich = made.answer != 0 || made.zeros || (made.calls.len() > 3 && (refused || self.cases % 4 == 0));
-        let key = (made.symbol < 1 << 32, made.answer, made.tree_zero, made.zeros);
+        let key = (made.symbol < 1 << 32, made.answer, made.tree_zero, made.zeros, made.list_short);
         let wanted = if made.answer == 0 && !made.zeros { ANSWERED } else { OTHERS };
         let taken = self.answers.entry(key).or_default();
         if made.no_report || !small || !room || !short || !rich || *taken == wanted {
@@ -117,11 +127,11 @@ impl Recorder {
         self.numbers(sizes);
         self.numbers([made.symbol]);
         self.numbers(made.lengths.map(|n| n as u64));
-        let texts = [made.answer, made.text.len(), made.tree.len(), made.program.len()].map(|n| n as u64);
+        let texts = [made.answer, made.text.len(), made.tree.len(), made.list.len(), made.program.len()].map(|n| n as u64);
         self.numbers(texts);
         self.numbers([u64::from(made.tree_zero), u64::from(made.program_zero)]);
         self.numbers([made.inputs.len(), made.registers, made.calls.len(), made.node.unwrap_or(0)].map(|n| n as u64));
-        for part in [case.formula.as_slice(), &case.names, made.text.as_bytes(), made.tree, made.program] {
+        for part in [case.formula.as_slice(), &case.names, made.text.as_bytes(), made.tree, made.list, made.program] {
             self.bytes.extend(part);
         }
         self.numbers(made.inputs.iter().map(|x| x.to_bits()));
@@ -133,8 +143,13 @@ impl Recorder {
         self.add_list(case, made);
     }
 
-    /// The same case as a list of calls, each on what the one before it left. A refusal of compile or derive stands for one call.
+    /// The same case as a list of calls, each on what the one before it left. A refusal of compile or derive stands for one call. The list
+    /// slice has half the tree slice's bytes there, so that none is too short by itself.
     fn add_list(&mut self, case: &Case, made: &Made) {
+        if made.list_short {
+            return;
+        }
+        self.played += 1;
         let none = Call::refused(made);
         let mut calls: Vec<&Call> = made.calls.iter().filter(|call| call.listed).collect();
         if made.answer != 0 {
@@ -142,7 +157,7 @@ impl Recorder {
         }
         let held = calls[0].before.first().copied().unwrap_or(0);
         let path = if made.answer == 0 { PATH + 8 } else { made.lengths[0] };
-        let sizes = [case.formula.len(), case.names.len(), made.symbol as usize, path, made.lengths[1], made.lengths[2], made.answer];
+        let sizes = [case.formula.len(), case.names.len(), made.symbol as usize, path, made.lengths[1], made.lengths[3], made.answer];
         extend(&mut self.lists, sizes.map(|n| n as u64));
         extend(&mut self.lists, [made.inputs.len() as u64, made.registers as u64, held, calls.len() as u64]);
         extend(&mut self.lists, [made.node.map_or(0, |node| node as u64 + 1)]);
@@ -162,13 +177,13 @@ impl Recorder {
         self.listed += calls.len();
     }
 
-    fn write_to(&self, name: &str, bytes: &[u8], calls: usize) -> std::io::Result<()> {
+    fn write_to(&self, name: &str, bytes: &[u8], cases: usize, calls: usize) -> std::io::Result<()> {
         std::fs::write(format!("{}/{name}/stdin", self.folder), bytes)?;
-        std::fs::write(format!("{}/{name}/stdout", self.folder), format!("{} cases, {calls} calls\nok\n", self.cases))
+        std::fs::write(format!("{}/{name}/stdout", self.folder), format!("{cases} cases, {calls} calls\nok\n"))
     }
 
     pub fn write(&self) -> std::io::Result<()> {
-        self.write_to("library_cases", &self.bytes, self.calls)?;
-        self.write_to("demand_cases", &self.lists, self.listed)
+        self.write_to("library_cases", &self.bytes, self.cases, self.calls)?;
+        self.write_to("demand_cases", &self.lists, self.played, self.listed)
     }
 }

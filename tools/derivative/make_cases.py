@@ -1,5 +1,5 @@
 #!/usr/bin/env python3
-"""Writes the record that crates/derivative_cases replays: formulas, a symbol, and the Rust reference's derivative tree of each.
+"""Writes the record that crates/derivative_cases replays: formulas, a symbol, and the Rust reference's derivative tree of each with its list of records.
 
     tools/derivative/make_cases.py FILE [ORACLE]     # from the repository's root; reference/build.sh builds the oracle
 
@@ -11,11 +11,14 @@ import sys
 
 ROOT = os.path.dirname(os.path.dirname(os.path.dirname(os.path.abspath(__file__))))
 sys.path.insert(0, os.path.join(ROOT, "tools", "shared"))
-from nodes import BINARY, BOOLEAN, CALL, COMPARE, CONDITIONAL, NODE_SIZE, UNARY, node, number, symbol  # noqa: E402
+from nodes import BINARY, BOOLEAN, CALL, COMPARE, CONDITIONAL, NODE_SIZE, UNARY, node, number, read_records, record, symbol  # noqa: E402
+from worked import differs, worked  # noqa: E402
 
 ABS, MIN, MAX, HILL, IFELSE, DENSITY = 8, 11, 12, 13, 14, 15
 MULTIPLY = 2
-LONGEST_FORMULA, LONGEST_TREE, RECORD_BYTES = 4096, 1024 * NODE_SIZE, 230000
+LONGEST_FORMULA, LONGEST_TREE, TOTAL_BYTES = 4096, 1024 * NODE_SIZE, 345000
+# every rule but Positive and the power 0, which no node has
+SHOWN = sorted(set(range(28)) - {2, 25})
 S, P, Q = symbol(0), symbol(1), symbol(2)
 
 
@@ -80,13 +83,14 @@ QUICK = node(BINARY, MULTIPLY, [number(0.0), nested(30)])
 
 def made():
     """Formula, name line and symbol of the cases made here."""
-    cases = [(f, "a:%s,b:p,c:p" % kind, 0) for kind in "psti" for f in arms()]
+    cases = [(f, names, by) for _, f, names, by, _, _ in worked()]
+    cases += [(f, "a:%s,b:p,c:p" % kind, 0) for kind in "psti" for f in arms()]
     return cases + [(f, "a:p,b:p,c:p", 0) for f in (nested(8), nested(11), QUICK, *polynomials())]
 
 
-def generated():
+def generated(seed, count):
     """The same of random commands."""
-    commands = subprocess.run([os.path.join(ROOT, "reference", "generate.py"), "--seed", "41", "--count", "6000"], text=True, capture_output=True, check=True)
+    commands = subprocess.run([os.path.join(ROOT, "reference", "generate.py"), "--seed", str(seed), "--count", str(count)], text=True, capture_output=True, check=True)
     for words in map(str.split, commands.stdout.split("\n")):
         if words and words[0] in ("derive", "drun"):
             yield words[1], words[2], int(words[3])
@@ -97,18 +101,29 @@ def generated():
 # ---- records
 
 def answer_of(words, formula):
-    """The refusal's number or 0, and the tree; none where the reference says something else."""
+    """The refusal's number or 0, the tree and its records; none where the reference says something else."""
     if words[0] == "tree":
-        return 0, bytes.fromhex(words[1])
+        return 0, bytes.fromhex(words[1]), bytes.fromhex(words[3])
     if words[:2] in (["refused", "8"], ["refused", "4"]):
-        return int(words[1]), b""
+        return int(words[1]), b"", b""
     if formula == QUICK:
-        return 0, node(BINARY, 0, [node(BINARY, MULTIPLY, [number(0.0), formula]), number(0.0)])
+        copied = [record(0, k) for k in range(len(formula) // NODE_SIZE)]
+        tree = node(BINARY, 0, [node(BINARY, MULTIPLY, [number(0.0), formula]), number(0.0)])
+        return 0, tree, record(27, 0) * 3 + b"".join(copied) + record(24, 0)
     return None
 
 
-def record(answer, s, state, formula, tree):
-    return struct.pack("<BBBBHH", answer, s, state, 0, len(formula) // NODE_SIZE, len(tree) // NODE_SIZE) + formula + tree
+def case(answer, s, state, formula, tree, records):
+    return struct.pack("<BBBBHH", answer, s, state, 0, len(formula) // NODE_SIZE, len(tree) // NODE_SIZE) + formula + tree + records
+
+
+def check_worked(found):
+    """The worked lists stand among those found, as they were worked out."""
+    for name, formula, names, by, heads, wanted in worked():
+        _, tree, records = found[formula.hex(), by, kinds_of(names.encode().hex())[by] == "s"]
+        what = differs(tree, records, heads, wanted)
+        if what:
+            sys.exit("%s: %s" % (name, what))
 
 
 def kinds_of(names):
@@ -125,32 +140,37 @@ def derivable(oracle, commands):
 
 def main(file, oracle="/tmp/oracle/oracle"):
     own = [(f.hex(), names.encode().hex(), s) for f, names, s in made()]
-    commands = own + list(generated())
+    commands = own + list(generated(41, 6000))
     places = list(derivable(oracle, commands))
-    trees = asked(oracle, ["derive %s %s %d" % commands[i] for i in places])
-    records, seen, counts, total, turn = [], set(), {}, 0, 0
+    trees = asked(oracle, ["records %s %s %d" % commands[i] for i in places])
+    cases, seen, counts, rules, total, turn = [], {}, {}, set(), 0, 0
     for i, said in zip(places, trees):
         f, names, s = commands[i]
         kinds = kinds_of(names)
         if s >= len(kinds) or (f, s, kinds[s] == "s") in seen:
             continue
-        seen.add((f, s, kinds[s] == "s"))
         formula = bytes.fromhex(f)
         found = answer_of(said.split(), formula)
+        seen[f, s, kinds[s] == "s"] = found
         if found is None or len(found[1]) > LONGEST_TREE:
             continue
-        answer, tree = found
+        answer, tree, records = found
+        made_case = case(answer, s, int(kinds[s] == "s"), formula, tree, records)
         if i >= len(own):
             turn += 1
             # of the random ones with a small tree one in seven, and no more than there is room for
-            if (len(tree) <= 6 * NODE_SIZE and (turn - 1) % 7) or total + len(tree) + len(formula) > RECORD_BYTES:
+            if (len(tree) <= 6 * NODE_SIZE and (turn - 1) % 7) or total + len(made_case) > TOTAL_BYTES:
                 continue
-        total += len(tree) + len(formula) + 8
-        records.append(record(answer, s, int(kinds[s] == "s"), formula, tree))
+        total += len(made_case)
+        cases.append(made_case)
         counts[answer] = counts.get(answer, 0) + 1
+        rules.update(rule for rule, _ in read_records(records))
+    check_worked(seen)
+    if sorted(rules) != SHOWN:
+        sys.exit("rules %s, not %s" % (sorted(rules), SHOWN))
     with open(file, "wb") as out:
-        out.write(b"".join(records))
-    print(len(records), "records, by answer", counts)
+        out.write(b"".join(cases))
+    print(len(cases), "records, by answer", counts)
 
 
 if __name__ == "__main__":

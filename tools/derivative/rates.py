@@ -5,51 +5,21 @@
 
 Of each formula, derived by each of its symbols: every node of the tree is plain; at each setting and each h the formula with h added to the symbol, less the formula, less h times the
 tree's value, is a multiple of h squared, and zero at h = 0; the tree keeps its bounds, and zeros follow it. A plain formula is refused by nothing. The last line says how many were wrong."""
-import ctypes
 import os
 import random
 import struct
-import subprocess
 import sys
 
 ROOT = os.path.dirname(os.path.dirname(os.path.dirname(os.path.abspath(__file__))))
 sys.path.insert(0, os.path.join(ROOT, "tools", "shared"))
-from nodes import BINARY, NODE_SIZE, NUMBER, PROGRAM_BYTES_PER_NODE, SYMBOL, UNARY, fields, node, number, symbol  # noqa: E402
+from library import Library  # noqa: E402
+from nodes import BINARY, NODE_SIZE, NUMBER, SYMBOL, UNARY, fields, node, number, symbol  # noqa: E402
 
 POSITIVE, NEGATIVE = 0, 1
 ADD, SUBTRACT, MULTIPLY = 0, 1, 2
 MOST_NODES, MOST_LEVELS, TREE_NODES = 256, 32, 8963
 NAMES = b"a:p,b:s,c:t,d:i"
 SYMBOLS = 4
-
-
-# ---- the library
-
-class Library:
-    """`vebrostin_derive` with slices for the largest tree of a plain formula."""
-
-    def __init__(self, path):
-        self.derive_call = ctypes.CDLL(path).vebrostin_derive
-        self.derive_call.restype = ctypes.c_size_t
-        self.path = ctypes.create_string_buffer(8192)
-        self.tree = ctypes.create_string_buffer(NODE_SIZE * TREE_NODES)
-        self.program = ctypes.create_string_buffer(PROGRAM_BYTES_PER_NODE * TREE_NODES)
-        self.report = (ctypes.c_uint64 * 8)()
-
-    def derive(self, formula, by):
-        """The answer, and what the tree slice holds."""
-        size = ctypes.c_size_t
-        answer = self.derive_call(formula, size(len(formula)), NAMES, size(len(NAMES)), ctypes.c_uint32(by), self.path, size(8192), self.tree, size(len(self.tree)),
-                                  self.program, size(len(self.program)), self.report, size(8))
-        return answer, self.tree.raw
-
-
-def shared_library():
-    """The static library as one that Python can load."""
-    archive, out = os.path.join(ROOT, "target", "staticlib", "libvebrostin.a"), os.path.join(ROOT, "target", "library", "libvebrostin.so")
-    os.makedirs(os.path.dirname(out), exist_ok=True)
-    subprocess.run(["cc", "-shared", "-o", out, "-Wl,--whole-archive", archive, "-Wl,--no-whole-archive", "-lm"], check=True)
-    return out
 
 
 # ---- trees, by Python's whole numbers
@@ -164,7 +134,7 @@ def wrong(library, r, formula):
     f, end = read(formula)
     most = 0
     for by in range(SYMBOLS):
-        answer, slice_ = library.derive(formula, by)
+        answer, slice_, _ = library.derive(formula, NAMES, by)
         if answer != 0:
             return "refused by %d" % answer, most
         try:
@@ -189,7 +159,7 @@ def wrong(library, r, formula):
 
 def main():
     count, seed = int(sys.argv[1]) if len(sys.argv) > 1 else 10000, int(sys.argv[2]) if len(sys.argv) > 2 else 13
-    r, library = random.Random(seed), Library(shared_library())
+    r, library = random.Random(seed), Library(TREE_NODES)
     formulas = list(fixed())
     while len(formulas) < count:
         formulas.append(grown(r, r.choice((3, 8, 20, 60, MOST_NODES)), r.choice((4, 8, MOST_LEVELS))))

@@ -1,14 +1,17 @@
-"""A formula's bytes: nodes of 16 bytes, each followed by its children (docs/REFERENCE.md, 1). The one home of these bytes in the Python tools."""
+"""A formula's bytes: nodes of 16 bytes, each followed by its children (docs/REFERENCE.md, 1), and the records of a derivative's nodes (10). The one home of these
+bytes in the Python tools."""
 import struct
 
 NODE_SIZE = 16
 PROGRAM_BYTES_PER_NODE = 240
+RECORD_SIZE = 8
 
 NUMBER, TRUTH, SYMBOL, UNARY, BINARY, COMPARE, BOOLEAN, CALL, CONDITIONAL = range(9)
 NAN_BITS = 0x7FF8000000000000
 
 FIELDS = "<BBHIQ"
 CHILDREN = struct.Struct("<H")
+RECORD = struct.Struct("<II")
 
 
 def bits(value):
@@ -39,6 +42,16 @@ def children_at(b, at):
 def nodes_in(b):
     """How many nodes the bytes take, a last part counted as one."""
     return -(-len(b) // NODE_SIZE)
+
+
+def record(rule, source):
+    """The record of a derivative's node: a rule's number and a node of the formula."""
+    return RECORD.pack(rule, source)
+
+
+def read_records(b):
+    """The records of a list, as pairs."""
+    return list(RECORD.iter_unpack(b))
 
 
 def program_room(formula):

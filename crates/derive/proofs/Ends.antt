@@ -45,9 +45,6 @@ pub all-zeroed : (t : List ℕ) → zeroed t 0 ≡ zeros (length t)
 unfolding zeroed
 all-zeroed t = let z : length t - 0 ≡ length t = omega arith in ap₂ (λ (x : List ℕ) (k : ℕ). x ++ zeros k) (none-taken t) z
 
-pub records-are : (s : ℕ) (f : Formula) (st : Bool) (ss : List Symbol) → st ≡ by-state ss s → derivative-records s st f ≡ derivative-records s (by-state ss s) f
-records-are s f st ss e = ap (λ (c : Bool). derivative-records s c f) e
-
 pub by-is : (s : ℕ) (f : Formula) (st : Bool) (ss : List Symbol) → st ≡ by-state ss s → derivative s st f ≡ derivative s (by-state ss s) f
 by-is s f st ss e = ap (λ (c : Bool). derivative s c f) e
 

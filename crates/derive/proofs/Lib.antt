@@ -3,4 +3,5 @@ pub mod Writable
 pub mod Parts
 pub mod Writing
 pub mod Ends
+pub mod Left
 pub mod Rates

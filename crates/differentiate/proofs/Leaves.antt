@@ -1,15 +1,16 @@
 -- The bytes and the records of a node, of a literal and of a copy.
 use mathlib.Core.Path.{_≡_, refl, sym, ap, _∙_}
 use mathlib.Core.Bool.{Bool, true, false, cond}
-use mathlib.Core.List.{List, [], _∷_, _++_, append-nil}
-use Prim.Native.Nat.{ℕ, zero, suc, _+_, _-_, _*_, _/_, _%_, _≤_, _<_}
+use mathlib.Core.List.{List, [], _∷_, append-nil}
+use Prim.Native.Nat.{ℕ, zero, suc, _+_, _*_, _/_, _%_, _≤_, _<_}
 use native.Mathlib.Omega.{arith}
+use lib.Dec.{eqb}
 use borrow.Author.Tests.{eq-eqb, ne-eqb}
-use lib.ListN.{length, getD, take, drop, length-append}
+use lib.ListN.{length, getD, take, drop}
 use Rattle.formula.specs.Text.{byte-at, half-at}
 use Rattle.formula.specs.Operator.{unary, binary, compare, call, Positive, Negative, Not, Add, Subtract, Multiply, Divide, Power, Modulo, Exp, Log, Log10, Sqrt, Sin, Cos, Tan, Tanh, Abs, Floor, Ceil, Min, Max, Hill, InverseGaussianDensity}
 use Rattle.formula.specs.Formula.{Head, number, truth, symbol, operation, junction, ifelse, conditional, malformed, Formula, node, last, size, well-formed}
-use Rattle.formula.specs.Node.{Fields, fields-at, fields-of, encode, node-bytes, inner-fields, tree-in, node-size}
+use Rattle.formula.specs.Node.{Fields, fields-at, fields-of, encode, node-bytes, inner-fields, node-size}
 use Rattle.derivative.specs.Records.{Record, Recorded, erase, by-rule, copy, arm, recorded-literal, to-the-zeroth, record-bytes, record-size, list-bytes}
 use Rattle.derivative.specs.Provenance.{numbered}
 use Rattle.reader.proofs.Bytes.{Bytes}
@@ -32,9 +33,6 @@ node-is k o n h =
     let z : n / 256 % 256 ≡ 0 = omega arith in
     sym (ap (λ (x : ℕ). k ∷ o ∷ x ∷ n / 256 % 256 ∷ 0 ∷ 0 ∷ 0 ∷ 0 ∷ 0 ∷ 0 ∷ 0 ∷ 0 ∷ 0 ∷ 0 ∷ 0 ∷ 0 ∷ []) a
     ∙ ap (λ (x : ℕ). k ∷ o ∷ n ∷ x ∷ 0 ∷ 0 ∷ 0 ∷ 0 ∷ 0 ∷ 0 ∷ 0 ∷ 0 ∷ 0 ∷ 0 ∷ 0 ∷ 0 ∷ []) z)
-
-pub literal-length : (b : ℕ) → length (encode (node (number b) last)) ≡ 16
-literal-length b = encode-length (node (number b) last)
 
 pub literal-is : (b x0 x1 x2 x3 x4 x5 x6 x7 : ℕ) → x0 ≡ b % 256 → x1 ≡ b / 256 % 256 → x2 ≡ b / 256 / 256 % 256 → x3 ≡ b / 256 / 256 / 256 % 256
     → x4 ≡ b / 256 / 256 / 256 / 256 % 256 → x5 ≡ b / 256 / 256 / 256 / 256 / 256 % 256 → x6 ≡ b / 256 / 256 / 256 / 256 / 256 / 256 % 256
@@ -82,6 +80,14 @@ module _ (m : Bool) (k : ℕ) (t : Formula) (o : ℕ) where
 
   pub rule-text : (o ≡ 11 → ⊥) → arm-literal m k t rule-bits ≡ bytes m (literal-part k t o)
   rule-text e = sym (ap (λ (x : Bool). bytes m (cond x (recorded-literal to-the-zeroth k rule-bits) (recorded-literal (arm-of t) k rule-bits))) (ne-eqb o 11 e))
+
+  pub value-text : m ≡ false → encode (node (number rule-bits) last) ≡ bytes m (literal-part k t o)
+  value-text e = go (eqb o 11)
+    where
+      go : (x : Bool) → encode (node (number rule-bits) last)
+          ≡ bytes m (cond x (recorded-literal to-the-zeroth k rule-bits) (recorded-literal (arm-of t) k rule-bits))
+      go true = literal-node m to-the-zeroth k rule-bits e
+      go false = literal-node m (arm-of t) k rule-bits e
 
 -- the room that it takes
 pub step-record : (m : Bool) → m ≡ true → step m ≡ record-size

@@ -1,16 +1,16 @@
 -- The derivative of a part with its records: without them it is the derivative, and where the definition has one it is that.
 use mathlib.Core.Path.{_≡_, refl, sym, ap, _∙_}
 use mathlib.Core.Bool.{Bool, true, false, cond}
-use mathlib.Core.List.{List, [], _∷_, _++_, map, append-assoc, append-nil}
+use mathlib.Core.List.{List, [], _++_, map, append-nil}
 use mathlib.Core.Option.{Option, none, some}
 use Prim.Native.Nat.{ℕ, zero, suc, _+_, _*_, _≤_}
 use native.Mathlib.Omega.{arith}
 use native.Mathlib.Numerals.{add-one}
-use lib.ListN.{length, getD, length-append}
+use lib.ListN.{length, getD}
 use Rattle.formula.specs.Text.{half-at}
-use Rattle.formula.specs.Formula.{Formula, Formulas, node, number, last, next, to-list, count, size, sizes, depends, well-formed}
+use Rattle.formula.specs.Formula.{Formula, Formulas, node, number, last, next, count, size, depends, well-formed}
 use Rattle.formula.specs.Node.{encode, encode-all, node-bytes, fields-of, node-size}
-use Rattle.derivative.specs.Rules.{Parts, Rule, instance}
+use Rattle.derivative.specs.Rules.{Parts, Rule}
 use Rattle.derivative.specs.Differentiate.{formulas, differentiate, the-rule}
 use Rattle.derivative.specs.Records.{Record, Recorded, Recordeds, noted, stop, more, erase, erase-all, records, records-all, by-rule, copied, copy, copies, written-by, arm, recorded-literal, without-symbol, differentiate-at, differentiate-from, record-bytes, record-size, list-bytes}
 use Rattle.derivative.specs.Provenance.{numbered}
@@ -23,7 +23,7 @@ use Rattle.survey.specs.Derived.{derived, derived-all, parts-of, children-of, o
 use Rattle.survey.specs.Table.{tree, nth, number-from, IsChild}
 use Rattle.survey.proofs.Derivative.{node-right, next-right, some-of}
 use Rattle.survey.proofs.Trees.{count-is}
-use Rattle.differentiate.specs.Written.{start, step, bytes, bytes-all, arms, recorded, recorded-all, recorded-parts, copy-of, recorded-of}
+use Rattle.differentiate.specs.Written.{step, bytes, bytes-all, arms, recorded, recorded-all, recorded-parts, copy-of, recorded-of}
 
 -- ---- without the records
 

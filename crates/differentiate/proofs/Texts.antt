@@ -12,7 +12,7 @@ use Rattle.formula.specs.Operator.{binary, Add, Multiply}
 use Rattle.formula.specs.Text.{half-at}
 use Rattle.formula.specs.Formula.{Formula, operation, node, count, depends, well-formed}
 use Rattle.formula.specs.Node.{Fields, node-bytes, inner-fields, fields-of, node-size}
-use Rattle.derivative.specs.Rules.{Parts, Rule, child, whole, diff, make, lit, 0·0, instance, instances, extremum-from, unless-zero, zeroth, zero-of}
+use Rattle.derivative.specs.Rules.{Parts, Rule, child, whole, diff, make, lit, 0·0, instance, instances, unless-zero, zeroth, zero-of}
 use Rattle.derivative.specs.Differentiate.{formulas, the-rule}
 use Rattle.derivative.specs.Attributes.{Attributes, attribute-algebra, attributes-of}
 use Rattle.derivative.specs.Records.{Recorded, gathered, erase, erase-all, by-rule as record-of, copy, recorded-literal, beside-zero, to-the-zeroth, without-symbol}

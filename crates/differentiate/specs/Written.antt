@@ -1,16 +1,16 @@
 -- What the writers of a derivative's parts write, and what they are given. A writer is asked for the nodes of a part or for its records.
 use mathlib.Core.Path.{_≡_}
 use mathlib.Core.Bool.{Bool, true, cond}
-use mathlib.Core.Option.{Option, none, some}
+use mathlib.Core.Option.{none, some}
 use mathlib.Core.List.{List, [], _∷_, _++_}
-use Prim.Native.Nat.{ℕ, zero, suc, _+_, _*_, _<_, _≤_}
+use Prim.Native.Nat.{ℕ, suc, _+_, _*_, _<_, _≤_}
 use lib.Dec.{eqb}
 use lib.ListN.{length, drop, getD}
 use Rattle.formula.specs.Formula.{Formula, Formulas, last, next, node, count, size, depth, depends}
 use Rattle.formula.specs.Node.{encode, inner-fields, node-bytes, fields-of, node-size}
-use Rattle.derivative.specs.Rules.{Algebra, Parts, Rule, instance, instances, extremum-from, add-of, mul-of, zero-of}
+use Rattle.derivative.specs.Rules.{Algebra, Parts, instance, instances, extremum-from, add-of, mul-of, zero-of}
 use Rattle.derivative.specs.Differentiate.{derivative, second-literal, the-rule}
-use Rattle.derivative.specs.Records.{Record, Recorded, Recordeds, noted, stop, more, gathered, erase, erase-all, arm, by-rule, recorded-literal, copy, copies, written-by, to-the-zeroth, without-symbol, outer, record-bytes, record-size, list-bytes}
+use Rattle.derivative.specs.Records.{Record, Recorded, Recordeds, noted, stop, more, gathered, erase-all, arm, by-rule, recorded-literal, copy, copies, written-by, to-the-zeroth, without-symbol, outer, record-bytes, record-size, list-bytes}
 use Rattle.reader.specs.Read.{is-some}
 use Rattle.rules.specs.Notation.{rules-from, end-at, extremum, or-zero, literal-code}
 use Rattle.survey.specs.Derived.{rule-for, children-of, head-of-tree, or-else}

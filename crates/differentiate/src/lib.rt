@@ -13,7 +13,6 @@ ghost use Rattle.formula.specs.Node.{encode, inner-fields, node-bytes, node-siz
 ghost use Rattle.derivative.specs.Differentiate.{derivative};
 ghost use Rattle.derivative.specs.Records.{by-rule, copy as copy-from, derivative-records, list-bytes, record-bytes, record-size, recorded-literal};
 ghost use Rattle.derivative.specs.Provenance.{numbered};
-ghost use Rattle.rules.specs.Notation.{end-at};
 ghost use Rattle.survey.specs.Table.{tree, Owned};
 ghost use Rattle.writer.specs.Over.{over};
 ghost use Rattle.differentiate.specs.Written.{Writes, Task, bytes, step, coded-arm, arm-of, arm-literal, literal-part, arm-node, outer-node, recorded, recorded-of, copy-of, part, parts-bytes, extremum-bytes, extremum-tree, tie-bytes, sum-bytes, product-bytes, Small, primal-bytes, asked, Job};
@@ -225,11 +224,13 @@ fn put_rule_literal(
     requires { ⌜ Owned (now f) (now table) k × (step records ≤ length (now out)) ⌝ }
     ensures { λ r. ⌜ Writes (bytes records (literal-part k (tree (now (f .entry)) k) which)) (now (out .entry)) (now (out .exit)) r ⌝ }
 {
-    let bits = literal_bits(which, f, k, table);
-    if which == 11 {
-        return put_literal(bits, TO_THE_ZEROTH, k, records, out);
+    if !records {
+        return put_value(literal_bits(which, f, k, table), out);
     }
-    put_arm_literal(bits, f, k, records, out)
+    if which == 11 {
+        return put_record(TO_THE_ZEROTH, k, out);
+    }
+    put_record(arm_of(f, k), k, out)
 }
 
 // A node that the arm of node k writes, up to its children.

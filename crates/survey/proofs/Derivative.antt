@@ -5,7 +5,7 @@ use mathlib.Core.List.{List, [], _∷_}
 use mathlib.Core.Option.{Option, none, some}
 use Prim.Native.Nat.{ℕ}
 use native.Mathlib.Omega.{arith}
-use Rattle.formula.specs.Formula.{Formula, Formulas, node, last, next, to-list, depends, size}
+use Rattle.formula.specs.Formula.{Formula, Formulas, node, last, next, to-list, depends}
 use Rattle.derivative.specs.Rules.{Algebra, Rule, instance}
 use Rattle.derivative.specs.Differentiate.{formulas, the-rule, differentiate, differentiate-all, and-then, applied}
 use Rattle.derivative.specs.Attributes.{Attributes, Survey, attributes-of, survey}

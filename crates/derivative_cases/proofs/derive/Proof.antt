@@ -32,9 +32,9 @@ survey-formula-requires c κs = room-from (c .before .before .before .before .be
 
 with-primal-requires : tie.Need-with-primal-requires
 with-primal-requires c κs = (
-      own-capped (c .before .before .before .before .before .before .before .before .before .before .before .before .args .by .symbol) (c .before .before .before .before .before .before .before .before .before .before .before .before .args .by .state) (tree (c .before .before .before .before .before .before .before .before .before .before .before .before .args .f .now) 0) (c .before .before .before .before .survey-formula .result) (c .before .before .before .before .survey-formula .ensures .0),
-      diff-capped (c .before .before .before .before .before .before .before .before .before .before .before .before .args .by .symbol) (c .before .before .before .before .before .before .before .before .before .before .before .before .args .by .state) (tree (c .before .before .before .before .before .before .before .before .before .before .before .before .args .f .now) 0) (c .before .before .before .before .survey-formula .result) (c .before .before .before .before .survey-formula .ensures .0) (c .before .before .if3 .taken),
-    )
+  own-capped (c .before .before .before .before .before .before .before .before .before .before .before .before .args .by .symbol) (c .before .before .before .before .before .before .before .before .before .before .before .before .args .by .state) (tree (c .before .before .before .before .before .before .before .before .before .before .before .before .args .f .now) 0) (c .before .before .before .before .survey-formula .result) (c .before .before .before .before .survey-formula .ensures .0),
+  diff-capped (c .before .before .before .before .before .before .before .before .before .before .before .before .args .by .symbol) (c .before .before .before .before .before .before .before .before .before .before .before .before .args .by .state) (tree (c .before .before .before .before .before .before .before .before .before .before .before .before .args .f .now) 0) (c .before .before .before .before .survey-formula .result) (c .before .before .before .before .survey-formula .ensures .0) (c .before .before .if3 .taken),
+)
 
 returns : tie.Need-returns
 returns c = search needs

@@ -1,5 +1,4 @@
 use native.Mathlib.Omega.{arith}
-use mathlib.Core.Path.{sym, _∙_}
 use Rattle.survey.proofs.Rows.{owned-child}
 use Rattle.differentiate.proofs.Lists.{as-text, room-as}
 use Rattle.differentiate.proofs.Leaves.{child-text, none-text, bytes-room}
