@@ -80,20 +80,103 @@ const N_LESS_ONE: u8 = 0xca;
 // The literal 1 that `power` writes for the power 0.
 const ZEROTH: u8 = 0xcb;
 
+// A function lays out all its texts before it looks at one of them. So the rules that are read most, and the longest, have a
+// function each.
+fn add_letter(i: usize) -> u8
+    ensures { λ r. ⌜ r ≡ getD (look binaries 0x40) i 0 ⌝ }
+{
+    byte(b"+xy", i)
+}
+
+fn subtract_letter(i: usize) -> u8
+    ensures { λ r. ⌜ r ≡ getD (look binaries 0x41) i 0 ⌝ }
+{
+    byte(b"+x*-y", i)
+}
+
+fn multiply_letter(i: usize) -> u8
+    ensures { λ r. ⌜ r ≡ getD (look binaries 0x42) i 0 ⌝ }
+{
+    byte(b"+*xb*ay", i)
+}
+
+fn divide_letter(i: usize) -> u8
+    ensures { λ r. ⌜ r ≡ getD (look binaries 0x43) i 0 ⌝ }
+{
+    byte(b"/+*xb*-*ay^b2", i)
+}
+
+fn power_letter(i: usize) -> u8
+    ensures { λ r. ⌜ r ≡ getD (look binaries 0x44) i 0 ⌝ }
+{
+    byte(b"+X?=b00?=b1x**b^a+b*-1xY?=a00**wLay", i)
+}
+
+fn modulo_letter(i: usize) -> u8
+    ensures { λ r. ⌜ r ≡ getD (look binaries 0x45) i 0 ⌝ }
+{
+    byte(b"+/0w+x*-*F/aby", i)
+}
+
+fn literal_power_letter(i: usize) -> u8
+    ensures { λ r. ⌜ r ≡ getD (look binaries 0x46) i 0 ⌝ }
+{
+    byte(b"**n^amx", i)
+}
+
+fn square_letter(i: usize) -> u8
+    ensures { λ r. ⌜ r ≡ getD (look binaries 0x47) i 0 ⌝ }
+{
+    byte(b"**nax", i)
+}
+
+fn first_power_letter(i: usize) -> u8
+    ensures { λ r. ⌜ r ≡ getD (look binaries 0x48) i 0 ⌝ }
+{
+    byte(b"**nox", i)
+}
+
+fn hill_letter(i: usize) -> u8
+    ensures { λ r. ⌜ r ≡ getD (look calls 0x7d) i 0 ⌝ }
+{
+    byte(
+        b"?>a0+***/HabcaHcbabx+***wHcba+La*-Lcy*-***/wcHcbabz?<a00X?>b10/10",
+        i,
+    )
+}
+
+fn density_letter(i: usize) -> u8
+    ensures { λ r. ⌜ r ≡ getD (look calls 0x7f) i 0 ⌝ }
+{
+    byte(
+        b"?>w0*w++*+*-/ta*h+/c^a2*-/c^b2x*/*c+a*-b^b3y*+/hc*-/^+a*-b2*2*^b2az0",
+        i,
+    )
+}
+
+fn hill_by_state_letter(i: usize) -> u8
+    ensures { λ r. ⌜ r ≡ getD (look others 0x8d) i 0 ⌝ }
+{
+    byte(
+        b"?>a0+***/HabcaHcbabx+***wHcba+La*-Lcy*-***/wcHcbabz?<a00X?>b10?=b1/xc***/H*ecbc*ecHcb*ecbx",
+        i,
+    )
+}
+
 // Add, Subtract, Multiply, Divide, Power, Modulo, and Power by a literal n, by n - 1 = 1, by n - 1 = 0.
 fn binary_letter(q: usize, i: usize) -> u8
     ensures { λ r. ⌜ r ≡ getD (look binaries q) i 0 ⌝ }
 {
     match q {
-        0x40 => byte(b"+xy", i),
-        0x41 => byte(b"+x*-y", i),
-        0x42 => byte(b"+*xb*ay", i),
-        0x43 => byte(b"/+*xb*-*ay^b2", i),
-        0x44 => byte(b"+X?=b00?=b1x**b^a+b*-1xY?=a00**wLay", i),
-        0x45 => byte(b"+/0w+x*-*F/aby", i),
-        0x46 => byte(b"**n^amx", i),
-        0x47 => byte(b"**nax", i),
-        0x48 => byte(b"**nox", i),
+        0x40 => add_letter(i),
+        0x41 => subtract_letter(i),
+        0x42 => multiply_letter(i),
+        0x43 => divide_letter(i),
+        0x44 => power_letter(i),
+        0x45 => modulo_letter(i),
+        0x46 => literal_power_letter(i),
+        0x47 => square_letter(i),
+        0x48 => first_power_letter(i),
         _ => 0,
     }
 }
@@ -114,15 +197,9 @@ fn call_letter(q: usize, i: usize) -> u8
         0x78 => byte(b"?>a0x?<a0*-x0", i),
         0x7b => byte(b"M", i),
         0x7c => byte(b"M", i),
-        0x7d => byte(
-            b"?>a0+***/HabcaHcbabx+***wHcba+La*-Lcy*-***/wcHcbabz?<a00X?>b10/10",
-            i,
-        ),
+        0x7d => hill_letter(i),
         0x7e => byte(b"?ayz", i),
-        0x7f => byte(
-            b"?>w0*w++*+*-/ta*h+/c^a2*-/c^b2x*/*c+a*-b^b3y*+/hc*-/^+a*-b2*2*^b2az0",
-            i,
-        ),
+        0x7f => density_letter(i),
         _ => 0,
     }
 }
@@ -136,10 +213,7 @@ fn other_letter(q: usize, i: usize) -> u8
         0x30 => byte(b"x", i),
         0x31 => byte(b"*-x", i),
         0x80 => byte(b"?ayz", i),
-        0x8d => byte(
-            b"?>a0+***/HabcaHcbabx+***wHcba+La*-Lcy*-***/wcHcbabz?<a00X?>b10?=b1/xc***/H*ecbc*ecHcb*ecbx",
-            i,
-        ),
+        0x8d => hill_by_state_letter(i),
         _ => 0,
     }
 }

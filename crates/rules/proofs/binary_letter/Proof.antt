@@ -4,88 +4,69 @@ use Rattle.rules.proofs.binary_letter.Statement.{statement}
 use Rattle.rules.proofs.binary_letter.Tie as tie
 use Rattle.rules.proofs.binary_letter.Reads as reads
 use Rattle.rules.proofs.binary_letter.Lts as lts
-use Rattle.reader.proofs.byte.Reads as byte-reads
+use Rattle.rules.proofs.add_letter.Reads as add-letter-reads
+use Rattle.rules.proofs.divide_letter.Reads as divide-letter-reads
+use Rattle.rules.proofs.first_power_letter.Reads as first-power-letter-reads
+use Rattle.rules.proofs.literal_power_letter.Reads as literal-power-letter-reads
+use Rattle.rules.proofs.modulo_letter.Reads as modulo-letter-reads
+use Rattle.rules.proofs.multiply_letter.Reads as multiply-letter-reads
+use Rattle.rules.proofs.power_letter.Reads as power-letter-reads
+use Rattle.rules.proofs.square_letter.Reads as square-letter-reads
+use Rattle.rules.proofs.subtract_letter.Reads as subtract-letter-reads
 
-slice-aggregate-byte : tie.Need-slice-aggregate-byte
-slice-aggregate-byte c = search needs
+add-letter-requires : tie.Need-add-letter-requires
+add-letter-requires c κs = search needs
 
-byte-requires : tie.Need-byte-requires
-byte-requires c κs = search needs
+subtract-letter-requires : tie.Need-subtract-letter-requires
+subtract-letter-requires c κs = search needs
 
-slice-aggregate-byte-2 : tie.Need-slice-aggregate-byte-2
-slice-aggregate-byte-2 c = search needs
+multiply-letter-requires : tie.Need-multiply-letter-requires
+multiply-letter-requires c κs = search needs
 
-byte-requires-2 : tie.Need-byte-requires-2
-byte-requires-2 c κs = search needs
+divide-letter-requires : tie.Need-divide-letter-requires
+divide-letter-requires c κs = search needs
 
-slice-aggregate-byte-3 : tie.Need-slice-aggregate-byte-3
-slice-aggregate-byte-3 c = search needs
+power-letter-requires : tie.Need-power-letter-requires
+power-letter-requires c κs = search needs
 
-byte-requires-3 : tie.Need-byte-requires-3
-byte-requires-3 c κs = search needs
+modulo-letter-requires : tie.Need-modulo-letter-requires
+modulo-letter-requires c κs = search needs
 
-slice-aggregate-byte-4 : tie.Need-slice-aggregate-byte-4
-slice-aggregate-byte-4 c = search needs
+literal-power-letter-requires : tie.Need-literal-power-letter-requires
+literal-power-letter-requires c κs = search needs
 
-byte-requires-4 : tie.Need-byte-requires-4
-byte-requires-4 c κs = search needs
+square-letter-requires : tie.Need-square-letter-requires
+square-letter-requires c κs = search needs
 
-slice-aggregate-byte-5 : tie.Need-slice-aggregate-byte-5
-slice-aggregate-byte-5 c = search needs
-
-byte-requires-5 : tie.Need-byte-requires-5
-byte-requires-5 c κs = search needs
-
-slice-aggregate-byte-6 : tie.Need-slice-aggregate-byte-6
-slice-aggregate-byte-6 c = search needs
-
-byte-requires-6 : tie.Need-byte-requires-6
-byte-requires-6 c κs = search needs
-
-slice-aggregate-byte-7 : tie.Need-slice-aggregate-byte-7
-slice-aggregate-byte-7 c = search needs
-
-byte-requires-7 : tie.Need-byte-requires-7
-byte-requires-7 c κs = search needs
-
-slice-aggregate-byte-8 : tie.Need-slice-aggregate-byte-8
-slice-aggregate-byte-8 c = search needs
-
-byte-requires-8 : tie.Need-byte-requires-8
-byte-requires-8 c κs = search needs
-
-slice-aggregate-byte-9 : tie.Need-slice-aggregate-byte-9
-slice-aggregate-byte-9 c = search needs
-
-byte-requires-9 : tie.Need-byte-requires-9
-byte-requires-9 c κs = search needs
+first-power-letter-requires : tie.Need-first-power-letter-requires
+first-power-letter-requires c κs = search needs
 
 returns : tie.Need-returns
-returns c = rw (c .before .before .match .keys1) (c .byte .ensures)
+returns c = rw (c .before .match .keys1) (c .add-letter .ensures)
 
 returns-2 : tie.Need-returns-2
-returns-2 c = rw (c .before .before .match .keys2) (c .byte2 .ensures)
+returns-2 c = rw (c .before .match .keys2) (c .subtract-letter .ensures)
 
 returns-3 : tie.Need-returns-3
-returns-3 c = rw (c .before .before .match .keys3) (c .byte3 .ensures)
+returns-3 c = rw (c .before .match .keys3) (c .multiply-letter .ensures)
 
 returns-4 : tie.Need-returns-4
-returns-4 c = rw (c .before .before .match .keys4) (c .byte4 .ensures)
+returns-4 c = rw (c .before .match .keys4) (c .divide-letter .ensures)
 
 returns-5 : tie.Need-returns-5
-returns-5 c = rw (c .before .before .match .keys5) (c .byte5 .ensures)
+returns-5 c = rw (c .before .match .keys5) (c .power-letter .ensures)
 
 returns-6 : tie.Need-returns-6
-returns-6 c = rw (c .before .before .match .keys6) (c .byte6 .ensures)
+returns-6 c = rw (c .before .match .keys6) (c .modulo-letter .ensures)
 
 returns-7 : tie.Need-returns-7
-returns-7 c = rw (c .before .before .match .keys7) (c .byte7 .ensures)
+returns-7 c = rw (c .before .match .keys7) (c .literal-power-letter .ensures)
 
 returns-8 : tie.Need-returns-8
-returns-8 c = rw (c .before .before .match .keys8) (c .byte8 .ensures)
+returns-8 c = rw (c .before .match .keys8) (c .square-letter .ensures)
 
 returns-9 : tie.Need-returns-9
-returns-9 c = rw (c .before .before .match .keys9) (c .byte9 .ensures)
+returns-9 c = rw (c .before .match .keys9) (c .first-power-letter .ensures)
 
 returns-10 : tie.Need-returns-10
 returns-10 c =
@@ -106,24 +87,15 @@ pub binary-letter-spec : {M : Type 1} → statement M
 binary-letter-spec =
     tie.close
     (tie.spec
-    slice-aggregate-byte
-    byte-requires
-    slice-aggregate-byte-2
-    byte-requires-2
-    slice-aggregate-byte-3
-    byte-requires-3
-    slice-aggregate-byte-4
-    byte-requires-4
-    slice-aggregate-byte-5
-    byte-requires-5
-    slice-aggregate-byte-6
-    byte-requires-6
-    slice-aggregate-byte-7
-    byte-requires-7
-    slice-aggregate-byte-8
-    byte-requires-8
-    slice-aggregate-byte-9
-    byte-requires-9
+    add-letter-requires
+    subtract-letter-requires
+    multiply-letter-requires
+    divide-letter-requires
+    power-letter-requires
+    modulo-letter-requires
+    literal-power-letter-requires
+    square-letter-requires
+    first-power-letter-requires
     returns
     returns-2
     returns-3

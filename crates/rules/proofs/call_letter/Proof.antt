@@ -5,6 +5,8 @@ use Rattle.rules.proofs.call_letter.Tie as tie
 use Rattle.rules.proofs.call_letter.Reads as reads
 use Rattle.rules.proofs.call_letter.Lts as lts
 use Rattle.reader.proofs.byte.Reads as byte-reads
+use Rattle.rules.proofs.density_letter.Reads as density-letter-reads
+use Rattle.rules.proofs.hill_letter.Reads as hill-letter-reads
 
 slice-aggregate-byte : tie.Need-slice-aggregate-byte
 slice-aggregate-byte c = search needs
@@ -72,23 +74,17 @@ slice-aggregate-byte-11 c = search needs
 byte-requires-11 : tie.Need-byte-requires-11
 byte-requires-11 c κs = search needs
 
+hill-letter-requires : tie.Need-hill-letter-requires
+hill-letter-requires c κs = search needs
+
 slice-aggregate-byte-12 : tie.Need-slice-aggregate-byte-12
 slice-aggregate-byte-12 c = search needs
 
 byte-requires-12 : tie.Need-byte-requires-12
 byte-requires-12 c κs = search needs
 
-slice-aggregate-byte-13 : tie.Need-slice-aggregate-byte-13
-slice-aggregate-byte-13 c = search needs
-
-byte-requires-13 : tie.Need-byte-requires-13
-byte-requires-13 c κs = search needs
-
-slice-aggregate-byte-14 : tie.Need-slice-aggregate-byte-14
-slice-aggregate-byte-14 c = search needs
-
-byte-requires-14 : tie.Need-byte-requires-14
-byte-requires-14 c κs = search needs
+density-letter-requires : tie.Need-density-letter-requires
+density-letter-requires c κs = search needs
 
 returns : tie.Need-returns
 returns c = rw (c .before .before .match .keys1) (c .byte .ensures)
@@ -124,13 +120,13 @@ returns-11 : tie.Need-returns-11
 returns-11 c = rw (c .before .before .match .keys11) (c .byte11 .ensures)
 
 returns-12 : tie.Need-returns-12
-returns-12 c = rw (c .before .before .match .keys12) (c .byte12 .ensures)
+returns-12 c = rw (c .before .match .keys12) (c .hill-letter .ensures)
 
 returns-13 : tie.Need-returns-13
-returns-13 c = rw (c .before .before .match .keys13) (c .byte13 .ensures)
+returns-13 c = rw (c .before .before .match .keys13) (c .byte12 .ensures)
 
 returns-14 : tie.Need-returns-14
-returns-14 c = rw (c .before .before .match .keys14) (c .byte14 .ensures)
+returns-14 c = rw (c .before .match .keys14) (c .density-letter .ensures)
 
 returns-15 : tie.Need-returns-15
 returns-15 c =
@@ -178,12 +174,10 @@ call-letter-spec =
     byte-requires-10
     slice-aggregate-byte-11
     byte-requires-11
+    hill-letter-requires
     slice-aggregate-byte-12
     byte-requires-12
-    slice-aggregate-byte-13
-    byte-requires-13
-    slice-aggregate-byte-14
-    byte-requires-14
+    density-letter-requires
     returns
     returns-2
     returns-3

@@ -5,6 +5,7 @@ use Rattle.rules.proofs.other_letter.Tie as tie
 use Rattle.rules.proofs.other_letter.Reads as reads
 use Rattle.rules.proofs.other_letter.Lts as lts
 use Rattle.reader.proofs.byte.Reads as byte-reads
+use Rattle.rules.proofs.hill_by_state_letter.Reads as hill-by-state-letter-reads
 
 slice-aggregate-byte : tie.Need-slice-aggregate-byte
 slice-aggregate-byte c = search needs
@@ -30,11 +31,8 @@ slice-aggregate-byte-4 c = search needs
 byte-requires-4 : tie.Need-byte-requires-4
 byte-requires-4 c κs = search needs
 
-slice-aggregate-byte-5 : tie.Need-slice-aggregate-byte-5
-slice-aggregate-byte-5 c = search needs
-
-byte-requires-5 : tie.Need-byte-requires-5
-byte-requires-5 c κs = search needs
+hill-by-state-letter-requires : tie.Need-hill-by-state-letter-requires
+hill-by-state-letter-requires c κs = search needs
 
 returns : tie.Need-returns
 returns c = rw (c .before .before .match .keys1) (c .byte .ensures)
@@ -49,7 +47,7 @@ returns-4 : tie.Need-returns-4
 returns-4 c = rw (c .before .before .match .keys4) (c .byte4 .ensures)
 
 returns-5 : tie.Need-returns-5
-returns-5 c = rw (c .before .before .match .keys5) (c .byte5 .ensures)
+returns-5 c = rw (c .before .match .keys5) (c .hill-by-state-letter .ensures)
 
 returns-6 : tie.Need-returns-6
 returns-6 c =
@@ -74,8 +72,7 @@ other-letter-spec =
     byte-requires-3
     slice-aggregate-byte-4
     byte-requires-4
-    slice-aggregate-byte-5
-    byte-requires-5
+    hill-by-state-letter-requires
     returns
     returns-2
     returns-3
