@@ -1,3 +1,4 @@
+#![tactic(auto)]
 // What the programs share that replay recorded cases: numbers of a record, slices beside it, and the count of cases.
 ghost use Rattle.std.specs.Prelude.{◌≤◌};
 

@@ -1,3 +1,4 @@
+#![tactic(auto)]
 // Formula bytes and a name line in, program bytes out; reference `compile_prepared`.
 ghost use Rattle.std.specs.Prelude.{◌≡◌, cond, true, List, ◌++◌, ◌*◌, ◌≤◌, length};
 ghost use Rattle.std.proofs.Math.Option.{none, some};
@@ -42,7 +43,7 @@ const LAST_PART: usize = NODE_SIZE - 1;
 const BYTE_ROOM: usize = NODE_ROOM / NODE_SIZE;
 
 // A program stands in its slice, or compile refused by a number, or by a number and the node from 0.
-#[derive(Drop)]
+#[derive(Clone, Copy)]
 pub enum Answer {
     Program,
     Refused(u8),

@@ -1,3 +1,4 @@
+#![tactic(auto)]
 // Compiles recorded formulas and compares the answer and both slices with the record, byte for byte. tools/compile/make_cases.py
 // made the record from the instruction lists and refusals of the Rust reference.
 //

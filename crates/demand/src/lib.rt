@@ -1,3 +1,4 @@
+#![tactic(auto)]
 // Demand 3 as the contract of a function over lent slices: compile or derive, and a list of calls on the program that it wrote.
 pub mod calls;
 

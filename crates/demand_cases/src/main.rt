@@ -1,3 +1,4 @@
+#![tactic(auto)]
 // Plays lists of calls that tools/compare recorded, every beginning of each, from slices filled anew: by `demand::make_and_play`, and by
 // `hosted::make_and_call`, which hands the cells from one C function to the next. The answers are the Rust reference's, and for budgets
 // and refused calls those of the model in tools/compare/machine.rs, whose whole runs agree with the reference's.
@@ -32,7 +33,7 @@ fn read_sizes(b: &[u8], out: &mut [usize]) {
 
 // ---- one case
 
-#[derive(Drop)]
+#[derive(Clone, Copy)]
 struct Head {
     formula: usize,
     names: usize,

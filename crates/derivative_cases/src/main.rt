@@ -1,3 +1,4 @@
+#![tactic(auto)]
 // Compares derivative trees and the records of their nodes with those of the Rust reference, byte for byte.
 //
 // Standard input has a record for each case: the reference's answer (0 a tree, 8 or 4 its refusal), the symbol's number,

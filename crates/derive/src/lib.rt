@@ -1,3 +1,4 @@
+#![tactic(auto)]
 // The derivative of a formula by one of its symbols, as a tree, with a record of each node, and as a program; reference
 // `derivative_prepared`.
 ghost use Rattle.std.specs.Prelude.{◌≡◌, true, false, List, ◌*◌, ◌≤◌, length};

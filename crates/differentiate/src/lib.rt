@@ -1,3 +1,4 @@
+#![tactic(auto)]
 // Writes the derivative tree: "Each part is written straight into the free end of the tree slice." A writer puts its nodes at
 // the start of the slice that it is lent, and lends what is free behind them to the writer of the next part. What is
 // simplified away is known from the survey, so nothing is written that the tree does not keep. The same writers write the

@@ -1,3 +1,4 @@
+#![tactic(auto)]
 // Runs `floats` on recorded cases and compares the bits of each result with another implementation's.
 //
 // Standard input has a record of 82 bytes for each: a letter, then up to four values and the result in 16 hexadecimal

@@ -1,3 +1,4 @@
+#![tactic(auto)]
 // Demand 3 for a host that has only the C functions of `vebrostin`: compile or derive, then a list of calls that hand the cells on.
 ghost use Rattle.std.specs.Prelude.{◌≡◌, false, length};
 ghost use Rattle.run.specs.Calls.{resume_at};

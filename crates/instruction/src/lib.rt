@@ -1,3 +1,4 @@
+#![tactic(auto)]
 // One instruction of a program's bytes (docs/PROGRAM.md): reads and stores are total, so nothing is asked of the bytes.
 pub mod common;
 pub mod longer;

@@ -1,3 +1,4 @@
+#![tactic(auto)]
 // Where a program's numbers stand and how long its parts are: docs/PROGRAM.md. Each is the code's copy of a number in specs/Decode.
 pub const HEADER_SIZE: usize = 32;
 

@@ -1,3 +1,4 @@
+#![tactic(auto)]
 // Runs a formula on lines of values: `formula.bin` in the current folder, the name line and the lines of values on standard
 // input, a line for each on standard output. What is printed is what `lines` gives; here it is only read and written.
 ghost use Rattle.std.specs.Prelude.{◌≤◌, length};

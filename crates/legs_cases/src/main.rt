@@ -1,3 +1,4 @@
+#![tactic(auto)]
 // Lists recorded inputs with `lines`, a block of a few bytes at a time, and compares the whole output with the record.
 // tools/legs/make_cases.py made it from the Rust reference's answers.
 //

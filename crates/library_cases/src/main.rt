@@ -1,3 +1,4 @@
+#![tactic(auto)]
 // Replays calls of the library that tools/compare recorded: compile or derive with what each slice holds after, then runs of the
 // program, cut by budgets, refused, and with forged states. The answers are the Rust reference's, and for budgets and states those
 // of the model in tools/compare/machine.rs, whose whole runs agree with the reference's.
@@ -12,7 +13,7 @@ use cases::{
 };
 use floats::value::of_bits;
 
-#[derive(Drop)]
+#[derive(Clone, Copy)]
 struct Head {
     formula: usize,
     names: usize,

@@ -1,3 +1,4 @@
+#![tactic(auto)]
 // Input lines in, output lines out: the listing of `legs`, a block of input at a time and in fixed memory. A caller prints what
 // `start` gave, then what `advance` gave for each block of input, then what `finish` gave.
 mod record;
@@ -33,7 +34,7 @@ const OUTPUT_ROOM: usize = 8353;
 // Where a listing stands: in the name line, of which so many bytes are kept; in the line of values with this number, as far
 // as it was read, with the totals of the lines before it; or at its end, after a refusal or the last line that is listed, where
 // no more input is looked at and the total line is still to be written.
-#[derive(Drop)]
+#[derive(Clone, Copy)]
 pub enum Stage {
     Names(usize),
     Values(u64, Reading, Totals),

@@ -6,7 +6,7 @@ ghost use Rattle.lines.specs.Sums.{Adds, totals_of, wrapped};
 use run::Answer;
 use std::num::wrapping_add_u64;
 
-#[derive(Drop)]
+#[derive(Clone, Copy)]
 pub struct Totals {
     pub values: u64,
     pub domains: u64,

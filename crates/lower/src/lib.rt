@@ -1,3 +1,4 @@
+#![tactic(auto)]
 // Lowering of a formula's nodes to the bytes of a program (docs/PROGRAM.md); reference `Compiler`.
 ghost use Rattle.std.specs.Prelude.{◌≡◌, true, false, cond, not, ◌&&◌, ◌||◌, List, [], ◌∷◌, ◌++◌, ℕ, ◌+◌, ◌*◌, ◌^◌, ◌≤◌, ◌<◌, length, get_or, ltb};
 ghost use Rattle.formula.specs.Text.{little_endian};

@@ -1,3 +1,5 @@
+#![tactic(auto)]
+
 ghost use Rattle.std.specs.Prelude.{◌≡◌, false, ◌||◌, ◌+◌, ◌-◌, ◌≤◌, ◌<◌, length, get_or, take, drop};
 ghost use Rattle.formula.specs.Text.{same_bytes, zeros};
 ghost use Rattle.formula.specs.Names.{between, is_letter, is_digit, kind_of, symbols_of};

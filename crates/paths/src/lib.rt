@@ -1,3 +1,4 @@
+#![tactic(auto)]
 // A path's text, from its record: "Text from `root` with `.arguments[i]`, `.condition`, `.then`, `.else`".
 ghost use Rattle.std.specs.Prelude.{◌≡◌, ◌+◌, ◌*◌, ◌^◌, ◌≤◌, ◌<◌, length};
 ghost use Rattle.std.proofs.Math.Option.{some};

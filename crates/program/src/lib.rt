@@ -1,3 +1,4 @@
+#![tactic(auto)]
 // The check of a program's bytes (docs/PROGRAM.md): "10, not a program: bytes that docs/PROGRAM.md doesn't allow, no
 // instruction at all, a register, input, list or target outside its range (a target may be the code's end), a jump not
 // forward, or a path above 8,192 bytes". Each record, instruction and list entry is looked at once. The header tells how
@@ -28,7 +29,7 @@ fn field(p: &[u8], at: usize) -> usize
 // ---- header
 
 // The numbers of the header.
-#[derive(Drop)]
+#[derive(Clone, Copy)]
 struct Header {
     code: usize,
     registers: usize,

@@ -1,3 +1,5 @@
+#![tactic(auto)]
+
 ghost use Rattle.std.specs.Prelude.{◌≡◌, true, cond, ◌&&◌, ◌+◌, ◌*◌, ◌/◌, ◌^◌, ◌≤◌, ◌<◌, length, ltb, eqb};
 ghost use Rattle.formula.specs.Text.{byte_at, half_at, word_at, long_at};
 ghost use Rattle.formula.specs.Formula.{well_formed};
@@ -78,7 +80,7 @@ pub fn long(b: &[u8], at: usize) -> u64
 }
 
 // "Byte 0 is the kind, byte 1 the operator, bytes 2-3 the child count, 4-7 the symbol number from 0, 8-15 the value".
-#[derive(Drop)]
+#[derive(Clone, Copy)]
 pub struct Fields {
     pub kind: u8,
     pub operator: u8,

@@ -1,3 +1,4 @@
+#![tactic(auto)]
 // Reads cases from standard input, one to a line, and says how many there were and whether each came out as recorded.
 //   f111 HEX          a formula's bytes, then whether it is within a formula's and a derivative's limits
 //   f12:3 HEX         bytes that are no formula: the refusal and its node

@@ -1,3 +1,4 @@
+#![tactic(auto)]
 // The numbers of the refusals, each the code's copy of the definition in specs/Numbers.
 pub const SLICE_TOO_SHORT: u8 = 1;
 

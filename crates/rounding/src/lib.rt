@@ -1,1 +1,2 @@
+#![tactic(auto)]
 // Definitions and laws only: see specs/.

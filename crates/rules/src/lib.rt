@@ -1,3 +1,4 @@
+#![tactic(auto)]
 // The rules of `derivative.rs`, interpreted: one reading of them works out attributes and another writes nodes.
 // They stand in prefix (Polish) notation, a letter for each code, so that `add(mul(da, b), mul(a, db))` is `+*xb*ay`. Arms
 // written out would stand twice, once for the attributes and once for the nodes, with each test for a literal zero or one in

@@ -1,3 +1,4 @@
+#![tactic(auto)]
 // Run and resume of a program's bytes (reference `evaluate_into`).
 ghost use Rattle.std.specs.Prelude.{◌≡◌, true, false, not, ◌||◌, [], ◌∷◌, ◌+◌, ◌<◌, ◌≤◌, length, ltb};
 ghost use Rattle.std.proofs.Math.Option.{none, some};
@@ -25,7 +26,7 @@ use refusals::{INVALID_INPUT, NO_PROGRAM, SLICE_TOO_SHORT, STALE_STATE};
 use work::{Kept, Outcome};
 
 // A question that was shown and has no answer yet.
-#[derive(Drop)]
+#[derive(Clone, Copy)]
 pub enum Pending {
     Nothing,
     Elementary(u8, f64),
@@ -34,7 +35,7 @@ pub enum Pending {
 
 // "Run state: made by the run, read by the next call": position, "the values supplied" to a half-done Hill or density, and
 // the question that pends.
-#[derive(Drop)]
+#[derive(Clone, Copy)]
 pub struct State {
     pub position: usize,
     pub kept: Kept,
@@ -42,7 +43,7 @@ pub struct State {
 }
 
 // A value supplied by the host, or none.
-#[derive(Drop)]
+#[derive(Clone, Copy)]
 pub enum Supplied {
     Nothing,
     Value(f64),
@@ -50,7 +51,7 @@ pub enum Supplied {
 
 // "The answer of a run carries its number in the case": a value; a question, its function's number and its argument, or
 // Power's base and exponent; spent; 9, with the number of its path's record; another refusal, with its number.
-#[derive(Drop)]
+#[derive(Clone, Copy)]
 pub enum Answer {
     Value(f64),
     Elementary(u8, f64),
@@ -61,7 +62,7 @@ pub enum Answer {
 }
 
 // "The count returned is the instructions completed by this call."
-#[derive(Drop)]
+#[derive(Clone, Copy)]
 pub struct Reply {
     pub answer: Answer,
     pub count: usize,

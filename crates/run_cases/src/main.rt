@@ -1,3 +1,4 @@
+#![tactic(auto)]
 // Replays recorded lists of calls, refused ones among them, and compares each reply, the registers and the path slice
 // with the record. tools/runs/make_run_cases.py made it from an executable model of document 01, whose values, questions and
 // Domains agree with the Rust reference's.

@@ -1,3 +1,4 @@
+#![tactic(auto)]
 // What is known of a derivative before a node of it is written: its nodes and levels, capped above the limits, and a
 // literal's bits. One pass over the formula fills a table with a row for each node; each child is worked out once.
 ghost use Rattle.std.specs.Prelude.{◌≡◌, true, ◌&&◌, ◌||◌, [], ◌∷◌, ◌+◌, ◌*◌, ◌<◌, ◌≤◌, min, max, length, eqb};
@@ -16,7 +17,7 @@ use reader::{NODE_SIZE, byte, half, long, wide, word};
 use rules::{code, end_of, parts_of};
 
 // A symbol, whether it is a state, and whether the records of the derivative by it are asked for, or its nodes.
-#[derive(Drop)]
+#[derive(Clone, Copy)]
 pub struct By {
     pub symbol: usize,
     pub state: bool,
@@ -24,7 +25,7 @@ pub struct By {
 }
 
 // What is known of a tree; the bits count where it is a literal.
-#[derive(Drop)]
+#[derive(Clone, Copy)]
 pub struct Attributes {
     pub nodes: usize,
     pub levels: usize,

@@ -1,3 +1,4 @@
+#![tactic(auto)]
 // What the program of a formula's nodes needs: instructions, path records, list entries.
 ghost use Rattle.std.specs.Prelude.{◌≡◌, true, ◌^◌, ◌<◌};
 ghost use Rattle.formula.specs.Node.{tree_in};

@@ -1,3 +1,4 @@
+#![tactic(auto)]
 // A line of values, read as its bytes come: "each value is 16 lower-case hexadecimal digits, the bits of an f64, joined by
 // commas". The memory is a slice for the values and four numbers, however long the line is.
 pub mod words;
@@ -12,7 +13,7 @@ use crate::words::{Digits, read_eight};
 
 // What was read of a line: whether it is as said so far, how many values stand before its last comma, how many digits
 // follow it and their number. A count above the places of the slice is kept as one more than these.
-#[derive(Drop)]
+#[derive(Clone, Copy)]
 pub struct Reading {
     pub good: bool,
     pub count: usize,

@@ -1,3 +1,4 @@
+#![tactic(auto)]
 // The library for C and Rust: compile, derive, run and resume over numbers and slices, each under a C name. include/vebrostin.h declares
 // them. No caller owes anything but slices that are there.
 ghost use Rattle.std.specs.Prelude.{◌≡◌, true, false, cond, ◌||◌, [], ◌∷◌, ◌++◌, ◌+◌, ◌<◌, ◌≤◌, min, drop, get_or, length, ltb};

@@ -1,3 +1,4 @@
+#![tactic(auto)]
 // One node's work: on its arguments and on the values kept for it, a value, not a number, or the next question.
 mod call;
 mod density;
@@ -13,7 +14,7 @@ ghost use Rattle.work.specs.Opcode.{puts_function, work_of};
 
 // "A half-done Hill or density keeps the values supplied to it, logarithms and the density's first exp":
 // the first `count` of nine, as no node puts more than nine questions.
-#[derive(Drop)]
+#[derive(Clone, Copy)]
 pub struct Kept {
     pub count: usize,
     pub first: f64,

@@ -1,3 +1,4 @@
+#![tactic(auto)]
 // Bytes and numbers written into a part of a slice; the rest stays as it is.
 ghost use Rattle.std.specs.Prelude.{◌≡◌, ◌+◌, ◌≤◌, length};
 ghost use Rattle.formula.specs.Text.{decimal, little_endian};
