@@ -48,7 +48,7 @@ mutual
 
 pub erase_copies : (k : ℕ) (ts : Formulas) → map erase (copies k ts) ≡ to_list ts
 erase_copies k last = refl
-erase_copies k (next t ts) = cons_is (erase_copy _ t) (erase_copies _ ts)
+erase_copies k (next t ts) = cons_is (erase_copy k t) (erase_copies (k + size t) ts)
 
 -- copies one after another
 pub numbered_append : (k n m : ℕ) → numbered k n ++ numbered (k + n) m ≡ numbered k (n + m)

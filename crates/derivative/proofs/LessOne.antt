@@ -29,7 +29,7 @@ unfolding units
 units_sign s q k = go (ltb (q * 2 ^ k) (2 ^ (low binary64 + suc (emax binary64))))
   where
     go : (b : Bool) → finite (cond b (odd (suc (prec binary64)) s q k (low binary64)) (inf s)) ≡ finite (cond b (odd (suc (prec binary64)) false q k (low binary64)) (inf false))
-    go true = odd_finite _ s q k _ ∙ sym (odd_finite _ false q k _)
+    go true = odd_finite (suc (prec binary64)) s q k (low binary64) ∙ sym (odd_finite (suc (prec binary64)) false q k (low binary64))
     go false = refl
 
 round_sign : (s : Bool) (a c : ℕ) → finite (round binary64 s a c) ≡ finite (round binary64 false a c)
@@ -49,7 +49,7 @@ units_under q k m e = go (ltb (q * 2 ^ k) (2 ^ (low binary64 + suc (emax binary6
   where
     go : (b : Bool) → T (le (cond b (odd (suc (prec binary64)) false q k (low binary64)) (inf false)) (Ieee.fin false m e))
         → finite (cond b (odd (suc (prec binary64)) false q k (low binary64)) (inf false)) ≡ true
-    go true t = odd_finite _ false q k _
+    go true t = odd_finite (suc (prec binary64)) false q k (low binary64)
     go false t = absurd (under false m e t)
 
 top_round : round binary64 false top 1 ≡ Ieee.fin false (2 ^ 53 - 1) (pos 971)
