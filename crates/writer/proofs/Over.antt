@@ -58,7 +58,7 @@ over_before p a xs ys h =
     let r = ys ++ drop (a + length xs + length ys) p in
     let e : length q ≡ a + length xs = length-take-le (a + length xs) p (omega arith) in
     let t : take a (q ++ r) ≡ take a p =
-    take-append-le a q r (omega (arith, e)) ∙ lib.Seq.take_take a (a + length xs) p (omega arith) in
+    take-append-le a q r (omega (arith, e)) ∙ lib.Seq.take-take a (a + length xs) p (omega arith) in
     let d : drop (a + length xs) (q ++ r) ≡ r = drop_at q r (a + length xs) e in
     let g : a + length xs + length ys ≡ a + length (xs ++ ys) = omega (arith, length-append xs ys) in
     rw (t, d, append_assoc xs ys (drop (a + length (xs ++ ys)) p), g)

@@ -1,0 +1,48 @@
+use Rattle.std.proofs.Common.{◌≡◌, refl, ap, ◌∙◌}
+use lib.Ieee.{nan, binary64, fits, of_bits, div, nan_bits}
+use lib.Ieee.Bits.{of_bits-to_bits}
+use Rattle.arithmetic.specs.Root.{sqrt}
+use Rattle.floats.proofs.Zero.{held, above, below, still}
+use Rattle.floats.proofs.RootSteps.{positive_number, no_nan, bits_below, bits_above, no_nan_bits, sqrt_infinity, sqrt_below, sqrt_still}
+use Rattle.floats.proofs.root.sqrt.Goals as goal
+
+pub float_from_bits-t-4 : goal.float_from_bits-t-4
+unfolding nan_bits
+float_from_bits-t-4 c = tt
+
+pub float_to_bits-x : goal.float_to_bits-x
+unfolding of_bits
+float_to_bits-x c = no_nan c.args.x (positive_number (above c.args.x c.if-x.true) c.if-x-2.true)
+
+pub root_bits-requires : goal.root_bits-requires
+unfolding of_bits
+root_bits-requires c =
+    let x = c.args.x in
+    let p = positive_number (above x c.if-x.true) c.if-x-2.true in
+    let t = held (fits binary64 x) c.well_formed.0.1 in
+    (bits_above x p t, bits_below x p t)
+
+pub float_from_bits-result : goal.float_from_bits-result
+float_from_bits-result c = no_nan_bits c.root_bits.result c.root_bits.ensures.0
+
+pub returns-then-x-2 : goal.returns-then-x-2
+returns-then-x-2 c =
+    let args = c.args in
+    let good = c.well_formed in
+    c.root_bits.ensures.1 ∙ ap (sqrt binary64) (of_bits-to_bits binary64 args.x (held (fits binary64 args.x) good.0.1))
+
+pub returns-else-x-2 : goal.returns-else-x-2
+unfolding of_bits
+returns-else-x-2 c = sqrt_infinity (above c.args.x c.if-x.true) c.if-x-2.false
+
+zero_by_zero : div binary64 (of_bits binary64 0) (of_bits binary64 0) ≡ nan
+unfolding div of_bits
+zero_by_zero = refl
+
+pub returns-then-x-3 : goal.returns-then-x-3
+unfolding of_bits
+returns-then-x-3 c = zero_by_zero ∙ sqrt_below (below c.args.x c.if-x-3.true)
+
+pub returns-else-x-3 : goal.returns-else-x-3
+unfolding of_bits
+returns-else-x-3 c = sqrt_still (still binary64 c.args.x (held (fits binary64 c.args.x) c.well_formed.0.1) c.if-x.false c.if-x-3.false)

@@ -1,0 +1,14 @@
+use Rattle.std.proofs.Common.{◌-◌, ◌*◌, ◌^◌, ◌<◌, ◌≤◌}
+use Rattle.floats.proofs.root.whole_root.Given as goal
+
+abbrev pub invariant-loop-r : goal.invariant-loop-r
+invariant-loop-r l = l.r < 2 ^ 27
+
+abbrev pub decreases-loop-r : goal.decreases-loop-r
+decreases-loop-r l = l.r
+
+abbrev pub invariant-loop-r-2 : goal.invariant-loop-r-2
+invariant-loop-r-2 l = l.r * l.r ≤ l.m
+
+abbrev pub decreases-loop-r-2 : goal.decreases-loop-r-2
+decreases-loop-r-2 l = 2 ^ 27 - l.r
