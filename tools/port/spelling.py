@@ -13,7 +13,8 @@ import re
 import sys
 
 # one word of antt, without dots
-WORD = re.compile(r"[^\s(){}\[\];,.\"⌜⌝`]+")
+WORD = re.compile(r'"[^"]*"|[^\s(){}\[\];,."⌜⌝`]+')
+ROOTS = {"lib", "mathlib", "native", "Prim", "borrow", "denote", "mir"}
 USE = re.compile(r"^(ghost )?use ([^\s{;]+?)(?:\.\{([^}]*)\})?(?: as ([^\s;]+))?;?$", re.M)
 DASH = re.compile(r"(?<=[\w'²±])-(?=\w)")
 # the old name of a library word, and words in comments that port.py took for names
@@ -68,7 +69,7 @@ class File:
 
 
 def new_name(word, file, types):
-    if word in file.external or not word or word[0].isdigit() or word[0] in "-+◌":
+    if word in file.external or not word or word[0].isdigit() or word[0] in "-+◌\"":
         return word
     if word in LEMMA:
         return LEMMA[word]
@@ -87,7 +88,7 @@ def dotted(text, file, types, seen):
         chained = gap == "."
         word = m.group(0)
         name = word if chained and after else new_name(word, file, types)
-        after = (chained and after) or (not chained and word in file.aliases)
+        after = (chained and after) or (not chained and (word in file.aliases or word in ROOTS))
         seen.setdefault(word, set()).add(name)
         out += [gap, name]
         last = m.end()

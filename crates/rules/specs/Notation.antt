@@ -126,7 +126,7 @@ coded (l ∷ ls) (c ∷ cs) other x = cond (eqb x l) c (coded ls cs other x)
 
 -- children, derivatives, the node itself, and literals
 abbrev pub operands : List ℕ
-operands = ascii "abcxyzw0123ht_e_tnmo"
+operands = ascii "abcxyzw0123ht-eTnmo"
 
 abbrev pub operand_codes : List ℕ
 operand_codes = A ∷ B ∷ C ∷ DA ∷ DB ∷ DC ∷ WHOLE ∷ ZERO ∷ ONE ∷ TWO ∷ THREE ∷ HALF ∷ THREE_HALVES ∷ MINUS_ONE ∷ TINY ∷ LN_TEN ∷ N ∷ N_LESS_ONE ∷ ZEROTH ∷ []
