@@ -1,0 +1,267 @@
+use borrow.Author.Tests.{leb-true, leb-false}
+use mathlib.Core.Logic.{⊎_elim}
+use Prim.Native.Nat.{◌+◌, ◌-◌, ◌/◌, ◌%◌}
+use native.Mathlib.Omega.{arith}
+use mathlib.Core.Path.{◌∙◌, ap}
+use Rattle.derivative.specs.Rules.{0·0}
+use Rattle.survey.specs.Derived.{derived_of}
+use Rattle.survey.specs.Table.{tree, reading}
+use Rattle.survey.specs.Worked.{literal_attributes}
+use Rattle.survey.proofs.Worked.{rule_none, rule_long, worked_by, worked_zero, worked_child, worked_diff, worked_whole, worked_extremum, worked_literal, unless_yes, unless_no, writing}
+use Rattle.survey.proofs.Capped.{capped_worked}
+use Rattle.survey.proofs.Steps.{tested, added, multiplied, noded, sum_none, sum_next, sum_fits}
+use Rattle.survey.proofs.+rule_attributes_rules_attributes.Goals as goal
+
+pub returns-then-levels-eq0 : goal.returns-then-levels-eq0
+returns-then-levels-eq0 t c =
+    let args = c.args in
+    let tree2 = tree args.f.now args.k in
+    c.of_literal.ensures ∙ worked_by args.by.symbol args.by.state tree2 args.levels args.q args.i 0·0 (⊎_elim
+    (λ w. rule_none tree2 args.levels args.q args.i w.taken)
+    (λ w. rule_long tree2 args.levels args.q args.i (leb-true 128 args.i w.1.taken)) c.then-levels-eq0.branch)
+
+pub literal_bits-requires : goal.literal_bits-requires
+literal_bits-requires t c = c.requires.owned
+
+pub returns-then-kind-ge12 : goal.returns-then-kind-ge12
+returns-then-kind-ge12 t c =
+    let args = c.args in
+    let if1 = c.if-levels-eq0 in
+    let wide = c.wide-c in
+    c.of_literal-then-kind-ge12.ensures ∙ ap literal_attributes c.literal_bits.ensures ∙ worked_literal args.by.symbol args.by.state
+    (tree args.f.now args.k) args.levels args.q args.i wide.result if1.false
+    (leb-false 128 args.i c.if-i-ge128.false)
+    (wide.ensures.0 ∙ c.code.ensures) c.if-kind-ge12.true
+
+pub own-requires : goal.own-requires
+own-requires t c = c.requires.owned
+
+pub returns-then-is_zero : goal.returns-then-is_zero
+returns-then-is_zero t c =
+    let args = c.args in
+    let if1 = c.if-levels-eq0 in
+    let if2 = c.if-i-ge128 in
+    let code = c.code in
+    let wide = c.wide-c in
+    let diff_attributes2 = c.diff_attributes-in-6 in
+    let tree2 = tree args.f.now args.k in
+    c.of_literal-then-is_zero.ensures ∙ unless_yes args.by.symbol args.by.state tree2 args.levels args.q args.i wide.result if1.false
+    (leb-false 128 args.i if2.false) (wide.ensures.0 ∙ code.ensures) c.in-6.is (tested
+    c.is_zero.result diff_attributes2.result (derived_of args.by.symbol args.by.state tree2 (wide.result % 16)) _
+    c.is_zero.ensures diff_attributes2.ensures c.if-is_zero.true)
+
+pub overflow_add-i : goal.overflow_add-i
+overflow_add-i t c =
+    let args = c.args in
+    let if2 = c.if-i-ge128 in
+    omega (arith, leb-false 128 args.i if2.false)
+
+pub overflow_sub-levels : goal.overflow_sub-levels
+overflow_sub-levels t c = omega (arith, c.if-levels-eq0.false)
+
+pub overflow_add-i-in-9 : goal.overflow_add-i-in-9
+overflow_add-i-in-9 t c =
+    let args = c.args in
+    omega (arith, leb-false 128 args.i c.if-i-ge128.false)
+
+pub overflow_sub-levels-in-9 : goal.overflow_sub-levels-in-9
+overflow_sub-levels-in-9 t c = omega (arith, c.if-levels-eq0.false)
+
+pub overflow_add-i-in-9-2 : goal.overflow_add-i-in-9-2
+overflow_add-i-in-9-2 t c =
+    let args = c.args in
+    omega (arith, leb-false 128 args.i c.if-i-ge128.false)
+
+pub overflow_sub-levels-in-9-2 : goal.overflow_sub-levels-in-9-2
+overflow_sub-levels-in-9-2 t c = omega (arith, c.if-levels-eq0.false)
+
+pub overflow_sub-levels-in-9-3 : goal.overflow_sub-levels-in-9-3
+overflow_sub-levels-in-9-3 t c = omega (arith, c.if-levels-eq0.false)
+
+pub add-requires : goal.add-requires
+add-requires t c =
+    let args = c.args in
+    let tree2 = tree args.f.now args.k in (
+      capped_worked args.by.symbol args.by.state tree2 (args.levels - 1) args.q (args.i + 1)
+          c.rule_attributes-a.result c.rule_attributes-a.ensures,
+      capped_worked args.by.symbol args.by.state tree2 (args.levels - 1) args.q c.end_of-j.result c.rule_attributes-in-9.result
+          c.rule_attributes-in-9.ensures,
+    )
+
+pub overflow_add-i-in-10 : goal.overflow_add-i-in-10
+overflow_add-i-in-10 t c =
+    let args = c.args in
+    omega (arith, leb-false 128 args.i c.if-i-ge128.false)
+
+pub overflow_sub-levels-in-10 : goal.overflow_sub-levels-in-10
+overflow_sub-levels-in-10 t c = omega (arith, c.if-levels-eq0.false)
+
+pub overflow_add-i-in-10-2 : goal.overflow_add-i-in-10-2
+overflow_add-i-in-10-2 t c =
+    let args = c.args in
+    omega (arith, leb-false 128 args.i c.if-i-ge128.false)
+
+pub overflow_sub-levels-in-10-2 : goal.overflow_sub-levels-in-10-2
+overflow_sub-levels-in-10-2 t c = omega (arith, c.if-levels-eq0.false)
+
+pub overflow_sub-levels-in-10-3 : goal.overflow_sub-levels-in-10-3
+overflow_sub-levels-in-10-3 t c = omega (arith, c.if-levels-eq0.false)
+
+pub mul-requires : goal.mul-requires
+mul-requires t c =
+    let args = c.args in
+    let tree2 = tree args.f.now args.k in (
+      capped_worked args.by.symbol args.by.state tree2 (args.levels - 1) args.q (args.i + 1)
+          c.rule_attributes-a-in-10.result c.rule_attributes-a-in-10.ensures,
+      capped_worked args.by.symbol args.by.state tree2 (args.levels - 1) args.q c.end_of-j-in-10.result c.rule_attributes-in-10.result
+          c.rule_attributes-in-10.ensures,
+    )
+
+pub extremum-requires : goal.extremum-requires
+extremum-requires t c = c.requires
+
+pub overflow_add-i-in_default : goal.overflow_add-i-in_default
+overflow_add-i-in_default t c =
+    let args = c.args in
+    omega (arith, leb-false 128 args.i c.if-i-ge128.false)
+
+pub overflow_sub-levels-in_default : goal.overflow_sub-levels-in_default
+overflow_sub-levels-in_default t c = omega (arith, c.if-levels-eq0.false)
+
+pub node-requires : goal.node-requires
+node-requires t c =
+    let args = c.args in
+    let h = sum_fits args.by.symbol args.by.state (tree args.f.now args.k) (args.levels - 1) args.q c.parts_of-n.result
+    (args.i + 1) c.rules_attributes.result c.parts_of-n.ensures.1 c.rules_attributes.ensures in (omega (arith, h.0), h.1)
+
+pub returns-in-0 : goal.returns-in-0
+returns-in-0 t c =
+    let args = c.args in
+    let if1 = c.if-levels-eq0 in
+    let wide = c.wide-c in
+    c.of_literal-in-0.ensures ∙ worked_zero args.by.symbol args.by.state (tree args.f.now args.k) args.levels args.q args.i
+    wide.result if1.false (leb-false 128 args.i c.if-i-ge128.false)
+    (wide.ensures.0 ∙ c.code.ensures) c.in-0.is
+
+pub returns-in-1 : goal.returns-in-1
+returns-in-1 t c =
+    let args = c.args in
+    let if1 = c.if-levels-eq0 in
+    let wide = c.wide-c in
+    c.child_attributes.ensures ∙ worked_child args.by.symbol args.by.state (tree args.f.now args.k) args.levels args.q
+    args.i wide.result if1.false (leb-false 128 args.i c.if-i-ge128.false)
+    (wide.ensures.0 ∙ c.code.ensures) c.in-1.is
+
+pub returns-in-2 : goal.returns-in-2
+returns-in-2 t c =
+    let args = c.args in
+    let if1 = c.if-levels-eq0 in
+    let wide = c.wide-c in
+    c.diff_attributes.ensures ∙ worked_diff args.by.symbol args.by.state (tree args.f.now args.k) args.levels args.q args.i
+    wide.result if1.false (leb-false 128 args.i c.if-i-ge128.false)
+    (wide.ensures.0 ∙ c.code.ensures) c.in-2.is
+
+pub returns-in-3 : goal.returns-in-3
+returns-in-3 t c =
+    let args = c.args in
+    let if1 = c.if-levels-eq0 in
+    let wide = c.wide-c in
+    c.own.ensures ∙ worked_whole args.by.symbol args.by.state (tree args.f.now args.k) args.levels args.q args.i
+    wide.result if1.false (leb-false 128 args.i c.if-i-ge128.false)
+    (wide.ensures.0 ∙ c.code.ensures) c.in-3.is
+
+pub returns-else-is_zero : goal.returns-else-is_zero
+returns-else-is_zero t c =
+    let args = c.args in
+    let if1 = c.if-levels-eq0 in
+    let if2 = c.if-i-ge128 in
+    let code = c.code in
+    let wide = c.wide-c in
+    let diff_attributes2 = c.diff_attributes-in-6 in
+    let tree2 = tree args.f.now args.k in
+    c.rule_attributes.ensures ∙ unless_no args.by.symbol args.by.state tree2 args.levels args.q args.i wide.result if1.false
+    (leb-false 128 args.i if2.false) (wide.ensures.0 ∙ code.ensures) c.in-6.is (tested
+    c.is_zero.result diff_attributes2.result (derived_of args.by.symbol args.by.state tree2 (wide.result % 16)) _
+    c.is_zero.ensures diff_attributes2.ensures c.if-is_zero.false)
+
+pub returns-in-9 : goal.returns-in-9
+returns-in-9 t c =
+    let args = c.args in
+    let if1 = c.if-levels-eq0 in
+    let if2 = c.if-i-ge128 in
+    let code = c.code in
+    let wide = c.wide-c in
+    let rule_attributes2 = c.rule_attributes-a in
+    added args.by.symbol args.by.state (tree args.f.now args.k) args.levels args.q args.i wide.result if1.false
+    (leb-false 128 args.i if2.false) (wide.ensures.0 ∙ code.ensures) c.in-9.is
+    (reading rule_attributes2.result) (reading c.rule_attributes-in-9.result) (reading c.add.result)
+    c.end_of-j.result rule_attributes2.ensures c.end_of-j.ensures c.rule_attributes-in-9.ensures
+    c.add.ensures
+
+pub returns-in-10 : goal.returns-in-10
+returns-in-10 t c =
+    let args = c.args in
+    let if1 = c.if-levels-eq0 in
+    let if2 = c.if-i-ge128 in
+    let code = c.code in
+    let wide = c.wide-c in
+    let rule_attributes4 = c.rule_attributes-a-in-10 in
+    multiplied args.by.symbol args.by.state (tree args.f.now args.k) args.levels args.q args.i wide.result if1.false
+    (leb-false 128 args.i if2.false) (wide.ensures.0 ∙ code.ensures) c.in-10.is
+    (reading rule_attributes4.result) (reading c.rule_attributes-in-10.result) (reading c.mul.result)
+    c.end_of-j-in-10.result rule_attributes4.ensures c.end_of-j-in-10.ensures c.rule_attributes-in-10.ensures
+    c.mul.ensures
+
+pub returns-in-11 : goal.returns-in-11
+returns-in-11 t c =
+    let args = c.args in
+    let if1 = c.if-levels-eq0 in
+    let wide = c.wide-c in
+    c.extremum.ensures ∙ worked_extremum args.by.symbol args.by.state (tree args.f.now args.k) args.levels args.q args.i
+    wide.result if1.false (leb-false 128 args.i c.if-i-ge128.false)
+    (wide.ensures.0 ∙ c.code.ensures) c.in-11.is
+
+pub returns-in_default : goal.returns-in_default
+returns-in_default t c =
+    let args = c.args in
+    let if1 = c.if-levels-eq0 in
+    let if2 = c.if-i-ge128 in
+    let code = c.code in
+    let wide = c.wide-c in
+    let match = c.in_default.in_default-own in
+    noded args.by.symbol args.by.state (tree args.f.now args.k) args.levels args.q args.i wide.result if1.false
+    (leb-false 128 args.i if2.false) (wide.ensures.0 ∙ code.ensures) (writing (wide.result / 16)
+    c.if-kind-ge12.false match.rest.0.0.0.0.0.0.0.1 match.rest.0.0.0.0.0.0.1
+    match.rest.0.0.0.0.0.1 match.rest.0.0.0.0.1 match.rest.0.0.0.1 match.rest.0.0.1 match.rest.0.1
+    match.rest.1) (reading c.node.result) c.rules_attributes.result c.parts_of-n.result
+    c.parts_of-n.ensures.0 c.rules_attributes.ensures c.node.ensures
+
+pub returns-then-left-eq0 : goal.returns-then-left-eq0
+returns-then-left-eq0 t c =
+    let args = c.args in
+    sum_none args.by.symbol args.by.state (tree args.f.now args.k) args.levels args.q args.left args.i c.if-left-eq0.true
+
+pub overflow_sub-left : goal.overflow_sub-left
+overflow_sub-left t c = omega (arith, c.if-left-eq0.false)
+
+pub overflow_add-result : goal.overflow_add-result
+overflow_add-result t c =
+    let args = c.args in
+    let pre = c.requires in
+    let rule_attributes = c.rule_attributes-a in
+    let tree2 = tree args.f.now args.k in
+    let h = sum_fits args.by.symbol args.by.state tree2 args.levels args.q (args.left - 1) c.end_of.result
+    c.rules_attributes-rest.result (omega (arith, pre.1)) c.rules_attributes-rest.ensures in let g = capped_worked
+    args.by.symbol args.by.state tree2 args.levels args.q args.i rule_attributes.result rule_attributes.ensures in omega
+    (arith, h.0, g.0)
+
+pub returns : goal.returns
+returns t c =
+    let args = c.args in
+    let if1 = c.if-left-eq0 in
+    let rule_attributes = c.rule_attributes-a in
+    let end_of = c.end_of in
+    let rules_attributes = c.rules_attributes-rest in
+    sum_next args.by.symbol args.by.state (tree args.f.now args.k) args.levels args.q args.left args.i if1.false
+    rule_attributes.result rules_attributes.result end_of.result c.larger.result rule_attributes.ensures end_of.ensures
+    rules_attributes.ensures c.larger.ensures

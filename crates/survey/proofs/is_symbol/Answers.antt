@@ -1,0 +1,29 @@
+use native.Mathlib.Omega.{arith}
+use mathlib.Core.Path.{◌∙◌, sym}
+use Rattle.survey.proofs.Rows.{first_inside}
+use Rattle.survey.proofs.Filling.{symbol_yes, symbol_no}
+use Rattle.survey.proofs.is_symbol.Goals as goal
+
+pub overflow_mul-k : goal.overflow_mul-k
+overflow_mul-k c = omega (arith, first_inside c.args.f.now c.args.k c.requires)
+
+pub overflow_mul-k-then-byte-eq2 : goal.overflow_mul-k-then-byte-eq2
+overflow_mul-k-then-byte-eq2 c =
+    let args = c.args in
+    omega (arith, first_inside args.f.now args.k c.requires)
+
+pub overflow_add-k : goal.overflow_add-k
+overflow_add-k c =
+    let args = c.args in
+    omega (arith, first_inside args.f.now args.k c.requires)
+
+pub returns-then-byte-eq2 : goal.returns-then-byte-eq2
+returns-then-byte-eq2 c =
+    let args = c.args in
+    symbol_yes args.f.now args.k args.s c.requires c.word.result c.word.ensures.0
+    (sym c.byte.ensures ∙ c.if-byte-eq2.true)
+
+pub returns : goal.returns
+returns c =
+    let args = c.args in
+    symbol_no args.f.now args.k args.s c.requires (λ e. c.if-byte-eq2.false (c.byte.ensures ∙ e))

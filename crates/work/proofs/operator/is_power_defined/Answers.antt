@@ -1,0 +1,20 @@
+use mathlib.Core.Bool.{◌||◌}
+use lib.Ieee.{le}
+use Rattle.arithmetic.specs.Value.{0f, whole}
+use mathlib.Core.Path.{◌∙◌}
+use lib.Ieee.{of_bits}
+use Rattle.work.proofs.Answers.{and_true, and_false}
+use mathlib.Core.Logic.{⊎_elim}
+use Rattle.work.proofs.operator.is_power_defined.Goals as goal
+
+pub returns-then-b : goal.returns-then-b
+unfolding of_bits
+returns-then-b c = rw (c.if-a.true, c.if-b.true) (and_false (le 0f c.args.a || whole c.args.b))
+
+pub returns-then-a-2 : goal.returns-then-a-2
+unfolding of_bits
+returns-then-a-2 c = ⊎_elim (λ w. rw (c.if-a-2.true, w.0.taken, w.1.left)) (λ w. rw (c.if-a-2.true, w.left)) c.if-a.branch
+
+pub returns : goal.returns
+unfolding of_bits
+returns c = ⊎_elim (λ w. rw (c.if-a-2.false, w.0.taken, w.1.left) (c.is_whole.ensures ∙ and_true _)) (λ w. rw (c.if-a-2.false, w.left) (c.is_whole.ensures ∙ and_true _)) c.if-a.branch
