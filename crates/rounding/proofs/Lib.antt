@@ -12,6 +12,7 @@ pub mod Value
 pub mod Sign
 pub mod Order
 pub mod Once
+pub mod Small
 pub mod Whole
 pub mod NearestRoot
 pub mod RootDigits
@@ -19,5 +20,6 @@ pub mod Remainder
 pub mod Rank
 pub mod Extremum
 pub mod Widths
+pub mod Sound
 pub mod Formats
 pub mod Corners

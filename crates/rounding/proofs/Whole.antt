@@ -2,12 +2,12 @@
 use mathlib.Core.Path.{◌≡◌, refl, sym, ap, ◌∙◌, subst}
 use mathlib.Core.Bool.{Bool, true, false, not, cond, true≢false}
 use Prim.Native.Nat.{ℕ, suc, ◌+◌, ◌*◌, ◌/◌, ◌%◌, ◌^◌, ◌≤◌, ◌<◌}
-use native.Mathlib.Nat.{le_trans, le_of_eq, le_of_lt, lt_of_lt_of_le, lt_of_le_of_lt, zero-lt-suc, zero-mul, mul-one, mul-le-mul_left, mul-le-mul_right, le_of_mul-le-mul_right, lt_of_mul-lt-mul_right, div-mul-le_self, div-one, mod-one, le-div_iff_mul-le, div-add-mod', suc-mul, mod-lt, mul-mod_left, pow-suc}
+use native.Mathlib.Nat.{le_trans, le_of_eq, le_of_lt, lt_of_lt_of_le, zero-lt-suc, zero-mul, mul-one, mul-le-mul_left, mul-le-mul_right, le_of_mul-le-mul_right, lt_of_mul-lt-mul_right, div-mul-le_self, div-one, mod-one, le-div_iff_mul-le, div-add-mod', suc-mul, mod-lt, mul-mod_left, pow-suc}
 use native.Mathlib.Omega.{arith}
 use borrow.Author.Tests.{eqb-true, eqb-false, eq-eqb, ne_eqb}
 use lib.Dec.{T, eqb, lit≤}
 use lib.Arith.{le-zero}
-use lib.Pow.{pow_pos, pow-add, pow_mono, pow-lt}
+use lib.Pow.{pow_pos, pow-add, pow_mono}
 use lib.IntN.{ℤ, pos, negsuc}
 use lib.Ieee.{Float, nan, inf, fin, Format, binary32, binary64, up, down, eq, le, neg, fits}
 use lib.Ieee.Fits.{down_pos, nan-fits, inf-fits, round-fits}
@@ -19,9 +19,9 @@ use Rattle.arithmetic.specs.Round.{floor_div, ceil_div, floor_by, ceil_by, floor
 use Rattle.rounding.specs.Rounding.{Held, Counts, round_at}
 use Rattle.rounding.specs.Exact.{sign}
 use Rattle.rounding.specs.Whole.{IsFloor, IsCeil, floor_at, ceil_at}
-use Rattle.rounding.proofs.Neighbours.{multiples_short}
 use Rattle.rounding.proofs.Nearest.{round_at_rounded}
 use Rattle.rounding.proofs.Rounded.{rounded_number, round_is_at}
+use Rattle.rounding.proofs.Small.{small}
 use Rattle.rounding.proofs.Value.{Units, held_units, exact_at, holds}
 use Rattle.rounding.proofs.Sign.{neg_neg, neg_round_at, ceil_neg_by}
 use Rattle.rounding.proofs.Order.{same_test, eq_of_value, Le±, le_of_values±, values_of_le±, le_neg, zero_left}
@@ -100,16 +100,7 @@ ceil_div_one a = ap (λ (b : Bool). cond b (a / 1) (suc (a / 1))) (eq-eqb (a % 1
 floor_div_le_ceil : (a c : ℕ) → 0 < c → floor_div a c ≤ ceil_div a c
 floor_div_le_ceil a c C = le_of_mul-le-mul_right (le_trans (floor_div_le a c) (ceil_div_ge a c C)) C
 
--- up to 2 ^ fraction every whole number is one
-small : (W : Width) → W.fraction ≤ W.power → (q : ℕ) → q ≤ 2 ^ W.fraction → Units W q (pos 0)
-small W wide q l = record {
-  units = q * 2 ^ least W;
-  same = ap (λ (x : ℕ). x * 2 ^ least W) (mul-one q) ∙ sym (mul-one (q * 2 ^ least W));
-  short = multiples_short (digits W) q (least W) (zero-lt-suc W.fraction) (le_trans l (pow_mono {i = W.fraction} {j = digits W} (omega arith)));
-  under = lt_of_le_of_lt (le_trans (mul-le-mul_right (2 ^ least W) l) (le_of_eq (sym (pow-add 2 W.fraction (least W))))) (pow-lt {i = W.fraction + least W} {j = least W + suc W.power} (omega arith));
-}
-
--- and so is a number without a fraction
+-- a number without a fraction is a whole number of the width
 own_units : (W : Width) (m k : ℕ) → Units W m (pos k) → Units W (m * 2 ^ k) (pos 0)
 own_units W m k u = record { units = u.units; same = ap (λ (x : ℕ). x * 2 ^ least W) (mul-one (m * 2 ^ k)) ∙ u.same; short = u.short; under = u.under }
 

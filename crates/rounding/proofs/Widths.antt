@@ -1,9 +1,7 @@
 -- Every width is sound.
 use Prim.Native.Nat.{◌≤◌, ◌<◌}
 use native.Mathlib.Omega.{arith}
-use lib.Dec.{lit≤, lit<}
-use lib.Ieee.{binary32, binary64}
-use Rattle.arithmetic.specs.Width.{Width, width}
+use Rattle.arithmetic.specs.Width.{Width}
 use Rattle.rounding.specs.Widths.{Sound}
 use Rattle.rounding.proofs.Nearest.{round_at_rounded}
 use Rattle.rounding.proofs.LastDigit.{last_digit}
@@ -29,9 +27,3 @@ sound W some wide =
       roots = sqrt_at_nearest W above;
       modulos = modulo_at_is W;
     }
-
-pub f64_sound : Sound (width binary64)
-f64_sound = sound (width binary64) (lit≤ tt) (lit< tt)
-
-pub f32_sound : Sound (width binary32)
-f32_sound = sound (width binary32) (lit≤ tt) (lit< tt)
