@@ -95,7 +95,7 @@ fn write_counted(
     entries: usize,
 ) -> Answer
     requires fits { Fits b.now d (length p.old) (length path.old) }
-    requires code_value { (code ≡ instruction_count (term (tree_in d b.now 0))) × (records ≡ path_count (term (tree_in d b.now 0))) × (entries ≡ entry_count (term (tree_in d b.now 0))) }
+    requires counts { (code ≡ instruction_count (term (tree_in d b.now 0))) × (records ≡ path_count (term (tree_in d b.now 0))) × (entries ≡ entry_count (term (tree_in d b.now 0))) }
     ensures { (result ≡ answer_to (fault (context_of kinds.now generated) (term (tree_in d b.now 0)) root)) × (p.new ≡ slice_after (context_of kinds.now generated) (tree_in d b.now 0) (fault (context_of kinds.now generated) (term (tree_in d b.now 0)) root) p.old) × (path.new ≡ placed (fault_place (fault (context_of kinds.now generated) (term (tree_in d b.now 0)) root)) path.old) }
 {
     let table = HEADER_SIZE + SLOT_SIZE * code;

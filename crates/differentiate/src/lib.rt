@@ -282,7 +282,7 @@ fn put_tie(f: &[u8], k: usize, i: usize, table: &[usize], records: bool, out: &m
 }
 
 // "A part without the symbol gives 0 before any rule is tried." The survey has found a rule wherever one is needed.
-#[cycle(differentiate_write_diff_write_extremum_write_node_write_product_write_rule_write_rules_write_sum_write_ties)]
+#[cycle(writing)]
 pub fn differentiate(
     f: &[u8],
     k: usize,
@@ -305,7 +305,7 @@ pub fn differentiate(
 }
 
 // The derivative of child i.
-#[cycle(differentiate_write_diff_write_extremum_write_node_write_product_write_rule_write_rules_write_sum_write_ties)]
+#[cycle(writing)]
 fn write_diff(
     f: &[u8],
     k: usize,
@@ -325,7 +325,7 @@ fn write_diff(
 }
 
 // What the part of a rule that starts at a code gives, for node k.
-#[cycle(differentiate_write_diff_write_extremum_write_node_write_product_write_rule_write_rules_write_sum_write_ties)]
+#[cycle(writing)]
 fn write_rule(
     q: usize,
     i: usize,
@@ -372,7 +372,7 @@ fn write_rule(
 }
 
 // Two parts, added: "Only a literal zero (of either sign) beside Add .. are simplified."
-#[cycle(differentiate_write_diff_write_extremum_write_node_write_product_write_rule_write_rules_write_sum_write_ties)]
+#[cycle(writing)]
 fn write_sum(
     q: usize,
     i: usize,
@@ -398,7 +398,7 @@ fn write_sum(
 }
 
 // Two parts, multiplied: "a literal zero or one beside Multiply".
-#[cycle(differentiate_write_diff_write_extremum_write_node_write_product_write_rule_write_rules_write_sum_write_ties)]
+#[cycle(writing)]
 fn write_product(
     q: usize,
     i: usize,
@@ -432,7 +432,7 @@ fn write_product(
 }
 
 // A node, and its parts behind it.
-#[cycle(differentiate_write_diff_write_extremum_write_node_write_product_write_rule_write_rules_write_sum_write_ties)]
+#[cycle(writing)]
 fn write_node(
     kind: usize,
     operator: usize,
@@ -466,7 +466,7 @@ fn write_node(
 }
 
 // So many parts one after another.
-#[cycle(differentiate_write_diff_write_extremum_write_node_write_product_write_rule_write_rules_write_sum_write_ties)]
+#[cycle(writing)]
 fn write_rules(
     q: usize,
     i: usize,
@@ -502,7 +502,7 @@ fn write_rules(
 }
 
 // Min and Max: "Compare against the primal extremum in source order."
-#[cycle(differentiate_write_diff_write_extremum_write_node_write_product_write_rule_write_rules_write_sum_write_ties)]
+#[cycle(writing)]
 fn write_extremum(
     f: &[u8],
     k: usize,
@@ -522,7 +522,7 @@ fn write_extremum(
 }
 
 // From child i on, with so many left after it: the derivative of the first that equals the extremum.
-#[cycle(differentiate_write_diff_write_extremum_write_node_write_product_write_rule_write_rules_write_sum_write_ties)]
+#[cycle(writing)]
 fn write_ties(
     f: &[u8],
     k: usize,

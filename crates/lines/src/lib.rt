@@ -233,7 +233,7 @@ fn begin(formula: &[u8], names: &[u8], path: &mut [u8], program: &mut [u8], out:
 // "a longer one, or none, prints `0,refused,1:,0` after the header"
 fn put_missing(out: &mut [u8], at: usize) -> Begun
     requires { at + 8209 ≤ length out.old }
-    ensures ends_with { EndsWith nothing result.stage × Wrote out.old at (refusal_line 1 none) out.new result.length }
+    ensures ended { EndsWith nothing result.stage × Wrote out.old at (refusal_line 1 none) out.new result.length }
     ensures room { result.length ≤ length out.old }
 {
     let length = text::put_refusal(out, at, refusals::SLICE_TOO_SHORT, b"");

@@ -574,7 +574,7 @@ fn put_operation(
 // the levels left, the node's byte, the next path record, and the cells.
 
 // Children joined by And or Or, one step below a site: one is itself, none is the constant that ends such a chain.
-#[cycle(branch_link_lower_node_operand_operands)]
+#[cycle(lowering)]
 fn lower(
     b: &[u8],
     p: &mut [u8],
@@ -591,7 +591,7 @@ fn lower(
     c: &mut [usize; 6],
 ) -> usize
     requires ready { Ready (layout_of l.now) p.old (site_at k long) (cursor_in at path c.old) (instruction_count (arm b.now d conjunction left at)) (path_count (arm b.now d conjunction left at)) (entry_count (arm b.now d conjunction left at)) }
-    requires at_value { (all_well_formed (kids b.now d left at) ≡ true) × (step < 65539) × (left < 65536) × (length c.old ≡ 6) }
+    requires formed { (all_well_formed (kids b.now d left at) ≡ true) × (step < 65539) × (left < 65536) × (length c.old ≡ 6) }
     ensures { Says (term_piece (context_of kinds.now (layout_of l.now).generated) (arm b.now d conjunction left at) (place (layout_of l.now) p.old (site_at k long) ▸ step_of step) k (cursor_in at path c.old) (past b.now d left at)) (layout_of l.now) (cursor_in at path c.old) p.old p.new (low_of result c.new) × (length c.new ≡ 6) }
 {
     let y = Layout {
@@ -640,7 +640,7 @@ fn lower(
 }
 
 // A node at its own site.
-#[cycle(branch_link_lower_node_operand_operands)]
+#[cycle(lowering)]
 fn node(
     b: &[u8],
     p: &mut [u8],
@@ -654,7 +654,7 @@ fn node(
     c: &mut [usize; 6],
 ) -> usize
     requires ready { Ready (layout_of l.now) p.old (site_at k long) (cursor_in at path c.old) (instruction_count (term (tree_in d b.now at))) (inner_count (term (tree_in d b.now at))) (entry_count (term (tree_in d b.now at))) }
-    requires at_value { (well_formed (tree_in d b.now at) ≡ true) × (length c.old ≡ 6) }
+    requires formed { (well_formed (tree_in d b.now at) ≡ true) × (length c.old ≡ 6) }
     ensures { Says (own_piece (context_of kinds.now (layout_of l.now).generated) (term (tree_in d b.now at)) (place (layout_of l.now) p.old (site_at k long)) k (cursor_in at path c.old) (at + node_size * size (tree_in d b.now at))) (layout_of l.now) (cursor_in at path c.old) p.old p.new (low_of result c.new) × (length c.new ≡ 6) }
 {
     let f = reader::node(b, at);
@@ -720,7 +720,7 @@ fn node(
 }
 
 // And or Or of at least two children: the first is a condition.
-#[cycle(branch_link_lower_node_operand_operands)]
+#[cycle(lowering)]
 fn link(
     b: &[u8],
     p: &mut [u8],
@@ -736,7 +736,7 @@ fn link(
     c: &mut [usize; 6],
 ) -> usize
     requires ready { Ready (layout_of l.now) p.old (site_at k long) (cursor_in at path c.old) (instruction_count (arm b.now d conjunction left at)) (inner_count (arm b.now d conjunction left at)) (entry_count (arm b.now d conjunction left at)) }
-    requires at_value { (all_well_formed (kids b.now d left at) ≡ true) × (2 ≤ left) × (left < 65536) × (length c.old ≡ 6) }
+    requires formed { (all_well_formed (kids b.now d left at) ≡ true) × (2 ≤ left) × (left < 65536) × (length c.old ≡ 6) }
     ensures { Says (own_piece (context_of kinds.now (layout_of l.now).generated) (arm b.now d conjunction left at) (place (layout_of l.now) p.old (site_at k long)) k (cursor_in at path c.old) (past b.now d left at)) (layout_of l.now) (cursor_in at path c.old) p.old p.new (low_of result c.new) × (length c.new ≡ 6) }
 {
     let n = lower(b, p, kinds, l, k, long, 0, true, 1, d, at, path, c);
@@ -821,7 +821,7 @@ fn join(p: &mut [u8], k: usize, v: Value, y: Value, z: Value, e: Cursor, g: Curs
 }
 
 // The arms of a condition. A jump is written once its target is known.
-#[cycle(branch_link_lower_node_operand_operands)]
+#[cycle(lowering)]
 fn branch(
     b: &[u8],
     p: &mut [u8],
@@ -839,7 +839,7 @@ fn branch(
     c: &mut [usize; 6],
 ) -> usize
     requires ready { Ready (layout_of l.now) p.old (site_at k long) (cursor_in at path c.old) (4 + instruction_count (arm b.now d conjunction yes at) + instruction_count (arm b.now d conjunction no (past b.now d yes at))) (path_count (arm b.now d conjunction yes at) + path_count (arm b.now d conjunction no (past b.now d yes at))) (entry_count (arm b.now d conjunction yes at) + entry_count (arm b.now d conjunction no (past b.now d yes at))) }
-    requires at_value { (all_well_formed (kids b.now d yes at) ≡ true) × (all_well_formed (kids b.now d no (past b.now d yes at)) ≡ true) × (yes < 65536) × (no < 65536) × (length c.old ≡ 6) }
+    requires formed { (all_well_formed (kids b.now d yes at) ≡ true) × (all_well_formed (kids b.now d no (past b.now d yes at)) ≡ true) × (yes < 65536) × (no < 65536) × (length c.old ≡ 6) }
     ensures { Says (branch_piece (context_of kinds.now (layout_of l.now).generated) v (arm b.now d conjunction yes at) (arm b.now d conjunction no (past b.now d yes at)) (place (layout_of l.now) p.old (site_at k long)) k (cursor_in at path c.old) (past b.now d no (past b.now d yes at))) (layout_of l.now) (cursor_in at path c.old) p.old p.new (low_of result c.new) × (length c.new ≡ 6) }
 {
     if v.boolean {
@@ -915,7 +915,7 @@ fn no_operands(c: Cursor) -> Low
 }
 
 // The last `left` children of an operation, of which i are done; on the way back their registers go into its list.
-#[cycle(branch_link_lower_node_operand_operands)]
+#[cycle(lowering)]
 fn operands(
     b: &[u8],
     p: &mut [u8],
@@ -933,7 +933,7 @@ fn operands(
     c: &mut [usize; 6],
 ) -> usize
     requires ready { Ready (layout_of l.now) p.old (site_at k long) (cursor_in at path c.old) (instruction_counts (terms (kids b.now d left at))) (path_counts (terms (kids b.now d left at))) (entry_counts (terms (kids b.now d left at)) + cond lists (i + left) 0) }
-    requires at_value { (all_well_formed (kids b.now d left at) ≡ true) × (i + left < 65536) × (length c.old ≡ 6) }
+    requires formed { (all_well_formed (kids b.now d left at) ≡ true) × (i + left < 65536) × (length c.old ≡ 6) }
     ensures { Lists (layout_of l.now) lists (terms (kids b.now d left at)) i (operands_piece (context_of kinds.now (layout_of l.now).generated) want (terms (kids b.now d left at)) (place (layout_of l.now) p.old (site_at k long)) i k (cursor_in at path c.old) (past b.now d left at)) (cursor_in at path c.old) p.old p.new (low_of result c.new) × (length c.new ≡ 6) }
 {
     if left == 0 {
@@ -952,7 +952,7 @@ fn operands(
 }
 
 // The next of them, and those after it.
-#[cycle(branch_link_lower_node_operand_operands)]
+#[cycle(lowering)]
 fn operand(
     b: &[u8],
     p: &mut [u8],
@@ -970,7 +970,7 @@ fn operand(
     c: &mut [usize; 6],
 ) -> usize
     requires ready { Ready (layout_of l.now) p.old (site_at k long) (cursor_in at path c.old) (instruction_counts (terms (kids b.now d left at))) (path_counts (terms (kids b.now d left at))) (entry_counts (terms (kids b.now d left at)) + cond lists (i + left) 0) }
-    requires at_value { (all_well_formed (kids b.now d left at) ≡ true) × (i + left < 65536) × (length c.old ≡ 6) × (1 ≤ left) }
+    requires formed { (all_well_formed (kids b.now d left at) ≡ true) × (i + left < 65536) × (length c.old ≡ 6) × (1 ≤ left) }
     ensures { Lists (layout_of l.now) lists (terms (kids b.now d left at)) i (operands_piece (context_of kinds.now (layout_of l.now).generated) want (terms (kids b.now d left at)) (place (layout_of l.now) p.old (site_at k long)) i k (cursor_in at path c.old) (past b.now d left at)) (cursor_in at path c.old) p.old p.new (low_of result c.new) × (length c.new ≡ 6) }
 {
     let m = lower(b, p, kinds, l, k, long, 3 + i, true, 1, d, at, path, c);
@@ -1013,7 +1013,7 @@ fn operand(
 // A whole formula's node.
 pub fn root(b: &[u8], p: &mut [u8], kinds: &[u8], l: Layout, s: Site, d: usize, c: Cursor) -> Low
     requires ready { Ready l p.old s c (instruction_count (term (tree_in d b.now c.node))) (inner_count (term (tree_in d b.now c.node))) (entry_count (term (tree_in d b.now c.node))) }
-    requires node_value { well_formed (tree_in d b.now c.node) ≡ true }
+    requires formed { well_formed (tree_in d b.now c.node) ≡ true }
     ensures { Says (own_piece (context_of kinds.now l.generated) (term (tree_in d b.now c.node)) (place l p.old s) s.path c (c.node + node_size * size (tree_in d b.now c.node))) l c p.old p.new result }
 {
     let y = [l.paths, l.lists, bit(l.generated)];

@@ -308,7 +308,7 @@ fn extremum(f: &[u8], k: usize, by: By, table: &[usize]) -> Attributes
 }
 
 // What the part of a rule that starts at a code gives, for node k.
-#[cycle(rule_attributes_rules_attributes)]
+#[cycle(rules)]
 pub fn rule_attributes(
     q: usize,
     i: usize,
@@ -359,7 +359,7 @@ pub fn rule_attributes(
 }
 
 // Of so many parts one after another.
-#[cycle(rule_attributes_rules_attributes)]
+#[cycle(rules)]
 fn rules_attributes(
     q: usize,
     i: usize,

@@ -53,8 +53,8 @@ fn weigh(f: reader::Fields, inner: Counts) -> Counts
 
 // So much more at the same byte.
 fn grown(t: Counts, code: usize, paths: usize, entries: usize) -> Counts
-    requires code_bound { (t.code < 2 ^ 63) × (t.paths < 2 ^ 63) × (t.entries < 2 ^ 63) }
-    requires code_bound_2 { (code < 2 ^ 63) × (paths < 2 ^ 63) × (entries < 2 ^ 63) }
+    requires counted { (t.code < 2 ^ 63) × (t.paths < 2 ^ 63) × (t.entries < 2 ^ 63) }
+    requires added { (code < 2 ^ 63) × (paths < 2 ^ 63) × (entries < 2 ^ 63) }
     ensures { result ≡ more t code paths entries }
 {
     Counts {

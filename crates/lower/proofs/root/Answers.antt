@@ -16,11 +16,11 @@ pub node-n-requires : goal.node-n-requires
 node-n-requires c =
     let args = c.args in
     let pre = c.requires in
-    let t = term (tree_in args.d args.b.now args.c.node) in (
-      subst (λ (x : Layout). Ready x args.p.now args.s args.c (instruction_count t) (inner_count t) (entry_count t))
-          (sym (layout_is args.l c.bit.result c.bit.ensures.0)) pre.0,
-      (pre.1, refl),
-    )
+    let t = term (tree_in args.d args.b.now args.c.node) in record {
+      ready = subst (λ (x : Layout). Ready x args.p.now args.s args.c (instruction_count t) (inner_count t) (entry_count t))
+          (sym (layout_is args.l c.bit.result c.bit.ensures.0)) pre.ready;
+      formed = (pre.formed, refl)
+    }
 
 pub returns : goal.returns
 returns c =

@@ -1,7 +1,7 @@
 use Prim.Native.Nat.{◌-◌}
 use native.Mathlib.Omega.{arith}
 use mathlib.Core.Path.{refl, ◌∙◌, sym}
-use mathlib.Core.List.{◌∷◌}
+use mathlib.Core.List.{[], ◌∷◌}
 use Rattle.derivative.specs.Rules.{extremum_from}
 use Rattle.survey.specs.Table.{tree, reading}
 use Rattle.survey.specs.Derived.{child_of, derived_of}

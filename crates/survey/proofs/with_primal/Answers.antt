@@ -1,6 +1,6 @@
 use native.Mathlib.Omega.{arith}
 use mathlib.Core.Path.{◌∙◌, ap}
-use mathlib.Core.List.{◌∷◌}
+use mathlib.Core.List.{[], ◌∷◌}
 use Rattle.derivative.specs.Attributes.{Attributes}
 use Rattle.survey.specs.Table.{reading}
 use Rattle.survey.specs.Worked.{inner}
@@ -14,11 +14,13 @@ two-requires c = (
     omega (arith, ap (λ (x : Attributes). x.levels) c.of_literal.ensures),
   ),
   c.requires.0,
+)
 
 pub two-requires-2 : goal.two-requires-2
 two-requires-2 c = (
   capped_inner c.two.result (reading c.of_literal.result ∷ reading c.args.own ∷ []) c.two.ensures,
   c.requires.1,
+)
 
 pub returns : goal.returns
 returns c =

@@ -1,5 +1,5 @@
 use Prim.Native.Nat.{◌+◌, ◌*◌}
-use Rattle.survey.proofs.+rule_attributes_rules_attributes.Given as goal
+use Rattle.survey.proofs.+rules.Given as goal
 
 abbrev pub decreases-rule_attributes : goal.decreases-rule_attributes
 decreases-rule_attributes l = 8 * l.levels

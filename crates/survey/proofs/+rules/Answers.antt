@@ -10,21 +10,21 @@ use Rattle.survey.specs.Worked.{literal_attributes}
 use Rattle.survey.proofs.Worked.{rule_none, rule_long, worked_by, worked_zero, worked_child, worked_diff, worked_whole, worked_extremum, worked_literal, unless_yes, unless_no, writing}
 use Rattle.survey.proofs.Capped.{capped_worked}
 use Rattle.survey.proofs.Steps.{tested, added, multiplied, noded, sum_none, sum_next, sum_fits}
-use Rattle.survey.proofs.+rule_attributes_rules_attributes.Goals as goal
+use Rattle.survey.proofs.+rules.Goals as goal
 
-pub returns-then-levels-eq0 : goal.returns-then-levels-eq0
-returns-then-levels-eq0 t c =
+pub rule_attributes-returns-then-levels-eq0 : goal.rule_attributes-returns-then-levels-eq0
+rule_attributes-returns-then-levels-eq0 t c =
     let args = c.args in
     let tree2 = tree args.f.now args.k in
     c.of_literal.ensures ∙ worked_by args.by.symbol args.by.state tree2 args.levels args.q args.i 0·0 (⊎_elim
     (λ w. rule_none tree2 args.levels args.q args.i w.taken)
     (λ w. rule_long tree2 args.levels args.q args.i (leb-true 128 args.i w.1.taken)) c.then-levels-eq0.branch)
 
-pub literal_bits-requires : goal.literal_bits-requires
-literal_bits-requires t c = c.requires.owned
+pub rule_attributes-literal_bits-requires : goal.rule_attributes-literal_bits-requires
+rule_attributes-literal_bits-requires t c = c.requires.owned
 
-pub returns-then-kind-ge12 : goal.returns-then-kind-ge12
-returns-then-kind-ge12 t c =
+pub rule_attributes-returns-then-kind-ge12 : goal.rule_attributes-returns-then-kind-ge12
+rule_attributes-returns-then-kind-ge12 t c =
     let args = c.args in
     let if1 = c.if-levels-eq0 in
     let wide = c.wide-c in
@@ -33,11 +33,11 @@ returns-then-kind-ge12 t c =
     (leb-false 128 args.i c.if-i-ge128.false)
     (wide.ensures.0 ∙ c.code.ensures) c.if-kind-ge12.true
 
-pub own-requires : goal.own-requires
-own-requires t c = c.requires.owned
+pub rule_attributes-own-requires : goal.rule_attributes-own-requires
+rule_attributes-own-requires t c = c.requires.owned
 
-pub returns-then-is_zero : goal.returns-then-is_zero
-returns-then-is_zero t c =
+pub rule_attributes-returns-then-is_zero : goal.rule_attributes-returns-then-is_zero
+rule_attributes-returns-then-is_zero t c =
     let args = c.args in
     let if1 = c.if-levels-eq0 in
     let if2 = c.if-i-ge128 in
@@ -50,36 +50,36 @@ returns-then-is_zero t c =
     c.is_zero.result diff_attributes2.result (derived_of args.by.symbol args.by.state tree2 (wide.result % 16)) _
     c.is_zero.ensures diff_attributes2.ensures c.if-is_zero.true)
 
-pub overflow_add-i : goal.overflow_add-i
-overflow_add-i t c =
+pub rule_attributes-overflow_add-i : goal.rule_attributes-overflow_add-i
+rule_attributes-overflow_add-i t c =
     let args = c.args in
     let if2 = c.if-i-ge128 in
     omega (arith, leb-false 128 args.i if2.false)
 
-pub overflow_sub-levels : goal.overflow_sub-levels
-overflow_sub-levels t c = omega (arith, c.if-levels-eq0.false)
+pub rule_attributes-overflow_sub-levels : goal.rule_attributes-overflow_sub-levels
+rule_attributes-overflow_sub-levels t c = omega (arith, c.if-levels-eq0.false)
 
-pub overflow_add-i-in-9 : goal.overflow_add-i-in-9
-overflow_add-i-in-9 t c =
+pub rule_attributes-overflow_add-i-in-9 : goal.rule_attributes-overflow_add-i-in-9
+rule_attributes-overflow_add-i-in-9 t c =
     let args = c.args in
     omega (arith, leb-false 128 args.i c.if-i-ge128.false)
 
-pub overflow_sub-levels-in-9 : goal.overflow_sub-levels-in-9
-overflow_sub-levels-in-9 t c = omega (arith, c.if-levels-eq0.false)
+pub rule_attributes-overflow_sub-levels-in-9 : goal.rule_attributes-overflow_sub-levels-in-9
+rule_attributes-overflow_sub-levels-in-9 t c = omega (arith, c.if-levels-eq0.false)
 
-pub overflow_add-i-in-9-2 : goal.overflow_add-i-in-9-2
-overflow_add-i-in-9-2 t c =
+pub rule_attributes-overflow_add-i-in-9-2 : goal.rule_attributes-overflow_add-i-in-9-2
+rule_attributes-overflow_add-i-in-9-2 t c =
     let args = c.args in
     omega (arith, leb-false 128 args.i c.if-i-ge128.false)
 
-pub overflow_sub-levels-in-9-2 : goal.overflow_sub-levels-in-9-2
-overflow_sub-levels-in-9-2 t c = omega (arith, c.if-levels-eq0.false)
+pub rule_attributes-overflow_sub-levels-in-9-2 : goal.rule_attributes-overflow_sub-levels-in-9-2
+rule_attributes-overflow_sub-levels-in-9-2 t c = omega (arith, c.if-levels-eq0.false)
 
-pub overflow_sub-levels-in-9-3 : goal.overflow_sub-levels-in-9-3
-overflow_sub-levels-in-9-3 t c = omega (arith, c.if-levels-eq0.false)
+pub rule_attributes-overflow_sub-levels-in-9-3 : goal.rule_attributes-overflow_sub-levels-in-9-3
+rule_attributes-overflow_sub-levels-in-9-3 t c = omega (arith, c.if-levels-eq0.false)
 
-pub add-requires : goal.add-requires
-add-requires t c =
+pub rule_attributes-add-requires : goal.rule_attributes-add-requires
+rule_attributes-add-requires t c =
     let args = c.args in
     let tree2 = tree args.f.now args.k in (
       capped_worked args.by.symbol args.by.state tree2 (args.levels - 1) args.q (args.i + 1)
@@ -88,27 +88,27 @@ add-requires t c =
           c.rule_attributes-in-9.ensures,
     )
 
-pub overflow_add-i-in-10 : goal.overflow_add-i-in-10
-overflow_add-i-in-10 t c =
+pub rule_attributes-overflow_add-i-in-10 : goal.rule_attributes-overflow_add-i-in-10
+rule_attributes-overflow_add-i-in-10 t c =
     let args = c.args in
     omega (arith, leb-false 128 args.i c.if-i-ge128.false)
 
-pub overflow_sub-levels-in-10 : goal.overflow_sub-levels-in-10
-overflow_sub-levels-in-10 t c = omega (arith, c.if-levels-eq0.false)
+pub rule_attributes-overflow_sub-levels-in-10 : goal.rule_attributes-overflow_sub-levels-in-10
+rule_attributes-overflow_sub-levels-in-10 t c = omega (arith, c.if-levels-eq0.false)
 
-pub overflow_add-i-in-10-2 : goal.overflow_add-i-in-10-2
-overflow_add-i-in-10-2 t c =
+pub rule_attributes-overflow_add-i-in-10-2 : goal.rule_attributes-overflow_add-i-in-10-2
+rule_attributes-overflow_add-i-in-10-2 t c =
     let args = c.args in
     omega (arith, leb-false 128 args.i c.if-i-ge128.false)
 
-pub overflow_sub-levels-in-10-2 : goal.overflow_sub-levels-in-10-2
-overflow_sub-levels-in-10-2 t c = omega (arith, c.if-levels-eq0.false)
+pub rule_attributes-overflow_sub-levels-in-10-2 : goal.rule_attributes-overflow_sub-levels-in-10-2
+rule_attributes-overflow_sub-levels-in-10-2 t c = omega (arith, c.if-levels-eq0.false)
 
-pub overflow_sub-levels-in-10-3 : goal.overflow_sub-levels-in-10-3
-overflow_sub-levels-in-10-3 t c = omega (arith, c.if-levels-eq0.false)
+pub rule_attributes-overflow_sub-levels-in-10-3 : goal.rule_attributes-overflow_sub-levels-in-10-3
+rule_attributes-overflow_sub-levels-in-10-3 t c = omega (arith, c.if-levels-eq0.false)
 
-pub mul-requires : goal.mul-requires
-mul-requires t c =
+pub rule_attributes-mul-requires : goal.rule_attributes-mul-requires
+rule_attributes-mul-requires t c =
     let args = c.args in
     let tree2 = tree args.f.now args.k in (
       capped_worked args.by.symbol args.by.state tree2 (args.levels - 1) args.q (args.i + 1)
@@ -117,25 +117,25 @@ mul-requires t c =
           c.rule_attributes-in-10.ensures,
     )
 
-pub extremum-requires : goal.extremum-requires
-extremum-requires t c = c.requires
+pub rule_attributes-extremum-requires : goal.rule_attributes-extremum-requires
+rule_attributes-extremum-requires t c = c.requires
 
-pub overflow_add-i-in_default : goal.overflow_add-i-in_default
-overflow_add-i-in_default t c =
+pub rule_attributes-overflow_add-i-in_default : goal.rule_attributes-overflow_add-i-in_default
+rule_attributes-overflow_add-i-in_default t c =
     let args = c.args in
     omega (arith, leb-false 128 args.i c.if-i-ge128.false)
 
-pub overflow_sub-levels-in_default : goal.overflow_sub-levels-in_default
-overflow_sub-levels-in_default t c = omega (arith, c.if-levels-eq0.false)
+pub rule_attributes-overflow_sub-levels-in_default : goal.rule_attributes-overflow_sub-levels-in_default
+rule_attributes-overflow_sub-levels-in_default t c = omega (arith, c.if-levels-eq0.false)
 
-pub node-requires : goal.node-requires
-node-requires t c =
+pub rule_attributes-node-requires : goal.rule_attributes-node-requires
+rule_attributes-node-requires t c =
     let args = c.args in
     let h = sum_fits args.by.symbol args.by.state (tree args.f.now args.k) (args.levels - 1) args.q c.parts_of-n.result
     (args.i + 1) c.rules_attributes.result c.parts_of-n.ensures.1 c.rules_attributes.ensures in (omega (arith, h.0), h.1)
 
-pub returns-in-0 : goal.returns-in-0
-returns-in-0 t c =
+pub rule_attributes-returns-in-0 : goal.rule_attributes-returns-in-0
+rule_attributes-returns-in-0 t c =
     let args = c.args in
     let if1 = c.if-levels-eq0 in
     let wide = c.wide-c in
@@ -143,8 +143,8 @@ returns-in-0 t c =
     wide.result if1.false (leb-false 128 args.i c.if-i-ge128.false)
     (wide.ensures.0 ∙ c.code.ensures) c.in-0.is
 
-pub returns-in-1 : goal.returns-in-1
-returns-in-1 t c =
+pub rule_attributes-returns-in-1 : goal.rule_attributes-returns-in-1
+rule_attributes-returns-in-1 t c =
     let args = c.args in
     let if1 = c.if-levels-eq0 in
     let wide = c.wide-c in
@@ -152,8 +152,8 @@ returns-in-1 t c =
     args.i wide.result if1.false (leb-false 128 args.i c.if-i-ge128.false)
     (wide.ensures.0 ∙ c.code.ensures) c.in-1.is
 
-pub returns-in-2 : goal.returns-in-2
-returns-in-2 t c =
+pub rule_attributes-returns-in-2 : goal.rule_attributes-returns-in-2
+rule_attributes-returns-in-2 t c =
     let args = c.args in
     let if1 = c.if-levels-eq0 in
     let wide = c.wide-c in
@@ -161,8 +161,8 @@ returns-in-2 t c =
     wide.result if1.false (leb-false 128 args.i c.if-i-ge128.false)
     (wide.ensures.0 ∙ c.code.ensures) c.in-2.is
 
-pub returns-in-3 : goal.returns-in-3
-returns-in-3 t c =
+pub rule_attributes-returns-in-3 : goal.rule_attributes-returns-in-3
+rule_attributes-returns-in-3 t c =
     let args = c.args in
     let if1 = c.if-levels-eq0 in
     let wide = c.wide-c in
@@ -170,8 +170,8 @@ returns-in-3 t c =
     wide.result if1.false (leb-false 128 args.i c.if-i-ge128.false)
     (wide.ensures.0 ∙ c.code.ensures) c.in-3.is
 
-pub returns-else-is_zero : goal.returns-else-is_zero
-returns-else-is_zero t c =
+pub rule_attributes-returns-else-is_zero : goal.rule_attributes-returns-else-is_zero
+rule_attributes-returns-else-is_zero t c =
     let args = c.args in
     let if1 = c.if-levels-eq0 in
     let if2 = c.if-i-ge128 in
@@ -184,8 +184,8 @@ returns-else-is_zero t c =
     c.is_zero.result diff_attributes2.result (derived_of args.by.symbol args.by.state tree2 (wide.result % 16)) _
     c.is_zero.ensures diff_attributes2.ensures c.if-is_zero.false)
 
-pub returns-in-9 : goal.returns-in-9
-returns-in-9 t c =
+pub rule_attributes-returns-in-9 : goal.rule_attributes-returns-in-9
+rule_attributes-returns-in-9 t c =
     let args = c.args in
     let if1 = c.if-levels-eq0 in
     let if2 = c.if-i-ge128 in
@@ -198,8 +198,8 @@ returns-in-9 t c =
     c.end_of-j.result rule_attributes2.ensures c.end_of-j.ensures c.rule_attributes-in-9.ensures
     c.add.ensures
 
-pub returns-in-10 : goal.returns-in-10
-returns-in-10 t c =
+pub rule_attributes-returns-in-10 : goal.rule_attributes-returns-in-10
+rule_attributes-returns-in-10 t c =
     let args = c.args in
     let if1 = c.if-levels-eq0 in
     let if2 = c.if-i-ge128 in
@@ -212,8 +212,8 @@ returns-in-10 t c =
     c.end_of-j-in-10.result rule_attributes4.ensures c.end_of-j-in-10.ensures c.rule_attributes-in-10.ensures
     c.mul.ensures
 
-pub returns-in-11 : goal.returns-in-11
-returns-in-11 t c =
+pub rule_attributes-returns-in-11 : goal.rule_attributes-returns-in-11
+rule_attributes-returns-in-11 t c =
     let args = c.args in
     let if1 = c.if-levels-eq0 in
     let wide = c.wide-c in
@@ -221,8 +221,8 @@ returns-in-11 t c =
     wide.result if1.false (leb-false 128 args.i c.if-i-ge128.false)
     (wide.ensures.0 ∙ c.code.ensures) c.in-11.is
 
-pub returns-in_default : goal.returns-in_default
-returns-in_default t c =
+pub rule_attributes-returns-in_default : goal.rule_attributes-returns-in_default
+rule_attributes-returns-in_default t c =
     let args = c.args in
     let if1 = c.if-levels-eq0 in
     let if2 = c.if-i-ge128 in
@@ -236,16 +236,16 @@ returns-in_default t c =
     match.rest.1) (reading c.node.result) c.rules_attributes.result c.parts_of-n.result
     c.parts_of-n.ensures.0 c.rules_attributes.ensures c.node.ensures
 
-pub returns-then-left-eq0 : goal.returns-then-left-eq0
-returns-then-left-eq0 t c =
+pub rules_attributes-returns-then-left-eq0 : goal.rules_attributes-returns-then-left-eq0
+rules_attributes-returns-then-left-eq0 t c =
     let args = c.args in
     sum_none args.by.symbol args.by.state (tree args.f.now args.k) args.levels args.q args.left args.i c.if-left-eq0.true
 
-pub overflow_sub-left : goal.overflow_sub-left
-overflow_sub-left t c = omega (arith, c.if-left-eq0.false)
+pub rules_attributes-overflow_sub-left : goal.rules_attributes-overflow_sub-left
+rules_attributes-overflow_sub-left t c = omega (arith, c.if-left-eq0.false)
 
-pub overflow_add-result : goal.overflow_add-result
-overflow_add-result t c =
+pub rules_attributes-overflow_add-result : goal.rules_attributes-overflow_add-result
+rules_attributes-overflow_add-result t c =
     let args = c.args in
     let pre = c.requires in
     let rule_attributes = c.rule_attributes-a in
@@ -255,8 +255,8 @@ overflow_add-result t c =
     args.by.symbol args.by.state tree2 args.levels args.q args.i rule_attributes.result rule_attributes.ensures in omega
     (arith, h.0, g.0)
 
-pub returns : goal.returns
-returns t c =
+pub rules_attributes-returns : goal.rules_attributes-returns
+rules_attributes-returns t c =
     let args = c.args in
     let if1 = c.if-left-eq0 in
     let rule_attributes = c.rule_attributes-a in

@@ -27,31 +27,31 @@ use borrow.Fn.Kinds.{In}
 use borrow.Fn.PlainCycle.{Measures, is, falls, and}
 use Rattle.differentiate.proofs.differentiate.Reads as differentiate
 use Rattle.differentiate.proofs.differentiate.Kinds as differentiate_kinds
-use Rattle.differentiate.proofs.+differentiate_write_diff_write_extremum_write_node_write_product_write_rule_write_rules_write_sum_write_ties.Lts-differentiate as differentiate_lts
+use Rattle.differentiate.proofs.+writing.Lts-differentiate as differentiate_lts
 use Rattle.differentiate.proofs.write_diff.Reads as write_diff
 use Rattle.differentiate.proofs.write_diff.Kinds as write_diff_kinds
-use Rattle.differentiate.proofs.+differentiate_write_diff_write_extremum_write_node_write_product_write_rule_write_rules_write_sum_write_ties.Lts-write_diff as write_diff_lts
+use Rattle.differentiate.proofs.+writing.Lts-write_diff as write_diff_lts
 use Rattle.differentiate.proofs.write_extremum.Reads as write_extremum
 use Rattle.differentiate.proofs.write_extremum.Kinds as write_extremum_kinds
-use Rattle.differentiate.proofs.+differentiate_write_diff_write_extremum_write_node_write_product_write_rule_write_rules_write_sum_write_ties.Lts-write_extremum as write_extremum_lts
+use Rattle.differentiate.proofs.+writing.Lts-write_extremum as write_extremum_lts
 use Rattle.differentiate.proofs.write_node.Reads as write_node
 use Rattle.differentiate.proofs.write_node.Kinds as write_node_kinds
-use Rattle.differentiate.proofs.+differentiate_write_diff_write_extremum_write_node_write_product_write_rule_write_rules_write_sum_write_ties.Lts-write_node as write_node_lts
+use Rattle.differentiate.proofs.+writing.Lts-write_node as write_node_lts
 use Rattle.differentiate.proofs.write_product.Reads as write_product
 use Rattle.differentiate.proofs.write_product.Kinds as write_product_kinds
-use Rattle.differentiate.proofs.+differentiate_write_diff_write_extremum_write_node_write_product_write_rule_write_rules_write_sum_write_ties.Lts-write_product as write_product_lts
+use Rattle.differentiate.proofs.+writing.Lts-write_product as write_product_lts
 use Rattle.differentiate.proofs.write_rule.Reads as write_rule
 use Rattle.differentiate.proofs.write_rule.Kinds as write_rule_kinds
-use Rattle.differentiate.proofs.+differentiate_write_diff_write_extremum_write_node_write_product_write_rule_write_rules_write_sum_write_ties.Lts-write_rule as write_rule_lts
+use Rattle.differentiate.proofs.+writing.Lts-write_rule as write_rule_lts
 use Rattle.differentiate.proofs.write_rules.Reads as write_rules
 use Rattle.differentiate.proofs.write_rules.Kinds as write_rules_kinds
-use Rattle.differentiate.proofs.+differentiate_write_diff_write_extremum_write_node_write_product_write_rule_write_rules_write_sum_write_ties.Lts-write_rules as write_rules_lts
+use Rattle.differentiate.proofs.+writing.Lts-write_rules as write_rules_lts
 use Rattle.differentiate.proofs.write_sum.Reads as write_sum
 use Rattle.differentiate.proofs.write_sum.Kinds as write_sum_kinds
-use Rattle.differentiate.proofs.+differentiate_write_diff_write_extremum_write_node_write_product_write_rule_write_rules_write_sum_write_ties.Lts-write_sum as write_sum_lts
+use Rattle.differentiate.proofs.+writing.Lts-write_sum as write_sum_lts
 use Rattle.differentiate.proofs.write_ties.Reads as write_ties
 use Rattle.differentiate.proofs.write_ties.Kinds as write_ties_kinds
-use Rattle.differentiate.proofs.+differentiate_write_diff_write_extremum_write_node_write_product_write_rule_write_rules_write_sum_write_ties.Lts-write_ties as write_ties_lts
+use Rattle.differentiate.proofs.+writing.Lts-write_ties as write_ties_lts
 use Rattle.differentiate.proofs.put_child.Reads as put_child_reads
 use Rattle.differentiate.proofs.put_literal.Reads as put_literal_reads
 use Rattle.differentiate.proofs.put_arm_literal.Reads as put_arm_literal_reads
@@ -70,10 +70,10 @@ use Rattle.survey.proofs.is_zero.Reads as is_zero_reads
 use Rattle.survey.proofs.rule_attributes.Reads as rule_attributes_reads
 use Rattle.survey.proofs.rule_of.Reads as rule_of_reads
 use Rattle.reader.proofs.wide.Reads as wide_reads
-use Rattle.differentiate.proofs.+differentiate_write_diff_write_extremum_write_node_write_product_write_rule_write_rules_write_sum_write_ties.{
+use Rattle.differentiate.proofs.+writing.{
   statement,
 }
-use Rattle.differentiate.proofs.+differentiate_write_diff_write_extremum_write_node_write_product_write_rule_write_rules_write_sum_write_ties.Tie.{
+use Rattle.differentiate.proofs.+writing.Tie.{
   close,
 }
 
