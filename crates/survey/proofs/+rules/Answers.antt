@@ -17,8 +17,8 @@ rule_attributes-returns-then-levels-eq0 t c =
     let args = c.args in
     let tree2 = tree args.f.now args.k in
     c.of_literal.ensures ∙ worked_by args.by.symbol args.by.state tree2 args.levels args.q args.i 0·0 (⊎_elim
-    (λ w. rule_none tree2 args.levels args.q args.i w.taken)
-    (λ w. rule_long tree2 args.levels args.q args.i (leb-true 128 args.i w.1.taken)) c.then-levels-eq0.branch)
+    (λ w. rule_none tree2 args.levels args.q args.i w)
+    (λ w. rule_long tree2 args.levels args.q args.i w.1) c.then-levels-eq0.either)
 
 pub rule_attributes-literal_bits-requires : goal.rule_attributes-literal_bits-requires
 rule_attributes-literal_bits-requires t c = c.requires.owned
@@ -30,7 +30,7 @@ rule_attributes-returns-then-kind-ge12 t c =
     let wide = c.wide-c in
     c.of_literal-then-kind-ge12.ensures ∙ ap literal_attributes c.literal_bits.ensures ∙ worked_literal args.by.symbol args.by.state
     (tree args.f.now args.k) args.levels args.q args.i wide.result if1.false
-    (leb-false 128 args.i c.if-i-ge128.false)
+    c.if-i-ge128.false
     (wide.ensures.0 ∙ c.code.ensures) c.if-kind-ge12.true
 
 pub rule_attributes-own-requires : goal.rule_attributes-own-requires
@@ -46,7 +46,7 @@ rule_attributes-returns-then-is_zero t c =
     let diff_attributes2 = c.diff_attributes-in-6 in
     let tree2 = tree args.f.now args.k in
     c.of_literal-then-is_zero.ensures ∙ unless_yes args.by.symbol args.by.state tree2 args.levels args.q args.i wide.result if1.false
-    (leb-false 128 args.i if2.false) (wide.ensures.0 ∙ code.ensures) c.in-6.is (tested
+    if2.false (wide.ensures.0 ∙ code.ensures) c.in-6.is (tested
     c.is_zero.result diff_attributes2.result (derived_of args.by.symbol args.by.state tree2 (wide.result % 16)) _
     c.is_zero.ensures diff_attributes2.ensures c.if-is_zero.true)
 
@@ -54,7 +54,7 @@ pub rule_attributes-overflow_add-i : goal.rule_attributes-overflow_add-i
 rule_attributes-overflow_add-i t c =
     let args = c.args in
     let if2 = c.if-i-ge128 in
-    omega (arith, leb-false 128 args.i if2.false)
+    omega (arith, if2.false)
 
 pub rule_attributes-overflow_sub-levels : goal.rule_attributes-overflow_sub-levels
 rule_attributes-overflow_sub-levels t c = omega (arith, c.if-levels-eq0.false)
@@ -62,7 +62,7 @@ rule_attributes-overflow_sub-levels t c = omega (arith, c.if-levels-eq0.false)
 pub rule_attributes-overflow_add-i-in-9 : goal.rule_attributes-overflow_add-i-in-9
 rule_attributes-overflow_add-i-in-9 t c =
     let args = c.args in
-    omega (arith, leb-false 128 args.i c.if-i-ge128.false)
+    omega (arith, c.if-i-ge128.false)
 
 pub rule_attributes-overflow_sub-levels-in-9 : goal.rule_attributes-overflow_sub-levels-in-9
 rule_attributes-overflow_sub-levels-in-9 t c = omega (arith, c.if-levels-eq0.false)
@@ -70,7 +70,7 @@ rule_attributes-overflow_sub-levels-in-9 t c = omega (arith, c.if-levels-eq0.fal
 pub rule_attributes-overflow_add-i-in-9-2 : goal.rule_attributes-overflow_add-i-in-9-2
 rule_attributes-overflow_add-i-in-9-2 t c =
     let args = c.args in
-    omega (arith, leb-false 128 args.i c.if-i-ge128.false)
+    omega (arith, c.if-i-ge128.false)
 
 pub rule_attributes-overflow_sub-levels-in-9-2 : goal.rule_attributes-overflow_sub-levels-in-9-2
 rule_attributes-overflow_sub-levels-in-9-2 t c = omega (arith, c.if-levels-eq0.false)
@@ -91,7 +91,7 @@ rule_attributes-add-requires t c =
 pub rule_attributes-overflow_add-i-in-10 : goal.rule_attributes-overflow_add-i-in-10
 rule_attributes-overflow_add-i-in-10 t c =
     let args = c.args in
-    omega (arith, leb-false 128 args.i c.if-i-ge128.false)
+    omega (arith, c.if-i-ge128.false)
 
 pub rule_attributes-overflow_sub-levels-in-10 : goal.rule_attributes-overflow_sub-levels-in-10
 rule_attributes-overflow_sub-levels-in-10 t c = omega (arith, c.if-levels-eq0.false)
@@ -99,7 +99,7 @@ rule_attributes-overflow_sub-levels-in-10 t c = omega (arith, c.if-levels-eq0.fa
 pub rule_attributes-overflow_add-i-in-10-2 : goal.rule_attributes-overflow_add-i-in-10-2
 rule_attributes-overflow_add-i-in-10-2 t c =
     let args = c.args in
-    omega (arith, leb-false 128 args.i c.if-i-ge128.false)
+    omega (arith, c.if-i-ge128.false)
 
 pub rule_attributes-overflow_sub-levels-in-10-2 : goal.rule_attributes-overflow_sub-levels-in-10-2
 rule_attributes-overflow_sub-levels-in-10-2 t c = omega (arith, c.if-levels-eq0.false)
@@ -123,7 +123,7 @@ rule_attributes-extremum-requires t c = c.requires
 pub rule_attributes-overflow_add-i-in_default : goal.rule_attributes-overflow_add-i-in_default
 rule_attributes-overflow_add-i-in_default t c =
     let args = c.args in
-    omega (arith, leb-false 128 args.i c.if-i-ge128.false)
+    omega (arith, c.if-i-ge128.false)
 
 pub rule_attributes-overflow_sub-levels-in_default : goal.rule_attributes-overflow_sub-levels-in_default
 rule_attributes-overflow_sub-levels-in_default t c = omega (arith, c.if-levels-eq0.false)
@@ -140,7 +140,7 @@ rule_attributes-returns-in-0 t c =
     let if1 = c.if-levels-eq0 in
     let wide = c.wide-c in
     c.of_literal-in-0.ensures ∙ worked_zero args.by.symbol args.by.state (tree args.f.now args.k) args.levels args.q args.i
-    wide.result if1.false (leb-false 128 args.i c.if-i-ge128.false)
+    wide.result if1.false c.if-i-ge128.false
     (wide.ensures.0 ∙ c.code.ensures) c.in-0.is
 
 pub rule_attributes-returns-in-1 : goal.rule_attributes-returns-in-1
@@ -149,7 +149,7 @@ rule_attributes-returns-in-1 t c =
     let if1 = c.if-levels-eq0 in
     let wide = c.wide-c in
     c.child_attributes.ensures ∙ worked_child args.by.symbol args.by.state (tree args.f.now args.k) args.levels args.q
-    args.i wide.result if1.false (leb-false 128 args.i c.if-i-ge128.false)
+    args.i wide.result if1.false c.if-i-ge128.false
     (wide.ensures.0 ∙ c.code.ensures) c.in-1.is
 
 pub rule_attributes-returns-in-2 : goal.rule_attributes-returns-in-2
@@ -158,7 +158,7 @@ rule_attributes-returns-in-2 t c =
     let if1 = c.if-levels-eq0 in
     let wide = c.wide-c in
     c.diff_attributes.ensures ∙ worked_diff args.by.symbol args.by.state (tree args.f.now args.k) args.levels args.q args.i
-    wide.result if1.false (leb-false 128 args.i c.if-i-ge128.false)
+    wide.result if1.false c.if-i-ge128.false
     (wide.ensures.0 ∙ c.code.ensures) c.in-2.is
 
 pub rule_attributes-returns-in-3 : goal.rule_attributes-returns-in-3
@@ -167,7 +167,7 @@ rule_attributes-returns-in-3 t c =
     let if1 = c.if-levels-eq0 in
     let wide = c.wide-c in
     c.own.ensures ∙ worked_whole args.by.symbol args.by.state (tree args.f.now args.k) args.levels args.q args.i
-    wide.result if1.false (leb-false 128 args.i c.if-i-ge128.false)
+    wide.result if1.false c.if-i-ge128.false
     (wide.ensures.0 ∙ c.code.ensures) c.in-3.is
 
 pub rule_attributes-returns-else-is_zero : goal.rule_attributes-returns-else-is_zero
@@ -180,7 +180,7 @@ rule_attributes-returns-else-is_zero t c =
     let diff_attributes2 = c.diff_attributes-in-6 in
     let tree2 = tree args.f.now args.k in
     c.rule_attributes.ensures ∙ unless_no args.by.symbol args.by.state tree2 args.levels args.q args.i wide.result if1.false
-    (leb-false 128 args.i if2.false) (wide.ensures.0 ∙ code.ensures) c.in-6.is (tested
+    if2.false (wide.ensures.0 ∙ code.ensures) c.in-6.is (tested
     c.is_zero.result diff_attributes2.result (derived_of args.by.symbol args.by.state tree2 (wide.result % 16)) _
     c.is_zero.ensures diff_attributes2.ensures c.if-is_zero.false)
 
@@ -193,7 +193,7 @@ rule_attributes-returns-in-9 t c =
     let wide = c.wide-c in
     let rule_attributes2 = c.rule_attributes-a in
     added args.by.symbol args.by.state (tree args.f.now args.k) args.levels args.q args.i wide.result if1.false
-    (leb-false 128 args.i if2.false) (wide.ensures.0 ∙ code.ensures) c.in-9.is
+    if2.false (wide.ensures.0 ∙ code.ensures) c.in-9.is
     (reading rule_attributes2.result) (reading c.rule_attributes-in-9.result) (reading c.add.result)
     c.end_of-j.result rule_attributes2.ensures c.end_of-j.ensures c.rule_attributes-in-9.ensures
     c.add.ensures
@@ -207,7 +207,7 @@ rule_attributes-returns-in-10 t c =
     let wide = c.wide-c in
     let rule_attributes4 = c.rule_attributes-a-in-10 in
     multiplied args.by.symbol args.by.state (tree args.f.now args.k) args.levels args.q args.i wide.result if1.false
-    (leb-false 128 args.i if2.false) (wide.ensures.0 ∙ code.ensures) c.in-10.is
+    if2.false (wide.ensures.0 ∙ code.ensures) c.in-10.is
     (reading rule_attributes4.result) (reading c.rule_attributes-in-10.result) (reading c.mul.result)
     c.end_of-j-in-10.result rule_attributes4.ensures c.end_of-j-in-10.ensures c.rule_attributes-in-10.ensures
     c.mul.ensures
@@ -218,7 +218,7 @@ rule_attributes-returns-in-11 t c =
     let if1 = c.if-levels-eq0 in
     let wide = c.wide-c in
     c.extremum.ensures ∙ worked_extremum args.by.symbol args.by.state (tree args.f.now args.k) args.levels args.q args.i
-    wide.result if1.false (leb-false 128 args.i c.if-i-ge128.false)
+    wide.result if1.false c.if-i-ge128.false
     (wide.ensures.0 ∙ c.code.ensures) c.in-11.is
 
 pub rule_attributes-returns-in_default : goal.rule_attributes-returns-in_default
@@ -230,7 +230,7 @@ rule_attributes-returns-in_default t c =
     let wide = c.wide-c in
     let match = c.in_default.in_default-own in
     noded args.by.symbol args.by.state (tree args.f.now args.k) args.levels args.q args.i wide.result if1.false
-    (leb-false 128 args.i if2.false) (wide.ensures.0 ∙ code.ensures) (writing (wide.result / 16)
+    if2.false (wide.ensures.0 ∙ code.ensures) (writing (wide.result / 16)
     c.if-kind-ge12.false match.rest.0.0.0.0.0.0.0.1 match.rest.0.0.0.0.0.0.1
     match.rest.0.0.0.0.0.1 match.rest.0.0.0.0.1 match.rest.0.0.0.1 match.rest.0.0.1 match.rest.0.1
     match.rest.1) (reading c.node.result) c.rules_attributes.result c.parts_of-n.result
