@@ -1,6 +1,6 @@
 use Rattle.values.proofs.Readings.{after_bad, comma_after, digit_after, early_after, late_after, other_after}
 use Rattle.names.proofs.Digits.{digit_is, digit_no}
-use Rattle.std.proofs.Common.{◌∷◌, ◌++◌}
+use Rattle.std.proofs.Common.{◌∷◌, ◌++◌, []}
 use Rattle.values.proofs.read_byte.Goals as goal
 
 pub returns-then-digits-eq16 : goal.returns-then-digits-eq16

@@ -9,18 +9,16 @@ loop-end-init c = λ values. reading_start c.args.input.now c.args.from c.args.s
 pub returns-then-d-eq16 : goal.returns-then-d-eq16
 returns-then-d-eq16 c =
     let args = c.args in
-    let loop = c.loop-end in
-    digits_end args.input.now args.from args.s loop.end
+    let loop = c.loop-end in let r = digits_end args.input.now args.from args.s loop.end
     (record { good = args.s.good; count = args.s.count; digits = loop.digits; bits = loop.bits }) c.part_to.result c.part_to.ensures
-    loop.invariant
+    loop.invariant in record { place = r.0; read = r.1 }
 
 pub returns-then-digits-ge16 : goal.returns-then-digits-ge16
 returns-then-digits-ge16 c =
     let args = c.args in
-    let loop = c.loop-end in
-    digits_end args.input.now args.from args.s loop.end
+    let loop = c.loop-end in let r = digits_end args.input.now args.from args.s loop.end
     (record { good = args.s.good; count = args.s.count; digits = loop.digits; bits = loop.bits }) c.part_to-then-digits-ge16.result c.part_to-then-digits-ge16.ensures
-    loop.invariant
+    loop.invariant in record { place = r.0; read = r.1 }
 
 pub loop-end-preserved : goal.loop-end-preserved
 loop-end-preserved c =
@@ -36,7 +34,6 @@ loop-end-preserved c =
 pub returns : goal.returns
 returns c =
     let args = c.args in
-    let loop = c.loop-end in
-    digits_end args.input.now args.from args.s loop.end
+    let loop = c.loop-end in let r = digits_end args.input.now args.from args.s loop.end
     (record { good = args.s.good; count = args.s.count; digits = loop.digits; bits = loop.bits }) c.part_to-2.result c.part_to-2.ensures
-    loop.invariant
+    loop.invariant in record { place = r.0; read = r.1 }

@@ -7,7 +7,10 @@ pub read_each-requires : goal.read_each-requires
 read_each-requires c = c.requires
 
 pub returns-then-digits-gt0 : goal.returns-then-digits-gt0
-returns-then-digits-gt0 c = (c.read_each.ensures.0, c.read_each.ensures.1 c.args.values.now)
+returns-then-digits-gt0 c =  record {
+      place = c.read_each.ensures.place;
+      read = c.read_each.ensures.read c.args.values.now
+    }
 
 pub loop-at-init : goal.loop-at-init
 loop-at-init c =
@@ -31,10 +34,9 @@ pub returns-in_default : goal.returns-in_default
 returns-in_default c =
     let args = c.args in
     let loop = c.loop-at in
-    let between = c.between in
-    each_run args.input.now args.from args.s args.values.now loop.at
+    let between = c.between in let r = each_run args.input.now args.from args.s args.values.now loop.at
     (record { good = args.s.good; count = loop.count; digits = 0; bits = 0 }) loop.values loop.invariant between.result between.ensures
-    c.read_each-in_default.result c.read_each-in_default.ensures
+    c.read_each-in_default.result (c.read_each-in_default.ensures.place, c.read_each-in_default.ensures.read) in record { place = r.0; read = r.1 }
 
 pub overflow_add-at : goal.overflow_add-at
 overflow_add-at c = omega (arith, c.loop-at-test.true, c.well_formed.0.0)
@@ -81,11 +83,10 @@ returns-else-input-at-eq44 c =
     let loop_test = c.loop-at-test in
     let sixteen = c.sixteen-value in
      let between2 = c.between-else-input-at-eq44 in
-    let the_part = part args.input.now loop.at (loop.at + 16) in
-    value_end args.input.now args.from args.s args.values.now loop.at
+    let the_part = part args.input.now loop.at (loop.at + 16) in let r = value_end args.input.now args.from args.s args.values.now loop.at
     (record { good = args.s.good; count = loop.count; digits = 0; bits = 0 }) loop.values loop.invariant refl (omega (arith, loop_test.true))
     c.in-Number.bits (number_told 16 the_part the_part refl sixteen.result c.in-Number.bits c.in-Number.is sixteen.ensures)
-    between2.result between2.ensures c.part_to.result c.part_to.ensures
+    between2.result between2.ensures c.part_to.result c.part_to.ensures in record { place = r.0; read = r.1 }
 
 pub read_each-requires-2 : goal.read_each-requires-2
 read_each-requires-2 c = c.loop-at.invariant.inside
@@ -97,7 +98,6 @@ pub returns : goal.returns
 returns c =
     let args = c.args in
     let loop = c.loop-at in
-    let between3 = c.between-2 in
-    each_run args.input.now args.from args.s args.values.now loop.at
+    let between3 = c.between-2 in let r = each_run args.input.now args.from args.s args.values.now loop.at
     (record { good = args.s.good; count = loop.count; digits = 0; bits = 0 }) loop.values loop.invariant between3.result between3.ensures
-    c.read_each-2.result c.read_each-2.ensures
+    c.read_each-2.result (c.read_each-2.ensures.place, c.read_each-2.ensures.read) in record { place = r.0; read = r.1 }

@@ -31,7 +31,7 @@ unfolding hill_work of_bits
 returns-then-kept-eq2 c = rw (c.if-n.false, c.if-k.false, c.if-x.false, c.if-kept-eq2.true, c.if-z.true)
 
 pub returns-then-z : goal.returns-then-z
-unfolding hill_work of_bits
+unfolding hill_work of_bits lib.Ieee.div lib.Ieee.le lib.Ieee.add lib.Ieee.mul
 returns-then-z c =
     let args = c.args in
     let if1 = c.if-n in
@@ -54,7 +54,7 @@ unfolding hill_work of_bits
 returns-then-kept-eq2-2 c = rw (c.if-n.false, c.if-k.false, c.if-x.false, c.if-kept-eq2-2.true, c.if-z.false)
 
 pub returns : goal.returns
-unfolding hill_work of_bits
+unfolding hill_work of_bits lib.Ieee.div lib.Ieee.le lib.Ieee.add lib.Ieee.mul
 returns c =
     let args = c.args in
     let if1 = c.if-n in

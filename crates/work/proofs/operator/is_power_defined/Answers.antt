@@ -6,6 +6,7 @@ use lib.Ieee.{of_bits}
 use Rattle.work.proofs.Answers.{and_true, and_false}
 use mathlib.Core.Logic.{⊎_elim}
 use Rattle.work.proofs.operator.is_power_defined.Goals as goal
+use Rattle.work.proofs.operator.is_power_defined.Goals.{then-a+else-b, else-a}
 
 pub returns-then-b : goal.returns-then-b
 unfolding of_bits
@@ -13,8 +14,14 @@ returns-then-b c = rw (c.if-a.true, c.if-b.true) (and_false (le 0f c.args.a || w
 
 pub returns-then-a-2 : goal.returns-then-a-2
 unfolding of_bits
-returns-then-a-2 c = ⊎_elim (λ w. rw (c.if-a-2.true, w.0.taken, w.1.left)) (λ w. rw (c.if-a-2.true, w.left)) c.if-a.branch
+returns-then-a-2 c = elim c.if-a.branch [
+      then-a+else-b w ↦ rw (c.if-a-2.true, w.if-a.true, w.if-b.false)
+    | else-a w ↦ rw (c.if-a-2.true, w.if-a.false)
+    ]
 
 pub returns : goal.returns
 unfolding of_bits
-returns c = ⊎_elim (λ w. rw (c.if-a-2.false, w.0.taken, w.1.left) (c.is_whole.ensures ∙ and_true _)) (λ w. rw (c.if-a-2.false, w.left) (c.is_whole.ensures ∙ and_true _)) c.if-a.branch
+returns c = elim c.if-a.branch [
+      then-a+else-b w ↦ rw (c.if-a-2.false, w.if-a.true, w.if-b.false) (c.is_whole.ensures ∙ and_true _)
+    | else-a w ↦ rw (c.if-a-2.false, w.if-a.false) (c.is_whole.ensures ∙ and_true _)
+    ]
