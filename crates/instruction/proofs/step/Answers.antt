@@ -1,0 +1,56 @@
+use mathlib.Core.Path.{sym, ap, ◌∙◌}
+use Rattle.layout.specs.Decode.{destination_at, path_number}
+use Rattle.work.specs.View.{kept_values}
+use Rattle.instruction.specs.declared.Effect.TheVariants.{Work}
+use Rattle.instruction.proofs.Done.{elementary_done, infinite_done, jump_done, power_done, undefined_done, value_done}
+use Rattle.instruction.proofs.step.Goals as goal
+
+pub returns-then-is_finite : goal.returns-then-is_finite
+unfolding destination_at
+returns-then-is_finite c =
+    let args = c.args in
+    let effect_at = c.effect_at-e in
+      let is_finite = c.is_finite in
+    let if1 = c.if-is_finite in
+    let word = c.word in
+    let store = c.store in
+    value_done args.inputs.now args.p.now args.n (kept_values args.kept) args.regs.now effect_at.ensures c.in-Value.v
+    word.result (c.in-Work.is ∙ ap Work c.in-Value.is) (sym is_finite.ensures ∙ if1.true) word.ensures.0 store.ensures
+
+pub returns-in-Jump : goal.returns-in-Jump
+returns-in-Jump c =
+    let args = c.args in
+    let effect_at = c.effect_at-e in
+     jump_done args.inputs.now args.p.now args.n (kept_values args.kept) args.regs.now effect_at.ensures c.in-Jump.to
+    c.in-Jump.is
+
+pub returns-else-is_finite : goal.returns-else-is_finite
+unfolding path_number
+returns-else-is_finite c =
+    let args = c.args in
+    let effect_at = c.effect_at-e in
+      let is_finite = c.is_finite in
+    infinite_done args.inputs.now args.p.now args.n (kept_values args.kept) args.regs.now effect_at.ensures c.in-Value.v
+    c.word-in-Value.result (c.in-Work.is ∙ ap Work c.in-Value.is) (sym is_finite.ensures ∙ c.if-is_finite.false) c.word-in-Value.ensures.0
+
+pub returns-in-Undefined : goal.returns-in-Undefined
+unfolding path_number
+returns-in-Undefined c =
+    let args = c.args in
+    let effect_at = c.effect_at-e in
+     undefined_done args.inputs.now args.p.now args.n (kept_values args.kept) args.regs.now effect_at.ensures c.word-in-Undefined.result
+    (c.in-Work.is ∙ ap Work c.in-Undefined.is) c.word-in-Undefined.ensures.0
+
+pub returns-in-Elementary : goal.returns-in-Elementary
+returns-in-Elementary c =
+    let args = c.args in
+    let effect_at = c.effect_at-e in
+      elementary_done args.inputs.now args.p.now args.n (kept_values args.kept) args.regs.now effect_at.ensures c.in-Elementary.f
+    c.in-Elementary.x (c.in-Work.is ∙ ap Work c.in-Elementary.is)
+
+pub returns-in-Power : goal.returns-in-Power
+returns-in-Power c =
+    let args = c.args in
+    let effect_at = c.effect_at-e in
+      power_done args.inputs.now args.p.now args.n (kept_values args.kept) args.regs.now effect_at.ensures c.in-Power.x
+    c.in-Power.y (c.in-Work.is ∙ ap Work c.in-Power.is)
