@@ -1,4 +1,3 @@
-pub mod Tags
 pub mod Looping
 pub mod Late
 pub mod Single
