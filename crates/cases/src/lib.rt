@@ -1,9 +1,10 @@
 #![tactic(auto)]
 // What the programs share that replay recorded cases: numbers of a record, slices beside it, and the count of cases.
-ghost use Rattle.std.specs.Prelude.{◌≤◌};
+ghost use Rattle.std.specs.Prelude.{◌≤◌, length};
 
 use floats::value::{bits_of, of_bits};
-use std::num;
+use std::io::{Read, Stdin, Stdout};
+use std::{io, num};
 
 // ---- a record
 
@@ -39,12 +40,29 @@ pub fn cut(n: usize, most: usize) -> usize
     most
 }
 
+// Reads standard input to the start of a buffer until that is full, the input ends or a read fails, and says how many bytes it read.
+pub fn read_full(mut stdin: Stdin, b: &mut [u8]) -> usize
+    ensures { result ≤ length b.new }
+{
+    let mut done = 0;
+    while done < b.len() {
+        let Ok(n) = stdin.read(&mut b[done..]) else {
+            break;
+        };
+        if n == 0 {
+            break;
+        }
+        done += n;
+    }
+    done
+}
+
 // Reads n bytes of standard input to the start of a buffer; false at the end of the input, or where they don't fit.
-pub fn take(b: &mut [u8], n: usize) -> bool {
+pub fn take(stdin: Stdin, b: &mut [u8], n: usize) -> bool {
     if b.len() < n {
         return false;
     }
-    io::read_full(0, &mut b[0..n]) == n
+    read_full(stdin, &mut b[0..n]) == n
 }
 
 // Reads values from the record's number `at` on.
@@ -204,31 +222,30 @@ pub fn end(t: Tally) -> Tally {
 }
 
 // One case more, with so many calls; says which case came out otherwise.
-pub fn counted(t: Tally, right: bool, calls: u64) -> Tally {
+pub fn counted(stdout: Stdout, t: Tally, right: bool, calls: u64) -> io::Result<Tally> {
     let mut wrong = t.wrong;
     if !right {
-        io::write_all(1, b"wrong: case ");
-        say(t.cases, b"\n");
+        println!(stdout; "wrong: case {}", t.cases)?;
         wrong = num::wrapping_add_u64(wrong, 1);
     }
     let cases = num::wrapping_add_u64(t.cases, 1);
     let calls = num::wrapping_add_u64(t.calls, calls);
-    Tally {
+    Ok(Tally {
         cases: cases,
         calls: calls,
         wrong: wrong,
         ended: false,
-    }
+    })
 }
 
 // Writes a number and what it counts.
-pub fn say(n: u64, text: &[u8]) {
-    io::print_decimal(1, n);
-    io::write_all(1, text);
+pub fn say(stdout: Stdout, n: u64, text: &str) -> io::Result<()> {
+    print!(stdout; "{n}{text}")
 }
 
-pub fn verdict(t: Tally) {
+pub fn verdict(stdout: Stdout, t: Tally) -> io::Result<()> {
     if t.wrong == 0 {
-        io::write_all(1, b"ok\n");
+        stdout.println("ok")?;
     }
+    Ok(())
 }

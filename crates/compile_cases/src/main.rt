@@ -8,6 +8,8 @@
 // name line, the text and the program. Numbers have 4 bytes, the least first.
 use cases::{Tally, all, cut, fill, holds, plus, say};
 use compile::Answer;
+use std::io;
+use std::io::Stdout;
 
 fn number(a: Answer) -> usize {
     match a {
@@ -76,22 +78,23 @@ fn next(b: &[u8], at: usize) -> usize {
     plus(program, reader::word(b, plus(at, 28)))
 }
 
-fn all_cases(b: &[u8], count: usize) -> Tally {
+fn all_cases(stdout: Stdout, b: &[u8], count: usize) -> io::Result<Tally> {
     let mut t = cases::begin();
     let mut at = 4;
     let mut i = 0;
     while i < count {
-        t = cases::counted(t, case_at(b, at), 0);
+        t = cases::counted(stdout, t, case_at(b, at), 0)?;
         at = next(b, at);
         i += 1;
     }
-    t
+    Ok(t)
 }
 
-fn main() {
+fn main(rt: HostRuntime) -> io::Result<()> {
+    let stdout = rt.stdout();
     let mut b = [0u8; 327680];
-    io::read_full(0, &mut b);
-    let t = all_cases(&b, reader::word(&b, 0));
-    say(t.cases, b" cases, ");
-    say(t.wrong, b" differ\n");
+    cases::read_full(rt.stdin(), &mut b);
+    let t = all_cases(stdout, &b, reader::word(&b, 0))?;
+    say(stdout, t.cases, " cases, ")?;
+    say(stdout, t.wrong, " differ\n")
 }

@@ -14,6 +14,8 @@ use cases::{
 use demand::Played;
 use floats::value::{bits_of, of_bits};
 use run::{Answer, Reply};
+use std::io;
+use std::io::{Stdin, Stdout};
 
 fn fill_values(xs: &mut [f64], x: f64) {
     let mut i = 0;
@@ -328,17 +330,24 @@ fn both(
 }
 
 // Reads what is recorded of a list's last call; false also at the end of the input.
-fn read_last(b: &mut [u8], text: &mut [u8], after: &mut [u8], registers: usize) -> bool {
+fn read_last(
+    stdin: Stdin,
+    b: &mut [u8],
+    text: &mut [u8],
+    after: &mut [u8],
+    registers: usize,
+) -> bool {
     if registers > 256 {
         return false;
     }
-    let first = take(b, 144);
-    let second = take(text, size(b, 17));
-    let third = take(after, 8 * registers);
+    let first = take(stdin, b, 144);
+    let second = take(stdin, text, size(b, 17));
+    let third = take(stdin, after, 8 * registers);
     all(first, all(second, third))
 }
 
 fn beginning(
+    stdin: Stdin,
     h: Head,
     formula: &[u8],
     names: &[u8],
@@ -356,7 +365,7 @@ fn beginning(
     let mut text = [0u8; 2048];
     let mut after = [0u8; 2048];
     let mut cells = [0u64; 16];
-    let first = read_last(&mut b, &mut text, &mut after, registers.len());
+    let first = read_last(stdin, &mut b, &mut text, &mut after, registers.len());
     let second = both(
         h, &b, &text, &after, formula, names, tree, program, inputs, registers, path, rooms,
         budgets, flags, values, &mut cells,
@@ -366,6 +375,7 @@ fn beginning(
 
 // Whether every beginning of the list is as recorded.
 fn beginnings(
+    stdin: Stdin,
     h: Head,
     formula: &[u8],
     names: &[u8],
@@ -384,6 +394,7 @@ fn beginnings(
     while k < budgets.len() {
         k += 1;
         let same = beginning(
+            stdin,
             h,
             formula,
             names,
@@ -405,20 +416,21 @@ fn beginnings(
 // ---- reading
 
 // Reads n values, 256 at most.
-fn take_values(n: usize, b: &mut [u8], out: &mut [f64]) -> bool {
-    let read = take(b, 8 * cut(n, 256));
+fn take_values(stdin: Stdin, n: usize, b: &mut [u8], out: &mut [f64]) -> bool {
+    let read = take(stdin, b, 8 * cut(n, 256));
     read_values(b, 0, out);
     read
 }
 
-fn take_sizes(n: usize, b: &mut [u8], out: &mut [usize]) -> bool {
-    let read = take(b, 8 * cut(n, 256));
+fn take_sizes(stdin: Stdin, n: usize, b: &mut [u8], out: &mut [usize]) -> bool {
+    let read = take(stdin, b, 8 * cut(n, 256));
     read_sizes(b, out);
     read
 }
 
 // Reads so many inputs, and a list of so many calls.
 fn read_list(
+    stdin: Stdin,
     count: usize,
     calls: usize,
     b: &mut [u8],
@@ -428,16 +440,17 @@ fn read_list(
     flags: &mut [u8],
     values: &mut [f64],
 ) -> bool {
-    let first = take_values(count, b, inputs);
-    let second = take_sizes(calls, b, rooms);
-    let third = take_sizes(calls, b, budgets);
-    let fourth = take(flags, calls);
-    let fifth = take_values(calls, b, values);
+    let first = take_values(stdin, count, b, inputs);
+    let second = take_sizes(stdin, calls, b, rooms);
+    let third = take_sizes(stdin, calls, b, budgets);
+    let fourth = take(stdin, flags, calls);
+    let fifth = take_values(stdin, calls, b, values);
     all(all(first, second), all(third, all(fourth, fifth)))
 }
 
 // A case whose formula, names, tree, program and path slices are just as long as it says.
 fn listed(
+    stdin: Stdin,
     h: Head,
     b: &mut [u8],
     formula: &[u8],
@@ -452,11 +465,14 @@ fn listed(
     flags: &mut [u8],
     values: &mut [f64],
 ) -> bool {
-    let first = read_list(h.inputs, h.calls, b, inputs, rooms, budgets, flags, values);
+    let first = read_list(
+        stdin, h.inputs, h.calls, b, inputs, rooms, budgets, flags, values,
+    );
     let i = cut(h.inputs, inputs.len());
     let r = cut(h.registers, registers.len());
     let k = cut(h.calls, budgets.len());
     let second = beginnings(
+        stdin,
         h,
         formula,
         names,
@@ -474,6 +490,7 @@ fn listed(
 }
 
 fn with_list(
+    stdin: Stdin,
     h: Head,
     formula: &[u8],
     names: &[u8],
@@ -489,6 +506,7 @@ fn with_list(
     let mut flags = [0u8; 16];
     let mut values = [0.0; 16];
     listed(
+        stdin,
         h,
         &mut b,
         formula,
@@ -506,6 +524,7 @@ fn with_list(
 }
 
 fn case_in(
+    stdin: Stdin,
     h: Head,
     formula: &mut [u8],
     names: &mut [u8],
@@ -513,14 +532,15 @@ fn case_in(
     tree: &mut [u8],
     program: &mut [u8],
 ) -> bool {
-    let first = take(formula, h.formula);
-    let second = take(names, h.names);
+    let first = take(stdin, formula, h.formula);
+    let second = take(stdin, names, h.names);
     let f = cut(h.formula, formula.len());
     let n = cut(h.names, names.len());
     let t = cut(h.tree, tree.len());
     let p = cut(h.program, program.len());
     let q = cut(h.path, path.len());
     let third = with_list(
+        stdin,
         h,
         &formula[0..f],
         &names[0..n],
@@ -531,13 +551,14 @@ fn case_in(
     all(first, all(second, third))
 }
 
-fn one_case(h: Head) -> bool {
+fn one_case(stdin: Stdin, h: Head) -> bool {
     let mut formula = [0u8; 8192];
     let mut names = [0u8; 8192];
     let mut path = [0u8; 8200];
     let mut tree = [0u8; 8192];
     let mut program = [0u8; 65536];
     case_in(
+        stdin,
         h,
         &mut formula,
         &mut names,
@@ -548,31 +569,32 @@ fn one_case(h: Head) -> bool {
 }
 
 // What comes after a case that is not as recorded can't be told from it.
-fn next_case(t: Tally) -> Tally {
+fn next_case(stdin: Stdin, stdout: Stdout, t: Tally) -> io::Result<Tally> {
     let mut head = [0u8; 96];
-    let read = take(&mut head, 96);
+    let read = take(stdin, &mut head, 96);
     if !read {
-        return cases::end(t);
+        return Ok(cases::end(t));
     }
-    let right = one_case(head_of(&head));
-    let counted = cases::counted(t, right, cell(&head, 10));
+    let right = one_case(stdin, head_of(&head));
+    let counted = cases::counted(stdout, t, right, cell(&head, 10))?;
     if right {
-        return counted;
+        return Ok(counted);
     }
-    cases::end(counted)
+    Ok(cases::end(counted))
 }
 
-fn main() {
+fn main(rt: HostRuntime) -> io::Result<()> {
+    let stdout = rt.stdout();
     let mut t = cases::begin();
     let mut i = 0;
     while i < cases::MOST {
-        t = next_case(t);
+        t = next_case(rt.stdin(), stdout, t)?;
         if t.ended {
             break;
         }
         i += 1;
     }
-    say(t.cases, b" cases, ");
-    say(t.calls, b" calls\n");
-    cases::verdict(t);
+    say(stdout, t.cases, " cases, ")?;
+    say(stdout, t.calls, " calls\n")?;
+    cases::verdict(stdout, t)
 }

@@ -12,6 +12,8 @@ use cases::{Tally, all, cut, take};
 use check::same;
 use differentiate::{RECORD_SIZE, write_derivative};
 use reader::{NODE_SIZE, half, is_formula, is_small, wide};
+use std::io;
+use std::io::{Stdin, Stdout};
 use survey::{By, Found, survey_formula, with_primal};
 
 #[derive(Drop)]
@@ -85,11 +87,11 @@ fn compare(
     is_right(&f[0..n], by, recorded, &wanted[0..m], &mut out[0..m])
 }
 
-fn next_case(t: Tally) -> Tally {
+fn next_case(stdin: Stdin, stdout: Stdout, t: Tally) -> io::Result<Tally> {
     let mut head = [0u8; 8];
-    let there = take(&mut head, 8);
+    let there = take(stdin, &mut head, 8);
     if !there {
-        return cases::end(t);
+        return Ok(cases::end(t));
     }
     let nodes = half(&head, 4);
     let size = half(&head, 6);
@@ -101,9 +103,9 @@ fn next_case(t: Tally) -> Tally {
     let mut list = [0u8; 8192];
     let mut out = [255u8; 16384];
     let mut noted = [255u8; 8192];
-    take(&mut f, n);
-    take(&mut tree, m);
-    take(&mut list, r);
+    take(stdin, &mut f, n);
+    take(stdin, &mut tree, m);
+    take(stdin, &mut list, r);
     let symbol = wide(head[1]);
     let state = head[2] == 1;
     let by = By {
@@ -119,19 +121,20 @@ fn next_case(t: Tally) -> Tally {
     let first = compare(&f, n, by, head[0], &tree, m, &mut out);
     let second = compare(&f, n, recording, head[0], &list, r, &mut noted);
     let fits = all(nodes <= 256, size <= 1024);
-    cases::counted(t, all(fits, all(first, second)), 0)
+    cases::counted(stdout, t, all(fits, all(first, second)), 0)
 }
 
-fn main() {
+fn main(rt: HostRuntime) -> io::Result<()> {
+    let stdout = rt.stdout();
     let mut t = cases::begin();
     let mut i = 0;
     while i < cases::MOST {
-        t = next_case(t);
+        t = next_case(rt.stdin(), stdout, t)?;
         if t.ended {
             break;
         }
         i += 1;
     }
-    cases::say(t.cases, b" cases\n");
-    cases::verdict(t);
+    cases::say(stdout, t.cases, " cases\n")?;
+    cases::verdict(stdout, t)
 }

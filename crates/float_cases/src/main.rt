@@ -9,6 +9,8 @@
 use cases::{Tally, all, hex};
 use floats::extremum::{hold_above, hold_below};
 use floats::value::{bits_of, of_bits};
+use std::io;
+use std::io::{Stdin, Stdout};
 
 fn truth(b: bool) -> u64 {
     if b { 1 } else { 0 }
@@ -70,29 +72,30 @@ fn is_right(record: &[u8]) -> bool {
 }
 
 // The next record's case. One that comes out otherwise is written out.
-fn next_case(t: Tally) -> Tally {
+fn next_case(stdin: Stdin, stdout: Stdout, t: Tally) -> io::Result<Tally> {
     let mut record = [0u8; 82];
-    let read = cases::take(&mut record, 82);
+    let read = cases::take(stdin, &mut record, 82);
     if !read {
-        return cases::end(t);
+        return Ok(cases::end(t));
     }
     let right = is_right(&record);
     if !right {
-        io::write_all(1, &record);
+        stdout.write_all(&record)?;
     }
-    cases::counted(t, right, 0)
+    cases::counted(stdout, t, right, 0)
 }
 
-fn main() {
+fn main(rt: HostRuntime) -> io::Result<()> {
+    let stdout = rt.stdout();
     let mut t = cases::begin();
     let mut i = 0;
     while i < cases::MOST {
-        t = next_case(t);
+        t = next_case(rt.stdin(), stdout, t)?;
         if t.ended {
             break;
         }
         i += 1;
     }
-    cases::say(t.cases, b" cases\n");
-    cases::verdict(t);
+    cases::say(stdout, t.cases, " cases\n")?;
+    cases::verdict(stdout, t)
 }

@@ -7,8 +7,10 @@ ghost use Rattle.lines.specs.Owed.{memory};
 ghost use Rattle.legs.specs.Fed.{FeedableAll, Feeds, FeedsAll, Lent};
 ghost use Rattle.legs.specs.File.{Within};
 
-use libc::{STDIN_FILENO, STDOUT_FILENO};
 use lines::Stage;
+use std::fs;
+use std::io::{Read, Stdin, Stdout};
+use std::rt::Files;
 
 // A file's bytes, as many as the slice holds, or none if it can't be read.
 #[derive(Drop)]
@@ -18,22 +20,21 @@ enum File {
 }
 
 // One call of read.
-fn read_once(fd: i32, buf: &mut [u8]) -> File
+fn read_once(from: &mut impl Read, buf: &mut [u8]) -> File
     ensures { Within result (length buf.old) }
 {
-    let got = libc::read(fd, buf);
-    if got < 0 {
-        return File::Unreadable;
+    match from.read(buf) {
+        Ok(n) => File::Bytes(n),
+        Err(_) => File::Unreadable,
     }
-    File::Bytes(io::count(got, buf))
 }
 
-fn read_all(fd: i32, buf: &mut [u8]) -> File
+fn read_all(from: &mut impl Read, buf: &mut [u8]) -> File
     ensures { Within result (length buf.old) }
 {
     let mut at = 0;
     while at < buf.len() {
-        let read = read_once(fd, &mut buf[at..]);
+        let read = read_once(from, &mut buf[at..]);
         let File::Bytes(n) = read else {
             return File::Unreadable;
         };
@@ -46,17 +47,14 @@ fn read_all(fd: i32, buf: &mut [u8]) -> File
 }
 
 // The slice has a byte more than a formula file may have, so that a longer file is told from it.
-fn read_file(path: &[u8], buf: &mut [u8]) -> File
+fn read_file(rt: &impl Files, path: &str, buf: &mut [u8]) -> File
     requires { 4097 ≤ length buf.old }
     ensures { Within result (length buf.old) }
 {
-    let fd = os::open_read(path);
-    if fd < 0 {
+    let Ok(mut file) = fs::open(rt, path) else {
         return File::Unreadable;
-    }
-    let f = read_all(fd, buf);
-    libc::close(fd);
-    f
+    };
+    read_all(&mut file, buf)
 }
 
 // The stage after a part of the input; or a write failed; or 2^48 - 1 blocks were read and the input has not ended.
@@ -69,6 +67,7 @@ enum Fed {
 
 // Hands a block of input on, part by part, and prints what came of each. All of it is used, unless a write fails.
 fn feed(
+    stdout: Stdout,
     formula: &[u8],
     input: &[u8],
     start: Stage,
@@ -97,8 +96,8 @@ fn feed(
             out,
         );
         let length = r.length;
-        let written = io::write_all(STDOUT_FILENO, &out[..length]);
-        if !written {
+        let written = stdout.write_all(&out[..length]);
+        if written.is_err() {
             return Fed::Closed;
         }
         at += r.used;
@@ -111,6 +110,8 @@ fn feed(
 // that is listed. A proved loop has to end, so it counts its turns down from a number that no run uses up. That the bytes come from
 // `read` and go to `write` no contract can say.
 fn feed_all(
+    mut stdin: Stdin,
+    stdout: Stdout,
     formula: &[u8],
     block: &mut [u8],
     start: Stage,
@@ -130,7 +131,7 @@ fn feed_all(
         if lines::is_finished(stage) {
             return Fed::On(stage);
         }
-        let read = read_once(STDIN_FILENO, block);
+        let read = read_once(&mut stdin, block);
         let File::Bytes(n) = read else {
             return Fed::On(stage);
         };
@@ -138,6 +139,7 @@ fn feed_all(
             return Fed::On(stage);
         }
         let fed = feed(
+            stdout,
             formula,
             &block[..n],
             stage,
@@ -159,6 +161,8 @@ fn feed_all(
 
 // Prints the listing. The memory that it is lent is as large as the output needs it to be.
 fn list(
+    stdin: Stdin,
+    stdout: Stdout,
     readable: bool,
     formula: &[u8],
     block: &mut [u8],
@@ -174,21 +178,21 @@ fn list(
     let b = lines::start(readable, formula, out);
     let n = b.length;
     let stage = b.stage;
-    let written = io::write_all(STDOUT_FILENO, &out[..n]);
-    if !written {
+    let written = stdout.write_all(&out[..n]);
+    if written.is_err() {
         return;
     }
     let fed = feed_all(
-        formula, block, stage, names, path, program, values, regs, out,
+        stdin, stdout, formula, block, stage, names, path, program, values, regs, out,
     );
     let Fed::On(last) = fed else {
         return;
     };
     let m = lines::finish(formula, last, names, path, program, values, regs, out);
-    io::write_all(STDOUT_FILENO, &out[..m]);
+    let _ = stdout.write_all(&out[..m]);
 }
 
-fn main() {
+fn main(rt: HostRuntime) {
     let mut formula = [0u8; 4097];
     let mut block = [0u8; 65536];
     let mut names = [0u8; 17152];
@@ -197,9 +201,11 @@ fn main() {
     let mut values = [0.0; 256];
     let mut regs = [0.0; 1276];
     let mut out = [0u8; 65536];
-    let file = read_file(b"formula.bin", &mut formula);
+    let file = read_file(&rt, "formula.bin", &mut formula);
     match file {
         File::Bytes(n) => list(
+            rt.stdin(),
+            rt.stdout(),
             true,
             &formula[..n],
             &mut block,
@@ -211,6 +217,8 @@ fn main() {
             &mut out,
         ),
         File::Unreadable => list(
+            rt.stdin(),
+            rt.stdout(),
             false,
             &formula[..0],
             &mut block,

@@ -11,6 +11,8 @@ ghost use Rattle.lines.specs.Owed.{Roomy, memory};
 
 use cases::{Tally, cut, holds, plus, say};
 use lines::Stage;
+use std::io;
+use std::io::Stdout;
 use writer::put_bytes;
 
 // The length of the whole output; or it is longer than the slice for it.
@@ -194,22 +196,23 @@ fn next(b: &[u8], at: usize) -> usize {
     plus(output, reader::word(b, plus(at, 16)))
 }
 
-fn all_cases(b: &[u8], count: usize) -> Tally {
+fn all_cases(stdout: Stdout, b: &[u8], count: usize) -> io::Result<Tally> {
     let mut t = cases::begin();
     let mut at = 4;
     let mut i = 0;
     while i < count {
-        t = cases::counted(t, case_at(b, at), 0);
+        t = cases::counted(stdout, t, case_at(b, at), 0)?;
         at = next(b, at);
         i += 1;
     }
-    t
+    Ok(t)
 }
 
-fn main() {
+fn main(rt: HostRuntime) -> io::Result<()> {
+    let stdout = rt.stdout();
     let mut b = [0u8; 327680];
-    io::read_full(0, &mut b);
-    let t = all_cases(&b, reader::word(&b, 0));
-    say(t.cases, b" cases, ");
-    say(t.wrong, b" differ\n");
+    cases::read_full(rt.stdin(), &mut b);
+    let t = all_cases(stdout, &b, reader::word(&b, 0))?;
+    say(stdout, t.cases, " cases, ")?;
+    say(stdout, t.wrong, " differ\n")
 }

@@ -12,6 +12,8 @@ use cases::{
     same_values, say, size, take,
 };
 use floats::value::of_bits;
+use std::io;
+use std::io::{Stdin, Stdout};
 
 #[derive(Clone, Copy)]
 struct Head {
@@ -167,6 +169,7 @@ fn replayed(
 
 // Reads a call's record; false also at the end of the input.
 fn read_call(
+    stdin: Stdin,
     b: &mut [u8],
     text: &mut [u8],
     before: &mut [u8],
@@ -174,19 +177,32 @@ fn read_call(
     registers: usize,
 ) -> bool {
     let n = 8 * cut(registers, 256);
-    let first = take(b, 304);
-    let second = take(text, size(b, 37));
-    let third = take(before, n);
-    let fourth = take(after, n);
+    let first = take(stdin, b, 304);
+    let second = take(stdin, text, size(b, 37));
+    let third = take(stdin, before, n);
+    let fourth = take(stdin, after, n);
     all(all(first, second), all(third, fourth))
 }
 
-fn call(program: &[u8], inputs: &[f64], registers: &mut [f64], path: &mut [u8]) -> bool {
+fn call(
+    stdin: Stdin,
+    program: &[u8],
+    inputs: &[f64],
+    registers: &mut [f64],
+    path: &mut [u8],
+) -> bool {
     let mut b = [0u8; 304];
     let mut text = [0u8; 512];
     let mut before = [0u8; 2048];
     let mut after = [0u8; 2048];
-    let read = read_call(&mut b, &mut text, &mut before, &mut after, registers.len());
+    let read = read_call(
+        stdin,
+        &mut b,
+        &mut text,
+        &mut before,
+        &mut after,
+        registers.len(),
+    );
     let length = size(&b, 1);
     let room = cut(length, path.len());
     let same = replayed(
@@ -204,6 +220,7 @@ fn call(program: &[u8], inputs: &[f64], registers: &mut [f64], path: &mut [u8]) 
 
 // Whether so many calls, each with its record, are as recorded.
 fn calls(
+    stdin: Stdin,
     count: usize,
     program: &[u8],
     inputs: &[f64],
@@ -212,7 +229,7 @@ fn calls(
 ) -> bool {
     let mut i = 0;
     while i < count {
-        let same = call(program, inputs, registers, path);
+        let same = call(stdin, program, inputs, registers, path);
         if !same {
             return false;
         }
@@ -222,8 +239,8 @@ fn calls(
 }
 
 // Reads the text that a slice must begin with, and compares.
-fn is_read_after(b: &[u8], text: &mut [u8], n: usize, zero: bool) -> bool {
-    let read = take(text, n);
+fn is_read_after(stdin: Stdin, b: &[u8], text: &mut [u8], n: usize, zero: bool) -> bool {
+    let read = take(stdin, text, n);
     if !read {
         return false;
     }
@@ -232,6 +249,7 @@ fn is_read_after(b: &[u8], text: &mut [u8], n: usize, zero: bool) -> bool {
 
 // The case whose head was read: its formula and names are given, its texts come next. The list is zero wherever the tree is.
 fn compared(
+    stdin: Stdin,
     h: Head,
     formula: &[u8],
     names: &[u8],
@@ -253,15 +271,16 @@ fn compared(
         &mut report,
     );
     let told = all(answer == h.answer, is_reported(&report, h.node));
-    let first = is_read_after(path, text, h.text, false);
-    let second = is_read_after(tree, text, h.tree_text, h.tree_zero);
-    let third = is_read_after(list, text, h.list_text, h.tree_zero);
-    let fourth = is_read_after(program, text, h.program_text, h.program_zero);
+    let first = is_read_after(stdin, path, text, h.text, false);
+    let second = is_read_after(stdin, tree, text, h.tree_text, h.tree_zero);
+    let third = is_read_after(stdin, list, text, h.list_text, h.tree_zero);
+    let fourth = is_read_after(stdin, program, text, h.program_text, h.program_zero);
     all(all(told, first), all(second, all(third, fourth)))
 }
 
 // Its calls, with slices just as long as it says.
 fn ran_in(
+    stdin: Stdin,
     h: Head,
     b: &mut [u8],
     inputs: &mut [f64],
@@ -269,24 +288,32 @@ fn ran_in(
     program: &[u8],
     path: &mut [u8],
 ) -> bool {
-    let read = take(b, 8 * cut(h.inputs, 256));
+    let read = take(stdin, b, 8 * cut(h.inputs, 256));
     read_values(b, 0, inputs);
     let n = cut(h.inputs, inputs.len());
     let m = cut(h.registers, registers.len());
-    let same = calls(h.calls, program, &inputs[0..n], &mut registers[0..m], path);
+    let same = calls(
+        stdin,
+        h.calls,
+        program,
+        &inputs[0..n],
+        &mut registers[0..m],
+        path,
+    );
     all(read, same)
 }
 
-fn ran(h: Head, program: &[u8], path: &mut [u8]) -> bool {
+fn ran(stdin: Stdin, h: Head, program: &[u8], path: &mut [u8]) -> bool {
     let mut b = [0u8; 2048];
     let mut inputs = [0.0; 256];
     let mut registers = [0.0; 256];
-    let same = ran_in(h, &mut b, &mut inputs, &mut registers, program, path);
+    let same = ran_in(stdin, h, &mut b, &mut inputs, &mut registers, program, path);
     all(all(h.inputs <= 256, h.registers <= 256), same)
 }
 
 // A case whose formula, names, tree, list and program slices are just as long as it says.
 fn both(
+    stdin: Stdin,
     h: Head,
     formula: &[u8],
     names: &[u8],
@@ -298,6 +325,7 @@ fn both(
 ) -> bool {
     let n = cut(h.path, path.len());
     let first = compared(
+        stdin,
         h,
         formula,
         names,
@@ -307,11 +335,12 @@ fn both(
         program,
         text,
     );
-    let second = ran(h, program, path);
+    let second = ran(stdin, h, program, path);
     all(n == h.path, all(first, second))
 }
 
 fn case_in(
+    stdin: Stdin,
     h: Head,
     formula: &mut [u8],
     names: &mut [u8],
@@ -326,9 +355,10 @@ fn case_in(
     let t = cut(h.tree, tree.len());
     let l = cut(h.list, list.len());
     let p = cut(h.program, program.len());
-    let first = take(formula, f);
-    let second = take(names, n);
+    let first = take(stdin, formula, f);
+    let second = take(stdin, names, n);
     let third = both(
+        stdin,
         h,
         &formula[0..f],
         &names[0..n],
@@ -349,7 +379,7 @@ fn fits(h: Head) -> bool {
     )
 }
 
-fn one_case(h: Head) -> bool {
+fn one_case(stdin: Stdin, h: Head) -> bool {
     let mut formula = [0u8; 8192];
     let mut names = [0u8; 8192];
     let mut path = [0u8; 8200];
@@ -358,6 +388,7 @@ fn one_case(h: Head) -> bool {
     let mut program = [0u8; 65536];
     let mut text = [0u8; 16384];
     let same = case_in(
+        stdin,
         h,
         &mut formula,
         &mut names,
@@ -371,31 +402,32 @@ fn one_case(h: Head) -> bool {
 }
 
 // What comes after a case that is not as recorded can't be told from it.
-fn next_case(t: Tally) -> Tally {
+fn next_case(stdin: Stdin, stdout: Stdout, t: Tally) -> io::Result<Tally> {
     let mut head = [0u8; 144];
-    let read = take(&mut head, 144);
+    let read = take(stdin, &mut head, 144);
     if !read {
-        return cases::end(t);
+        return Ok(cases::end(t));
     }
-    let right = one_case(head_of(&head));
-    let counted = cases::counted(t, right, cell(&head, 16));
+    let right = one_case(stdin, head_of(&head));
+    let counted = cases::counted(stdout, t, right, cell(&head, 16))?;
     if right {
-        return counted;
+        return Ok(counted);
     }
-    cases::end(counted)
+    Ok(cases::end(counted))
 }
 
-fn main() {
+fn main(rt: HostRuntime) -> io::Result<()> {
+    let stdout = rt.stdout();
     let mut t = cases::begin();
     let mut i = 0;
     while i < cases::MOST {
-        t = next_case(t);
+        t = next_case(rt.stdin(), stdout, t)?;
         if t.ended {
             break;
         }
         i += 1;
     }
-    say(t.cases, b" cases, ");
-    say(t.calls, b" calls\n");
-    cases::verdict(t);
+    say(stdout, t.cases, " cases, ")?;
+    say(stdout, t.calls, " calls\n")?;
+    cases::verdict(stdout, t)
 }

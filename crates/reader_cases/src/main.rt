@@ -11,7 +11,8 @@ ghost use Rattle.std.specs.Prelude.{◌≡◌, ◌<◌, ◌≤◌, length};
 
 use cases::{Tally, cut, holds, plus};
 use reader::Received;
-use std::num;
+use std::io::Stdout;
+use std::{io, num};
 
 // Where a byte next stands, or the end.
 fn find(text: &[u8], at: usize, byte: u8) -> usize
@@ -242,22 +243,23 @@ fn case_of(line: &[u8], work: &mut [u8]) -> bool {
     }
 }
 
-fn all_cases(text: &[u8], work: &mut [u8]) -> Tally {
+fn all_cases(stdout: Stdout, text: &[u8], work: &mut [u8]) -> io::Result<Tally> {
     let mut t = cases::begin();
     let mut at = 0;
     while at < text.len() {
         let end = find(text, at, b'\n');
-        t = cases::counted(t, case_of(&text[at..end], work), 0);
+        t = cases::counted(stdout, t, case_of(&text[at..end], work), 0)?;
         at = end + 1;
     }
-    t
+    Ok(t)
 }
 
-fn main() {
+fn main(rt: HostRuntime) -> io::Result<()> {
+    let stdout = rt.stdout();
     let mut text = [0u8; 262144];
-    let n = io::read_full(0, &mut text);
+    let n = cases::read_full(rt.stdin(), &mut text);
     let mut work = [0u8; 262272];
-    let t = all_cases(&text[0..n], &mut work);
-    cases::say(t.cases, b" cases\n");
-    cases::verdict(t);
+    let t = all_cases(stdout, &text[0..n], &mut work)?;
+    cases::say(stdout, t.cases, " cases\n")?;
+    cases::verdict(stdout, t)
 }

@@ -11,6 +11,8 @@ use cases::{
 };
 use floats::value::{bits_of, of_bits};
 use run::{Answer, Pending, Reply, State, Supplied};
+use std::io;
+use std::io::Stdout;
 
 // An answer or a question as recorded: its case and two numbers.
 fn is_recorded(b: &[u8], at: usize, tag: u64, x: u64, y: u64) -> bool {
@@ -89,6 +91,7 @@ struct Replayed {
 }
 
 fn one_call(
+    stdout: Stdout,
     b: &[u8],
     before: Replayed,
     p: &[u8],
@@ -96,26 +99,34 @@ fn one_call(
     regs: &mut [f64],
     path: &mut [u8],
     fits: bool,
-) -> Replayed {
+) -> io::Result<Replayed> {
     let at = before.at;
     let state = before.state;
     let tally = before.tally;
     fill(path);
     let r = call(b, at, p, inputs, regs, path, state);
-    let t = cases::counted(tally, all(fits, same_call(b, at, regs, path, r)), 0);
+    let t = cases::counted(stdout, tally, all(fits, same_call(b, at, regs, path, r)), 0)?;
     let after = r.state;
-    Replayed {
+    Ok(Replayed {
         at: plus(plus(at, 15), plus(size(b, plus(at, 13)) / 8, regs.len())),
         state: after,
         tally: t,
-    }
+    })
 }
 
-fn with_path(b: &[u8], before: Replayed, p: &[u8], inputs: &[f64], regs: &mut [f64]) -> Replayed {
+fn with_path(
+    stdout: Stdout,
+    b: &[u8],
+    before: Replayed,
+    p: &[u8],
+    inputs: &[f64],
+    regs: &mut [f64],
+) -> io::Result<Replayed> {
     let mut path = [0u8; 8200];
     let length = size(b, plus(before.at, 1));
     let room = cut(length, 8200);
     one_call(
+        stdout,
         b,
         before,
         p,
@@ -127,20 +138,21 @@ fn with_path(b: &[u8], before: Replayed, p: &[u8], inputs: &[f64], regs: &mut [f
 }
 
 fn replay(
+    stdout: Stdout,
     b: &[u8],
     from: Replayed,
     calls: usize,
     p: &[u8],
     inputs: &[f64],
     regs: &mut [f64],
-) -> Replayed {
+) -> io::Result<Replayed> {
     let mut r = from;
     let mut i = 0;
     while i < calls {
-        r = with_path(b, r, p, inputs, regs);
+        r = with_path(stdout, b, r, p, inputs, regs)?;
         i += 1;
     }
-    r
+    Ok(r)
 }
 
 // Where the inputs, the registers and the first call of a list stand.
@@ -157,15 +169,22 @@ fn calls_at(b: &[u8], at: usize) -> usize {
 }
 
 // A list that asks for more than 64 inputs or registers counts as a call that came out otherwise.
-fn checked(b: &[u8], at: usize, t: Tally) -> Tally {
+fn checked(stdout: Stdout, b: &[u8], at: usize, t: Tally) -> io::Result<Tally> {
     if size(b, plus(at, 1)) <= 64 && size(b, plus(at, 2)) <= 64 {
-        return t;
+        return Ok(t);
     }
-    cases::counted(t, false, 0)
+    cases::counted(stdout, t, false, 0)
 }
 
 // A list whose inputs and registers are in the beginnings of the slices.
-fn list_in(b: &[u8], at: usize, t: Tally, inputs: &[f64], regs: &mut [f64]) -> Replayed {
+fn list_in(
+    stdout: Stdout,
+    b: &[u8],
+    at: usize,
+    t: Tally,
+    inputs: &[f64],
+    regs: &mut [f64],
+) -> io::Result<Replayed> {
     let n = cut(size(b, plus(at, 1)), inputs.len());
     let m = cut(size(b, plus(at, 2)), regs.len());
     let from = place(plus(at, 4));
@@ -178,6 +197,7 @@ fn list_in(b: &[u8], at: usize, t: Tally, inputs: &[f64], regs: &mut [f64]) -> R
         tally: t,
     };
     replay(
+        stdout,
         b,
         before,
         size(b, plus(at, 3)),
@@ -187,31 +207,33 @@ fn list_in(b: &[u8], at: usize, t: Tally, inputs: &[f64], regs: &mut [f64]) -> R
     )
 }
 
-fn list(b: &[u8], at: usize, t: Tally) -> Replayed {
+fn list(stdout: Stdout, b: &[u8], at: usize, t: Tally) -> io::Result<Replayed> {
     let mut inputs = [0.0; 64];
     let mut regs = [0.0; 64];
     read_values(b, inputs_at(b, at), &mut inputs);
     read_values(b, registers_at(b, at), &mut regs);
-    list_in(b, at, checked(b, at, t), &inputs, &mut regs)
+    let t = checked(stdout, b, at, t)?;
+    list_in(stdout, b, at, t, &inputs, &mut regs)
 }
 
-fn all_lists(b: &[u8], lists: usize) -> Tally {
+fn all_lists(stdout: Stdout, b: &[u8], lists: usize) -> io::Result<Tally> {
     let mut t = cases::begin();
     let mut at = 1;
     let mut i = 0;
     while i < lists {
-        let r = list(b, at, t);
+        let r = list(stdout, b, at, t)?;
         at = r.at;
         t = r.tally;
         i += 1;
     }
-    t
+    Ok(t)
 }
 
-fn main() {
+fn main(rt: HostRuntime) -> io::Result<()> {
+    let stdout = rt.stdout();
     let mut b = [0u8; 131072];
-    io::read_full(0, &mut b);
-    let t = all_lists(&b, size(&b, 0));
-    say(t.cases, b" calls\n");
-    cases::verdict(t);
+    cases::read_full(rt.stdin(), &mut b);
+    let t = all_lists(stdout, &b, size(&b, 0))?;
+    say(stdout, t.cases, " calls\n")?;
+    cases::verdict(stdout, t)
 }
