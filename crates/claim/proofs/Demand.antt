@@ -1,22 +1,18 @@
 -- Demand 3, proved.
-use mathlib.Core.Path.{◌≡◌, ap, ◌∙◌}
-use mathlib.Core.List.{List}
-use mathlib.Core.Bool.{true}
+use mathlib.Core.Path.{◌≡◌}
 use mathlib.Core.Option.{none}
-use Prim.Native.Nat.{ℕ, ◌*◌, ◌≤◌}
+use Prim.Native.Nat.{◌*◌, ◌≤◌}
 use native.Mathlib.Omega.{arith}
-use lib.ListN.{length}
 use lib.Dec.{leb}
 use lib.Ieee.{Format, binary64}
 use borrow.Author.Tests.{leb-true}
-use Rattle.formula.specs.Formula.{Formula, depth, size}
-use Rattle.formula.specs.Names.{Symbol}
+use Rattle.formula.specs.Formula.{depth, size}
 use Rattle.formula.specs.Path.{root}
 use Rattle.formula.specs.Term.{Term, term}
 use Rattle.machine.specs.Check.{Context, fault}
 use Rattle.machine.specs.Compile.{own_context}
 use Rattle.machine.proofs.Accepted.{accepted_formula}
-use Rattle.machine.proofs.Laws.{and_l, and_r}
+use Rattle.machine.proofs.Laws.{and_l}
 use Rattle.machine.proofs.Size.{Narrow, longest_path, narrow, path_size}
 use Rattle.derivative.specs.Derive.{generated_context}
 use Rattle.derivative.proofs.Derived.{derived_compiles}

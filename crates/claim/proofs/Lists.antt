@@ -11,7 +11,7 @@ use lib.Ieee.{Float, Format}
 use borrow.Author.Tests.{le-leb, eq-eqb}
 use Rattle.arithmetic.specs.Value.{0f, finite}
 use Rattle.formula.specs.Text.{all}
-use Rattle.formula.specs.Path.{path_room, root}
+use Rattle.formula.specs.Path.{root}
 use Rattle.formula.specs.Term.{Term}
 use Rattle.meaning.specs.Reading.{Outcome, domain, question, reading, value}
 use Rattle.meaning.proofs.Laws.{bind_value, same_question_refl}
@@ -21,7 +21,7 @@ use Rattle.machine.specs.Machine.{Call, Reply, fresh, more, refuse, resume, run,
 use Rattle.machine.proofs.Laws.{and_l, and_r, instruction_count_pos, length_lowered, lt_some, none_at, not_not}
 use Rattle.machine.proofs.Size.{Narrow, longest_path}
 use Rattle.machine.proofs.Valid.{program_valid}
-use Rattle.claim.specs.Claim.{Calls, Fulfils, History, Resumes, Stage, accepted_call, after, noted, out_of_turn, over, ready, refusal, shown, start, waiting}
+use Rattle.claim.specs.Claim.{Calls, Fulfils, History, Resumes, Stage, accepted_call, noted, out_of_turn, over, ready, refusal, shown, start, waiting}
 use Rattle.machine.proofs.Simulation.{Simulates, asked, correct, ended, holds_from, resp}
 use Rattle.claim.proofs.Steps.{Stands, steps_right}
 

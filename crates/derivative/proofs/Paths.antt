@@ -9,7 +9,7 @@ use Rattle.formula.specs.Operator.{Junction, And, Or, Number}
 use Rattle.formula.specs.Formula.{Head, number, operation, junction, ifelse, conditional, malformed, Formula, Formulas, last, next, count, size, sizes, depth, depths}
 use Rattle.formula.specs.Formula as Written
 use Rattle.formula.specs.Path.{root, text}
-use Rattle.formula.specs.Term.{Term, Terms, literal, truth, symbol, end, ◌and◌, chain, junction_term, branch_term, leaf_term, term_from, term, terms, term_count}
+use Rattle.formula.specs.Term.{Term, Terms, literal, truth, symbol, end, ◌and◌, chain, junction_term, branch_term, term_from, term, terms, term_count}
 use Rattle.machine.specs.Check.{Context, kind, fault}
 use Rattle.machine.proofs.Size.{longest_path, longest_paths}
 use Rattle.derivative.specs.Differentiate.{derivative}

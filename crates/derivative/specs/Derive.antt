@@ -2,14 +2,14 @@
 -- for a symbol number not in the table, 8 at `root` from the rules, 4 at `root` if the finished tree is too large, 1 if the tree slice, then the program
 -- slice, is too short for it." "The list slice holds 8 bytes a node, and one too short is refused 1 as the tree slice is; it is zero or unchanged wherever that
 -- is."
-use Rattle.std.specs.Prelude.{List, ◌++◌, Bool, true, false, cond, ◌||◌, ℕ, ◌*◌, ◌-◌, length, get_or, ltb}
+use Rattle.std.specs.Prelude.{List, Bool, true, cond, ◌||◌, ℕ, ◌*◌, length, get_or, ltb}
 use Rattle.std.proofs.Math.Option.{Option, none, some}
 use Rattle.refusals.specs.Numbers.{expression_limit, slice_too_short, unknown_symbol, unsupported, wrong_type}
-use Rattle.formula.specs.Operator.{ValueKind, Number, Boolean, same_kind}
+use Rattle.formula.specs.Operator.{Boolean, same_kind}
 use Rattle.formula.specs.Text.{zeros}
 use Rattle.formula.specs.Formula.{Formula, size, derivative_limit}
 use Rattle.formula.specs.Node.{encode, node_size}
-use Rattle.formula.specs.Names.{Symbol, SymbolKind, Parameter, kinds, is_state}
+use Rattle.formula.specs.Names.{Symbol, Parameter, kinds, is_state}
 use Rattle.formula.specs.Path.{Path, root, placed}
 use Rattle.formula.specs.Term.{term}
 use Rattle.machine.specs.Check.{Context, kind}

@@ -1,6 +1,6 @@
 -- "Proved together, as a table: (1), (2) those lines. (3) Derivative by distance ... (12) Ceil -0.5 is -0.0."
-use Rattle.std.specs.Prelude.{◌≡◌, refl, List, [], ◌∷◌, ◌++◌, Bool, true, false, ℕ, ◌+◌, length, replicate, set, take, Float}
-use Rattle.std.proofs.Math.Option.{Option, none, some}
+use Rattle.std.specs.Prelude.{◌≡◌, refl, List, [], ◌∷◌, ◌++◌, ℕ, length, replicate, set, take, Float}
+use Rattle.std.proofs.Math.Option.{none, some}
 use Rattle.std.specs.Float.{binary64}
 use Rattle.std.specs.Float.Ieee.{add, sub, mul, div, rem, neg, lt, le, eq, ne, of_bits, to_bits, round}
 use Rattle.arithmetic.specs.Value.{0f, whole, absolute}
@@ -8,19 +8,18 @@ use Rattle.arithmetic.specs.Round.{floor, ceil}
 use Rattle.arithmetic.specs.Root.{sqrt_at}
 use Rattle.arithmetic.specs.Extremum.{hold}
 use Rattle.formula.specs.Text.{ascii, half_at, word_at, long_at}
-use Rattle.formula.specs.Operator.{Operation, unary, binary, compare, call, Binary, Add, Multiply, Divide, Power, Modulo, Lt, Exp, Hill, Sqrt, Ceil}
-use Rattle.formula.specs.Formula.{Formula, Formulas, Head, node, last, next, number, symbol, operation, conditional, size, of_list}
+use Rattle.formula.specs.Operator.{binary, compare, call, Binary, Add, Multiply, Divide, Power, Modulo, Lt, Exp, Hill, Sqrt, Ceil}
+use Rattle.formula.specs.Formula.{Formula, node, last, number, symbol, operation, conditional, size, of_list}
 use Rattle.formula.specs.Node.{encode, formula_of, tree_in, head_at, head_of, fields_at, inner_fields, node_bytes}
 use Rattle.formula.specs.Transfer.{transfer_of}
-use Rattle.formula.specs.Names.{Symbol, symbols_of}
+use Rattle.formula.specs.Names.{symbols_of}
 use Rattle.formula.specs.Values.{values_of}
 use Rattle.formula.specs.Path.{root, path_room}
-use Rattle.formula.specs.Term.{Term, term}
-use Rattle.meaning.specs.Work.{Question, power, hill_work, density_work}
-use Rattle.machine.specs.Check.{Context}
+use Rattle.formula.specs.Term.{term}
+use Rattle.meaning.specs.Work.{power, hill_work, density_work}
 use Rattle.machine.specs.Program.{Program}
 use Rattle.machine.specs.Lower.{program}
-use Rattle.machine.specs.Machine.{Answer, Reply, asks, fresh, gives, outside, refused, resume, run}
+use Rattle.machine.specs.Machine.{Answer, asks, gives, outside, refused, resume, run}
 use Rattle.machine.specs.Compile.{Compiled, accepted, compile, own_context}
 use Rattle.derivative.specs.Rules.{less_one}
 use Rattle.derivative.specs.Derive.{Derived, derive, derived, generated_context}

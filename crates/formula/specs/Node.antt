@@ -1,6 +1,6 @@
 -- Formula bytes: "Nodes of 16 bytes, each followed by its children, nothing after the root's last. Byte 0 is the kind, byte 1 the operator,
 -- bytes 2-3 the child count, 4-7 the symbol number from 0, 8-15 the value; all little-endian; unused fields zero."
-use Rattle.std.specs.Prelude.{Bool, true, false, cond, ◌&&◌, List, [], ◌∷◌, ◌++◌, map, ℕ, zero, suc, ◌+◌, ◌*◌, length, get_or, eqb, leb, ltb}
+use Rattle.std.specs.Prelude.{Bool, true, cond, ◌&&◌, List, [], ◌∷◌, ◌++◌, map, ℕ, zero, suc, ◌+◌, ◌*◌, length, get_or, eqb, leb, ltb}
 use Rattle.std.proofs.Math.Option.{Option, none, some}
 use Rattle.std.proofs.Math.ListN.{get_elem?}
 use Rattle.formula.specs.Text.{byte_at, half_at, word_at, long_at, little_endian}

@@ -1,5 +1,5 @@
 -- Paths: "Text from `root` with `.arguments[i]`, `.condition`, `.then`, `.else`, as in `lower`."
-use Rattle.std.specs.Prelude.{List, [], ◌∷◌, ◌++◌, ℕ, ◌-◌, length}
+use Rattle.std.specs.Prelude.{List, ◌++◌, ℕ, ◌-◌, length}
 use Rattle.std.proofs.Math.Option.{Option, none, some}
 use Rattle.formula.specs.Text.{ascii, decimal, zeros}
 

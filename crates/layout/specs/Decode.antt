@@ -1,9 +1,9 @@
 -- The program that bytes are: docs/PROGRAM.md. Bytes that are none read as a program without code.
-use Rattle.std.specs.Prelude.{Bool, true, cond, not, ◌&&◌, ◌||◌, List, [], ◌∷◌, ℕ, zero, suc, ◌+◌, ◌*◌, length, get_or, eqb, leb, ltb, Float}
+use Rattle.std.specs.Prelude.{Bool, true, cond, not, ◌&&◌, ◌||◌, List, [], ◌∷◌, ℕ, zero, suc, ◌+◌, ◌*◌, length, get_or, eqb, leb, ltb}
 use Rattle.std.specs.Float.{binary64}
 use Rattle.std.specs.Float.Ieee.{of_bits}
 use Rattle.formula.specs.Text.{byte_at, half_at, long_at, word_at}
-use Rattle.formula.specs.Operator.{Abs, Add, Boolean, Ceil, Cos, Divide, Eq, Exp, Floor, Ge, Gt, Hill, InverseGaussianDensity, Le, Log, Log10, Lt, Max, Min, Modulo, Multiply, Ne, Negative, Not, Number, Operation, Positive, Power, Sin, Sqrt, Subtract, Tan, Tanh, ValueKind, binary, call, compare, unary}
+use Rattle.formula.specs.Operator.{Abs, Add, Boolean, Ceil, Cos, Divide, Eq, Exp, Floor, Ge, Gt, Hill, InverseGaussianDensity, Le, Log, Log10, Lt, Max, Min, Modulo, Multiply, Ne, Negative, Not, Number, Operation, Positive, Power, Sin, Sqrt, Subtract, Tan, Tanh, binary, call, compare, unary}
 use Rattle.formula.specs.Path.{Path, Step, ◌▸◌, root, step_text}
 use Rattle.machine.specs.Program.{Instruction, Op, Program, constant, copy, instruction, jump, jump_if_false, load, perform}
 use Rattle.layout.specs.Opcode.{step_of}

@@ -1,14 +1,12 @@
 -- The bytes that a term's program is written as: header, instructions, path records, lists of registers.
-use Rattle.std.specs.Prelude.{Bool, true, false, cond, List, [], ◌∷◌, ◌++◌, ℕ, zero, suc, ◌+◌, length, get_or, Float}
-use Rattle.std.specs.Float.{binary64}
-use Rattle.std.specs.Float.Ieee.{to_bits}
+use Rattle.std.specs.Prelude.{Bool, cond, List, [], ◌∷◌, ◌++◌, ℕ, suc, ◌+◌, length, get_or}
 use Rattle.formula.specs.Text.{little_endian}
 use Rattle.formula.specs.Formula.{Formula}
 use Rattle.formula.specs.Path.{Path, ◌▸◌, argument, condition, else_arm, root, text, then_arm}
 use Rattle.formula.specs.Term.{Term, Terms, ◌and◌, apply, branch, end, literal, miscounted, symbol, term, term_count, truth}
 use Rattle.formula.specs.Operator.{Operation}
 use Rattle.machine.specs.Check.{Context, kind}
-use Rattle.machine.specs.Lower.{instruction_count, instruction_counts, register_count, register_counts, result_register, result_registers}
+use Rattle.machine.specs.Lower.{instruction_count, register_count, register_counts, result_register, result_registers}
 use Rattle.layout.specs.Opcode.{kind_number, last_step, listing, operation_number}
 
 -- the first four bytes: "VBR1"

@@ -1,6 +1,6 @@
 -- The numbers of operations, steps and kinds in a program's bytes.
-use Rattle.std.specs.Prelude.{Bool, true, false, cond, List, [], ◌∷◌, ◌++◌, map, ℕ, ◌+◌, ◌-◌, eqb}
-use Rattle.formula.specs.Operator.{Boolean, Function, InverseGaussianDensity, Max, Min, Number, Operation, ValueKind, binary, call, compare, function_number, unary, Abs, Ceil, Cos, Exp, Floor, Hill, Log, Log10, Sin, Sqrt, Tan, Tanh}
+use Rattle.std.specs.Prelude.{Bool, true, false, cond, ℕ, ◌+◌, ◌-◌, eqb}
+use Rattle.formula.specs.Operator.{Boolean, Function, InverseGaussianDensity, Max, Min, Number, Operation, ValueKind, binary, call, compare, unary, Abs, Ceil, Cos, Exp, Floor, Hill, Log, Log10, Sin, Sqrt, Tan, Tanh}
 use Rattle.formula.specs.Node.{binary_number, compare_number, unary_number}
 use Rattle.formula.specs.Path.{Path, Step, ◌▸◌, argument, condition, else_arm, root, then_arm}
 

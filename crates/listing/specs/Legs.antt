@@ -6,8 +6,8 @@ use Rattle.std.proofs.Math.Option.{Option, none, some}
 use Rattle.std.specs.Float.{binary64}
 use Rattle.std.specs.Float.Ieee.{of_bits, to_bits}
 use Rattle.refusals.specs.Numbers.{malformed_line, slice_too_short}
-use Rattle.arithmetic.specs.Value.{0f, finite}
-use Rattle.formula.specs.Text.{all, ascii, decimal}
+use Rattle.arithmetic.specs.Value.{0f}
+use Rattle.formula.specs.Text.{ascii, decimal}
 use Rattle.formula.specs.Values.{hex, lines_of, values_of}
 use Rattle.formula.specs.Path.{Path, path_room, text}
 use Rattle.formula.specs.Term.{term}

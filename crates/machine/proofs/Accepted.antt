@@ -1,5 +1,5 @@
 -- What compile accepts is within the limits and has no fault.
-use mathlib.Core.Path.{◌≡◌, refl, sym, ap, subst}
+use mathlib.Core.Path.{◌≡◌, refl, subst}
 use mathlib.Core.List.{List}
 use mathlib.Core.Bool.{Bool, true, false, cond, ◌||◌}
 use mathlib.Core.Option.{Option, none, some}
@@ -13,7 +13,7 @@ use Rattle.formula.specs.Names.{Symbol, symbols_of}
 use Rattle.formula.specs.Path.{path_room, root}
 use Rattle.formula.specs.Term.{term}
 use Rattle.machine.specs.Check.{Fault, fault}
-use Rattle.machine.specs.Compile.{Compiled, accepted, compile, lowered_or, own_context, program_room, read, refused, sized}
+use Rattle.machine.specs.Compile.{accepted, compile, lowered_or, own_context, program_room, read, refused, sized}
 
 pub record Accepted (f : Formula) (symbols : List Symbol) : Type 0 where
   pub limit : formula_limit f ≡ true

@@ -1,5 +1,5 @@
 -- The laws of specs/Progress, of every resume and every run.
-use mathlib.Core.Path.{◌≡◌, refl, ap, sym, ◌∙◌, subst}
+use mathlib.Core.Path.{◌≡◌, refl, ap, sym, subst}
 use mathlib.Core.List.{List, [], ◌∷◌}
 use mathlib.Core.Bool.{Bool, true, false, not, cond, ◌&&◌}
 use mathlib.Core.Option.{Option, none, some}
@@ -8,15 +8,15 @@ use native.Mathlib.Omega.{arith}
 use lib.ListN.{length, get_or, get_elem?}
 use lib.Dec.{eqb, leb, ltb}
 use lib.Ieee.{Float, Format}
-use borrow.Author.Tests.{eqb-false, ltb-true, not-false}
+use borrow.Author.Tests.{ltb-true, not-false}
 use Rattle.refusals.specs.Numbers.{invalid_input, no_program, slice_too_short, stale_state}
 use Rattle.arithmetic.specs.Value.{0f, finite, is_zero}
 use Rattle.formula.specs.Text.{all}
 use Rattle.formula.specs.Path.{Path, path_room}
 use Rattle.meaning.specs.Work.{Interaction, Question, advance, ask, give, undefined, work}
 use Rattle.machine.specs.Program.{Instruction, Op, Program, all_allowed, allowed, constant, copy, forward, instruction, jump, jump_if_false, load, op_allowed, perform, valid}
-use Rattle.machine.specs.Machine.{Answer, Call, Effect, Reply, State, effect, fails, followed, fresh, goes, more, next, out_of_budget, puts, read_all, refuse, resume, run, spent, stale, stale_at, steps, stored, unfit, wants, worked}
-use Rattle.machine.specs.Progress.{Answers, Lawful, Leaves, Progress, completes, consumes, effect_at, effect_of, is_domain, is_refused, only_asks}
+use Rattle.machine.specs.Machine.{Call, Effect, Reply, State, effect, fails, followed, fresh, goes, more, next, out_of_budget, puts, read_all, refuse, resume, run, spent, stale, stale_at, steps, unfit, wants, worked}
+use Rattle.machine.specs.Progress.{Answers, Lawful, Leaves, Progress, completes, consumes, effect_at, is_domain, is_refused, only_asks}
 use Rattle.machine.proofs.Laws.{and_l, and_r, lt_some, some_lt, unlike}
 
 clash : {A : Type 0} → true ≡ false → A

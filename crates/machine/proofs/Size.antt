@@ -1,14 +1,13 @@
 -- How long the paths of a term are: at most 17 bytes for each step where no operation has more than 65,536 arguments.
 use mathlib.Core.Path.{◌≡◌, refl, subst}
-use mathlib.Core.List.{List, [], ◌∷◌, ◌++◌}
 use mathlib.Core.Bool.{Bool, true, false}
-use Prim.Native.Nat.{ℕ, zero, suc, ◌+◌, ◌*◌, ◌/◌, ◌%◌, ◌^◌, ◌≤◌, ◌<◌}
+use Prim.Native.Nat.{ℕ, zero, suc, ◌+◌, ◌*◌, ◌/◌, ◌^◌, ◌≤◌, ◌<◌}
 use native.Mathlib.Nat.{pow-suc}
 use native.Mathlib.Omega.{arith}
 use lib.ListN.{length, length-append}
 use lib.Dec.{ltb}
 use borrow.Author.Tests.{ltb-false}
-use Rattle.formula.specs.Text.{decimal, decimal_in}
+use Rattle.formula.specs.Text.{decimal_in}
 use Rattle.formula.specs.Path.{Path, Step, ◌▸◌, argument, condition, else_arm, step_text, text, then_arm}
 use Rattle.formula.specs.Operator.{Junction, And, Or}
 use Rattle.formula.specs.Formula.{Formula, Formulas, Head, conditional, count, ifelse, junction, last, malformed, next, number, operation, size, sizes}

@@ -1,12 +1,12 @@
 -- What lowering writes is a program: refusal 10 never comes.
 use mathlib.Core.Path.{◌≡◌, refl, ap}
 use mathlib.Core.List.{List, [], ◌∷◌, ◌++◌}
-use mathlib.Core.Bool.{Bool, true, false, not, ◌&&◌}
+use mathlib.Core.Bool.{true}
 use mathlib.Core.Option.{none}
 use Prim.Native.Nat.{ℕ, suc, ◌+◌, ◌*◌, ◌≤◌, ◌<◌}
 use native.Mathlib.Omega.{arith}
 use lib.ListN.{length}
-use lib.Dec.{leb, ltb}
+use lib.Dec.{ltb}
 use borrow.Author.Tests.{lt-ltb, le-leb}
 use Rattle.arithmetic.specs.Value.{0f, truth_value}
 use Rattle.arithmetic.specs.Constant
@@ -14,7 +14,7 @@ use Rattle.formula.specs.Operator.{Boolean, same_kind}
 use Rattle.formula.specs.Path.{Path, ◌▸◌, argument, condition, else_arm, root, text, then_arm}
 use Rattle.formula.specs.Term.{Term, Terms, ◌and◌, apply, branch, end, literal, miscounted, symbol, term_count, truth}
 use Rattle.machine.specs.Check.{Context, dynamic, fault, faults, kind, supported, unless}
-use Rattle.machine.specs.Program.{Instruction, Op, Program, all_allowed, all_below, allowed, constant, copy, forward, instruction, jump, jump_if_false, load, op_allowed, perform, valid}
+use Rattle.machine.specs.Program.{Instruction, Op, Program, all_allowed, all_below, allowed, constant, copy, instruction, jump, jump_if_false, load, op_allowed, perform, valid}
 use Rattle.machine.specs.Lower.{instruction_count, instruction_counts, lowered, lowered_all, program, register_count, register_counts, result_register, result_registers}
 use Rattle.machine.proofs.Laws.{and_l, and_r, and_true, instruction_count_pos, length_lowered, length_lowered_all, none_left, none_right, result_lt, unless_none}
 use Rattle.machine.specs.Paths.{longest_path, longest_paths}

@@ -1,6 +1,6 @@
 -- The faults of a formula: "the first fault in `lower`'s order: 5 `InvalidInput` (arity), 6 `UnknownSymbol`, 7 `Type`, 8 `Unsupported`, 9 `Domain`
 -- (non-finite literal), each at Rust's path."
-use Rattle.std.specs.Prelude.{Bool, true, false, not, cond, ◌&&◌, ◌||◌, List, ℕ, suc, length, get_or, ltb}
+use Rattle.std.specs.Prelude.{Bool, true, false, not, ◌&&◌, ◌||◌, List, ℕ, suc, length, get_or, ltb}
 use Rattle.std.proofs.Math.Option.{Option, none, some}
 use Rattle.refusals.specs.Numbers.{invalid_input, outside_domain, unknown_symbol, unsupported, wrong_type}
 use Rattle.arithmetic.specs.Value.{finite}

@@ -1,12 +1,11 @@
 -- Compile (reference `compile_prepared`, limit 256, not generated): its refusals in order, and what each slice then holds.
-use Rattle.std.specs.Prelude.{List, ◌++◌, Bool, true, false, cond, ◌||◌, ℕ, ◌+◌, ◌-◌, ◌*◌, ◌/◌, length, ltb}
+use Rattle.std.specs.Prelude.{List, ◌++◌, false, cond, ◌||◌, ℕ, ◌+◌, ◌-◌, ◌*◌, ◌/◌, length, ltb}
 use Rattle.std.proofs.Math.Option.{Option, none, some}
 use Rattle.refusals.specs.Numbers.{ended_early, expression_limit, invalid_input, left_over, malformed_line, slice_too_short, wrong_field}
 use Rattle.formula.specs.Text.{zeros}
 use Rattle.formula.specs.Formula.{Formula, formula_limit}
 use Rattle.formula.specs.Node.{node_size}
 use Rattle.formula.specs.Transfer.{Transfer, transfer_of}
-use Rattle.formula.specs.Transfer as Transfer
 use Rattle.formula.specs.Names.{Symbol, symbols_of, kinds}
 use Rattle.formula.specs.Path.{Path, root, path_room, placed}
 use Rattle.formula.specs.Term.{term}

@@ -4,10 +4,9 @@ use Rattle.std.specs.Prelude.{List, [], ◌∷◌, ◌++◌, ℕ, suc, ◌+◌, 
 use Rattle.arithmetic.specs.Value.{truth_value, 0f}
 use Rattle.arithmetic.specs.Constant
 use Rattle.formula.specs.Path.{Path, root, ◌▸◌, argument, condition, then_arm, else_arm}
-use Rattle.formula.specs.Term.{Term, Terms, literal, truth, symbol, apply, branch, miscounted, end, ◌and◌, term}
-use Rattle.formula.specs.Formula.{Formula}
+use Rattle.formula.specs.Term.{Term, Terms, literal, truth, symbol, apply, branch, miscounted, end, ◌and◌}
 use Rattle.machine.specs.Check.{Context, kind}
-use Rattle.machine.specs.Program.{Op, constant, load, perform, copy, jump_if_false, jump, Instruction, instruction, Program}
+use Rattle.machine.specs.Program.{constant, load, perform, copy, jump_if_false, jump, Instruction, instruction, Program}
 
 -- both jumps of a branch use up a register that is never stored to; its second Copy uses none
 abbrev mutual

@@ -1,5 +1,5 @@
 -- The abstract program, and which programs may run.
-use Rattle.std.specs.Prelude.{List, [], ◌∷◌, Bool, true, false, ◌&&◌, ℕ, suc, length, leb, ltb, Float}
+use Rattle.std.specs.Prelude.{List, [], ◌∷◌, Bool, true, ◌&&◌, ℕ, suc, length, leb, ltb, Float}
 use Rattle.formula.specs.Operator.{Operation, ValueKind}
 use Rattle.formula.specs.Path.{Path, text, path_room}
 

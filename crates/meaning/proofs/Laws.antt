@@ -1,7 +1,7 @@
 -- Laws of a node's work and of the reading that the proofs above cite instead of their text.
 use mathlib.Core.Path.{◌≡◌, refl}
 use mathlib.Core.List.{List, [], ◌∷◌, ◌++◌}
-use mathlib.Core.Bool.{Bool, true, false, not, cond}
+use mathlib.Core.Bool.{Bool, true, false, not}
 use Prim.Native.Nat.{ℕ}
 use lib.ListN.{get_or}
 use lib.Dec.{eqb}
@@ -9,7 +9,7 @@ use lib.Ieee.{Float, Format, eq}
 use borrow.Author.Tests.{eq-eqb}
 use Rattle.arithmetic.specs.Value.{0f, finite, is_one, is_zero, truth_value}
 use Rattle.formula.specs.Operator.{ValueKind, Number, Boolean, Operation, unary, binary, compare, call, Positive, Negative, Not, result_kind}
-use Rattle.meaning.specs.Work.{Interaction, Question, ask, elementary, give, power, undefined, advance, binary_work, call_work, compared, same_bits, same_question, work}
+use Rattle.meaning.specs.Work.{Interaction, Question, ask, elementary, give, power, undefined, advance, binary_work, call_work, compared, same_question, work}
 use Rattle.meaning.specs.Reading.{Outcome, bind, domain, question, value}
 
 pub bind_assoc : {A B D : Type 0} (o : Outcome A) (g : A → List Float → Outcome B) (h : B → List Float → Outcome D)

@@ -1,7 +1,7 @@
 -- "Tree reading is fed nodes, inputs and supplied values, nothing of program or state. From `root` it reads each node's children left to right, then
 -- works the node out as above. ... A question takes the next value; with none left it ends the reading. Domain ends it at that node's path. Else the
 -- root's value is given."
-use Rattle.std.specs.Prelude.{List, [], ◌∷◌, Bool, cond, ℕ, suc, get_or, Float}
+use Rattle.std.specs.Prelude.{List, [], ◌∷◌, cond, ℕ, suc, get_or, Float}
 use Rattle.std.specs.Float.{Format}
 use Rattle.arithmetic.specs.Value.{finite, is_one, truth_value, 0f}
 use Rattle.arithmetic.specs.Constant

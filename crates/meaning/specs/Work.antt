@@ -1,5 +1,5 @@
 -- One node's work: a value, not a number, or a question and what comes of each answer to it. Reading and machine use it alike.
-use Rattle.std.specs.Prelude.{Bool, true, false, not, ◌&&◌, ◌||◌, List, [], ◌∷◌, ℕ, get_or, eqb}
+use Rattle.std.specs.Prelude.{Bool, false, not, ◌&&◌, ◌||◌, List, [], ◌∷◌, ℕ, get_or, eqb}
 use Rattle.std.proofs.Math.Bool.{cond}
 use Rattle.std.specs.Float.Ieee.{Float, add, sub, mul, div, neg, lt, le, eq, ne, to_bits}
 use Rattle.std.specs.Float.{Format}

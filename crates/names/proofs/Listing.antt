@@ -9,7 +9,7 @@ use lib.ListN.{length, get_or, take, drop, set, length-append, length-drop, leng
 use lib.Seq.{drop-cons, drop-drop, take_all, take_at, take-suc, take-length, get_or-take, get_or-drop, get_or_at, get_or-set_same, get_or-set_other, length-take-le, set_at}
 use lib.Dec.{eqb, leb}
 use borrow.Author.Tests.{eqb-true, eqb-false, ne_eqb, eq-eqb, le-leb, lt-leb}
-use Rattle.formula.specs.Text.{same_bytes, all, split, joined, all_some, zeros}
+use Rattle.formula.specs.Text.{same_bytes, split, joined, all_some, zeros}
 use Rattle.formula.specs.Names.{Symbol, symbol_of, unlike, none_twice, table, symbols_of, kinds}
 use Rattle.names.specs.Lines.{Ends, Tells, symbol_place, free, kind_number, Listed, mark, Marked, Placed, names_of, part, prefixed, repeats}
 use Rattle.names.specs.declared.Names.{Names}

@@ -18,7 +18,7 @@ returns c =
     let evened = c.evened in
     let e = evened in (
       let h = root_small c.args.b c.normalised-s.result.digits c.normalised-s.result.exp c.evened.result c.long_root-r.result c.requires.1 c.normalised-s.ensures.3
-    c.normalised-s.ensures.0 c.normalised-s.ensures.2 c.evened.ensures.2 c.evened.ensures.0 c.evened.ensures.1 c.long_root-r.ensures in omega arith,
+          c.normalised-s.ensures.0 c.normalised-s.ensures.2 c.evened.ensures.2 c.evened.ensures.0 c.evened.ensures.1 c.long_root-r.ensures in omega arith,
       root_pattern args.b normalised.result.digits normalised.result.exp evened.result c.long_root-r.result pre.1
           normalised.ensures.3 normalised.ensures.0 normalised.ensures.2 e.ensures.2 e.ensures.0 e.ensures.1 c.long_root-r.ensures,
     )

@@ -12,7 +12,7 @@ pub loop-r-smaller : goal.loop-r-smaller
 loop-r-smaller c = let h = some_root c.args.m c.loop-r.r c.loop-r-test.true in omega arith
 
 pub loop-r-preserved : goal.loop-r-preserved
-loop-r-preserved c =  omega arith
+loop-r-preserved c = omega arith
 
 pub loop-r-2-init : goal.loop-r-2-init
 loop-r-2-init c = c.loop-r-test.false
