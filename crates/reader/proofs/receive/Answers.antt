@@ -1,5 +1,4 @@
 use borrow.Author.Tests.{ne_eqb}
-use mathlib.Core.Logic.{⊎_elim}
 use mathlib.Core.Path.{sym, ◌∙◌, subst}
 use Prim.Native.Nat.{ℕ, ◌+◌}
 use native.Mathlib.Omega.{arith}
@@ -64,14 +63,14 @@ loop-at-preserved c =
     let the_proof = sym is_head.ensures ∙ if2.false in
     let counted : ℕ → Type 0 = λ k. Counted args.b.now (loop.at + node_size) k in
     elim c.if-owed-b.branch [
-      then-owed-b w ↦
-        subst counted (sym w.owed-is)
-        (counted_on args.b.now loop.at loop.owed loop.invariant (omega (arith, loop.invariant.owing.inside)) (written node.result) node.ensures.0
-        the_proof if1.false w.if-owed-b.true)
-    | else-owed-b w ↦
-        subst counted (sym w.owed-is)
-        (counted_still args.b.now loop.at loop.owed loop.invariant (omega (arith, loop.invariant.owing.inside)) (written node.result) node.ensures.0
-        the_proof if1.false w.if-owed-b.false)
+      | then-owed-b w ↦
+          subst counted (sym w.owed-is)
+          (counted_on args.b.now loop.at loop.owed loop.invariant (omega (arith, loop.invariant.owing.inside)) (written node.result) node.ensures.0
+          the_proof if1.false w.if-owed-b.true)
+      | else-owed-b w ↦
+          subst counted (sym w.owed-is)
+          (counted_still args.b.now loop.at loop.owed loop.invariant (omega (arith, loop.invariant.owing.inside)) (written node.result) node.ensures.0
+          the_proof if1.false w.if-owed-b.false)
     ]
 
 pub ended-requires : goal.ended-requires

@@ -40,7 +40,7 @@ bounds-out-end t c =
 pub overflow_add-result-2 : goal.overflow_add-result-2
 overflow_add-result-2 t c =
     let args = c.args in
-     let pre = c.requires in
+    let pre = c.requires in
     let if1 = c.if-n-lt10 in
     let put_decimal = c.put_decimal-end in
     omega (arith, pre, length_large args.n if1.false, put_decimal.ensures.0)
