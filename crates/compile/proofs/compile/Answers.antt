@@ -20,7 +20,7 @@ pub slice_bounds-kinds-end : goal.slice_bounds-kinds-end
 slice_bounds-kinds-end c =
     let args = c.args in
     let prepare = c.prepare-prepared in
-     let S = source_of args.formula.now args.names.now (length args.path.now) (length args.program.now) prepare.result
+    let S = source_of args.formula.now args.names.now (length args.path.now) (length args.program.now) prepare.result
     prepare.ensures c.in-Symbols.count c.in-Symbols.is in
     within_table c.in-Symbols.count prepare.result.kinds S.symbols S.count S.kinds_are
 
@@ -28,7 +28,7 @@ pub slice_bounds-write-end : goal.slice_bounds-write-end
 slice_bounds-write-end c =
     let args = c.args in
     let prepare = c.prepare-prepared in
-     let S = source_of args.formula.now args.names.now (length args.path.now) (length args.program.now) prepare.result
+    let S = source_of args.formula.now args.names.now (length args.path.now) (length args.program.now) prepare.result
     prepare.ensures c.in-Symbols.count c.in-Symbols.is in
     prefix_long c.in-Symbols.count prepare.result.kinds S.symbols S.count S.kinds_are
 
@@ -36,7 +36,7 @@ pub write-requires : goal.write-requires
 write-requires c =
     let args = c.args in
     let prepare = c.prepare-prepared in
-     let within = c.within in
+    let within = c.within in
     let if1 = c.if-within in
     let S = source_of args.formula.now args.names.now (length args.path.now) (length args.program.now) prepare.result
     prepare.ensures c.in-Symbols.count c.in-Symbols.is in
@@ -47,7 +47,7 @@ pub returns-then-within : goal.returns-then-within
 returns-then-within c =
     let args = c.args in
     let prepare = c.prepare-prepared in
-     let within = c.within in
+    let within = c.within in
     let if1 = c.if-within in
     let write = c.write in
     let S =
@@ -74,7 +74,7 @@ pub returns-in-RefusedAt : goal.returns-in-RefusedAt
 returns-in-RefusedAt c =
     let args = c.args in
     let prepare = c.prepare-prepared in
-     let n = c.in-RefusedAt.n in
+    let n = c.in-RefusedAt.n in
     let k = c.in-RefusedAt.k in
     early_at _ n k args.path.now args.program.now
     (node_refusal_of args.formula.now args.names.now (length args.path.now) (length args.program.now) prepare.result prepare.ensures
@@ -84,7 +84,7 @@ pub returns-else-within : goal.returns-else-within
 returns-else-within c =
     let args = c.args in
     let prepare = c.prepare-prepared in
-     let S = source_of args.formula.now args.names.now (length args.path.now) (length args.program.now) prepare.result
+    let S = source_of args.formula.now args.names.now (length args.path.now) (length args.program.now) prepare.result
     prepare.ensures c.in-Symbols.count c.in-Symbols.is in
     let within = c.within in
     early _ 4 (some root) args.path.now _ args.program.now (above_limit S within.result within.ensures.0 c.if-within.false) (omega arith)

@@ -46,4 +46,4 @@ pub returns-in-RefusedAt : goal.returns-in-RefusedAt
 returns-in-RefusedAt c =
     let args = c.args in
     let write = c.write-a in
-     absurd (no_node args.kinds.now args.formula.now c.in-RefusedAt.n c.in-RefusedAt.k (sym c.in-RefusedAt.is ∙ write.ensures.0))
+    absurd (no_node args.kinds.now args.formula.now c.in-RefusedAt.n c.in-RefusedAt.k (sym c.in-RefusedAt.is ∙ write.ensures.0))

@@ -31,7 +31,7 @@ returns-in-EndedEarly c =
     let if1 = c.if-path-lt8192 in
     let if2 = c.if-program-formula in
     let receive = c.receive-received in
-     faulty_is args.formula.now args.names.now args.path args.program (omega (arith, if1.false)) (omega (arith, if2.false)) receive.result
+    faulty_is args.formula.now args.names.now args.path args.program (omega (arith, if1.false)) (omega (arith, if2.false)) receive.result
     receive.ensures 12 c.in-EndedEarly.k _ (ap number_of c.in-EndedEarly.is) (ap node_of c.in-EndedEarly.is) c.unprepared-in-EndedEarly.ensures
 
 pub returns-in-WrongField : goal.returns-in-WrongField
@@ -40,7 +40,7 @@ returns-in-WrongField c =
     let if1 = c.if-path-lt8192 in
     let if2 = c.if-program-formula in
     let receive = c.receive-received in
-     faulty_is args.formula.now args.names.now args.path args.program (omega (arith, if1.false)) (omega (arith, if2.false)) receive.result
+    faulty_is args.formula.now args.names.now args.path args.program (omega (arith, if1.false)) (omega (arith, if2.false)) receive.result
     receive.ensures 2 c.in-WrongField.k _ (ap number_of c.in-WrongField.is) (ap node_of c.in-WrongField.is) c.unprepared-in-WrongField.ensures
 
 pub returns-in-LeftOver : goal.returns-in-LeftOver
@@ -49,5 +49,5 @@ returns-in-LeftOver c =
     let if1 = c.if-path-lt8192 in
     let if2 = c.if-program-formula in
     let receive = c.receive-received in
-     faulty_is args.formula.now args.names.now args.path args.program (omega (arith, if1.false)) (omega (arith, if2.false)) receive.result
+    faulty_is args.formula.now args.names.now args.path args.program (omega (arith, if1.false)) (omega (arith, if2.false)) receive.result
     receive.ensures 13 c.in-LeftOver.k _ (ap number_of c.in-LeftOver.is) (ap node_of c.in-LeftOver.is) c.unprepared-in-LeftOver.ensures

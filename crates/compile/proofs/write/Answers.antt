@@ -15,5 +15,5 @@ write_counted-requires c =
         count.ensures.0 ∙ (counts_one args.b.now args.d).0,
         count.ensures.1 ∙ (counts_one args.b.now args.d).1,
         count.ensures.2 ∙ (counts_one args.b.now args.d).2,
-      )
+      );
     }

@@ -67,7 +67,7 @@ root-a-requires c =
     let put_record = c.put_record in record {
       ready = whole.ready args.b.now args.d (length args.path.now) args.p.now args.kinds.now args.generated args.code args.records
           args.entries pre.fits pre.counts.0 pre.counts.1 pre.counts.2 put_record.new.p put_record.ensures;
-      formed = pre.fits.well
+      formed = pre.fits.well;
     }
 
 pub put_header-requires : goal.put_header-requires
@@ -130,7 +130,7 @@ write_path-requires c =
     let good = c.well_formed in
     let put_record = c.put_record in
     let root = c.root-a in
-     (whole.writes args.b.now args.d (length args.path.now) args.p.now args.kinds.now args.generated args.code args.records
+    (whole.writes args.b.now args.d (length args.path.now) args.p.now args.kinds.now args.generated args.code args.records
     args.entries pre.fits pre.counts.0 pre.counts.1 pre.counts.2 put_record.new.p put_record.ensures root.new.p root.result
     root.ensures c.in-Fault.n c.in-Fault.k c.in-Fault.is pre.fits.places
     (omega (arith, root.auto.p, put_record.auto.p, good.1.0.0))).0
@@ -141,7 +141,7 @@ returns-in-Done c =
     let pre = c.requires in
     let put_record = c.put_record in
     let root = c.root-a in
-     let kind_of = c.kind_of-kind in
+    let kind_of = c.kind_of-kind in
     let put_header = c.put_header in
     whole.program_answers args.b.now args.d (length args.path.now) args.p.now args.kinds.now args.generated args.code
     args.records args.entries pre.fits pre.counts.0 pre.counts.1 pre.counts.2 put_record.new.p put_record.ensures root.new.p
@@ -155,7 +155,7 @@ returns-in-Fault c =
     let good = c.well_formed in
     let put_record = c.put_record in
     let root = c.root-a in
-     let write_path = c.write_path in
+    let write_path = c.write_path in
     let fits =
     (whole.writes args.b.now args.d (length args.path.now) args.p.now args.kinds.now args.generated args.code args.records
     args.entries pre.fits pre.counts.0 pre.counts.1 pre.counts.2 put_record.new.p put_record.ensures root.new.p root.result

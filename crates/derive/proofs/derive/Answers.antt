@@ -28,7 +28,7 @@ pub slice_bounds-kinds-end : goal.slice_bounds-kinds-end
 slice_bounds-kinds-end c =
     let args = c.args in
     let prepare = c.prepare-prepared in
-     let n = c.in-Symbols.count in
+    let n = c.in-Symbols.count in
     let S = source_of args.formula.now args.names.now (length args.path.now) (length args.program.now) prepare.result
     prepare.ensures n c.in-Symbols.is in
     within_table n prepare.result.kinds S.symbols S.count S.kinds_are
@@ -37,7 +37,7 @@ pub slice_bounds-derive_formula-end : goal.slice_bounds-derive_formula-end
 slice_bounds-derive_formula-end c =
     let args = c.args in
     let prepare = c.prepare-prepared in
-     let n = c.in-Symbols.count in
+    let n = c.in-Symbols.count in
     let S = source_of args.formula.now args.names.now (length args.path.now) (length args.program.now) prepare.result
     prepare.ensures n c.in-Symbols.is in
     prefix_long n prepare.result.kinds S.symbols S.count S.kinds_are
@@ -46,7 +46,7 @@ pub derive_formula-requires : goal.derive_formula-requires
 derive_formula-requires c =
     let args = c.args in
     let prepare = c.prepare-prepared in
-     let within = c.within in
+    let within = c.within in
     let if1 = c.if-within in
     let n = c.in-Symbols.count in
     let S = source_of args.formula.now args.names.now (length args.path.now) (length args.program.now) prepare.result
@@ -60,7 +60,7 @@ pub returns-then-within : goal.returns-then-within
 returns-then-within c =
     let args = c.args in
     let prepare = c.prepare-prepared in
-     let within = c.within in
+    let within = c.within in
     let if1 = c.if-within in
     let formula = c.derive_formula in
     let the_program = formula.new.program in
@@ -99,7 +99,7 @@ pub returns-in-RefusedAt : goal.returns-in-RefusedAt
 returns-in-RefusedAt c =
     let args = c.args in
     let prepare = c.prepare-prepared in
-     let n = c.in-RefusedAt.n in
+    let n = c.in-RefusedAt.n in
     let k = c.in-RefusedAt.k in
     refused_at_node args.formula.now args.names.now args.symbol args.path.now (lengths args.tree.now args.list.now args.program.now) n k args.tree.now args.list.now args.program.now
     (node_refusal_of args.formula.now args.names.now (length args.path.now) (length args.program.now) prepare.result prepare.ensures
@@ -109,7 +109,7 @@ pub returns-else-within : goal.returns-else-within
 returns-else-within c =
     let args = c.args in
     let prepare = c.prepare-prepared in
-     let n = c.in-Symbols.count in
+    let n = c.in-Symbols.count in
     let S = source_of args.formula.now args.names.now (length args.path.now) (length args.program.now) prepare.result
     prepare.ensures n c.in-Symbols.is in
     let within = c.within in

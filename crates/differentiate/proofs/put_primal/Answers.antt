@@ -26,6 +26,7 @@ zero_text m = bytes m (recorded_literal outer 0 0)
 module _ (m : Bool) (t : Formula) (out : List ℕ) (h : length (primal_bytes m t) ≤ length out) where
   three : length ((a m ++ b m) ++ zero_text m) ≤ length out
   three = front ((a m ++ b m) ++ zero_text m) (bytes m (copy 0 t)) out h
+
   two : length (a m ++ b m) ≤ length out
   two = front (a m ++ b m) (zero_text m) out three
 

@@ -25,6 +25,7 @@ child_text m k t i = bytes m (copy_of k t i)
 module _ (m : Bool) (k : ℕ) (t : Formula) (i : ℕ) (out : List ℕ) (h : length (tie_bytes m k t i) ≤ length out) where
   three : length ((a m k t ++ b m k t) ++ child_text m k t i) ≤ length out
   three = front ((a m k t ++ b m k t) ++ child_text m k t i) (bytes m (copy k t)) out h
+
   two : length (a m k t ++ b m k t) ≤ length out
   two = front (a m k t ++ b m k t) (child_text m k t i) out three
 

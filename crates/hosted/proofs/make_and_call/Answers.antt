@@ -14,7 +14,7 @@ returns-then-refusal-ne0 c =
       demand = turned_away w.new.program a.inputs.now a.rooms.now a.budgets.now a.flags.now a.values.now a.registers.now a.path.now w.new.path a.cells.now
           a.report.now w.new.report w.result
           (asked a.report.now (make a.formula.now a.names.now (wanted_of a.wanted) (length a.path.now) (lengths a.tree.now a.list.now a.program.now)))
-          c.if-refusal-ne0.true w.ensures.made.0 w.ensures.made.1
+          c.if-refusal-ne0.true w.ensures.made.0 w.ensures.made.1;
     }
 
 pub returns : goal.returns
@@ -29,5 +29,5 @@ returns c =
           a.program.now w.new.program a.inputs.now a.rooms.now a.budgets.now a.flags.now a.values.now a.registers.now
           r.new.registers a.path.now w.new.path r.new.path a.cells.now r.new.cells
           a.report.now w.new.report r.new.report r.result
-          w.result if1.false w.ensures.made.0 w.ensures.made.1 w.ensures.written.2 r.ensures.outcome r.ensures.reply
+          w.result if1.false w.ensures.made.0 w.ensures.made.1 w.ensures.written.2 r.ensures.outcome r.ensures.reply;
     }

@@ -17,8 +17,7 @@ returns-then-count-eq0 c =
 
 pub strict-x-requires : goal.strict-x-requires
 strict-x-requires c =
-    let args = c.args in
-     (
+    let args = c.args in (
       omega arith,
       λ t. let h = leb-true (32 + 24 * c.word.result + 12 * c.word-2.result + 4 * (args.a + args.count)) (length args.p.now) t in omega arith,
     )

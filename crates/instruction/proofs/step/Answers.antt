@@ -10,7 +10,7 @@ unfolding destination_at
 returns-then-is_finite c =
     let args = c.args in
     let effect_at = c.effect_at-e in
-      let is_finite = c.is_finite in
+    let is_finite = c.is_finite in
     let if1 = c.if-is_finite in
     let word = c.word in
     let store = c.store in
@@ -21,7 +21,7 @@ pub returns-in-Jump : goal.returns-in-Jump
 returns-in-Jump c =
     let args = c.args in
     let effect_at = c.effect_at-e in
-     jump_done args.inputs.now args.p.now args.n (kept_values args.kept) args.regs.now effect_at.ensures c.in-Jump.to
+    jump_done args.inputs.now args.p.now args.n (kept_values args.kept) args.regs.now effect_at.ensures c.in-Jump.to
     c.in-Jump.is
 
 pub returns-else-is_finite : goal.returns-else-is_finite
@@ -29,7 +29,7 @@ unfolding path_number
 returns-else-is_finite c =
     let args = c.args in
     let effect_at = c.effect_at-e in
-      let is_finite = c.is_finite in
+    let is_finite = c.is_finite in
     infinite_done args.inputs.now args.p.now args.n (kept_values args.kept) args.regs.now effect_at.ensures c.in-Value.v
     c.word-in-Value.result (c.in-Work.is ∙ ap Work c.in-Value.is) (sym is_finite.ensures ∙ c.if-is_finite.false) c.word-in-Value.ensures.0
 
@@ -38,19 +38,19 @@ unfolding path_number
 returns-in-Undefined c =
     let args = c.args in
     let effect_at = c.effect_at-e in
-     undefined_done args.inputs.now args.p.now args.n (kept_values args.kept) args.regs.now effect_at.ensures c.word-in-Undefined.result
+    undefined_done args.inputs.now args.p.now args.n (kept_values args.kept) args.regs.now effect_at.ensures c.word-in-Undefined.result
     (c.in-Work.is ∙ ap Work c.in-Undefined.is) c.word-in-Undefined.ensures.0
 
 pub returns-in-Elementary : goal.returns-in-Elementary
 returns-in-Elementary c =
     let args = c.args in
     let effect_at = c.effect_at-e in
-      elementary_done args.inputs.now args.p.now args.n (kept_values args.kept) args.regs.now effect_at.ensures c.in-Elementary.f
+    elementary_done args.inputs.now args.p.now args.n (kept_values args.kept) args.regs.now effect_at.ensures c.in-Elementary.f
     c.in-Elementary.x (c.in-Work.is ∙ ap Work c.in-Elementary.is)
 
 pub returns-in-Power : goal.returns-in-Power
 returns-in-Power c =
     let args = c.args in
     let effect_at = c.effect_at-e in
-      power_done args.inputs.now args.p.now args.n (kept_values args.kept) args.regs.now effect_at.ensures c.in-Power.x
+    power_done args.inputs.now args.p.now args.n (kept_values args.kept) args.regs.now effect_at.ensures c.in-Power.x
     c.in-Power.y (c.in-Work.is ∙ ap Work c.in-Power.is)

@@ -38,6 +38,6 @@ returns-in-Values c =
 pub returns-in-Finished : goal.returns-in-Finished
 returns-in-Finished c =
     let a = c.args in
-     let m = memory a.names.now a.path.now a.program.now a.values.now a.regs.now in
+    let m = memory a.names.now a.path.now a.program.now a.values.now a.regs.now in
     subst (λ (s : Stage). Advancing a.formula.now a.input.now m s a.out.now (record { stage = Variants.Finished c.in-Finished.t; used = length a.input.now; length = 0 }) m a.out.now) (sym c.in-Finished.is)
     (advance_finished a.formula.now a.input.now m c.in-Finished.t a.out.now (omega (arith, c.if-places-lt-OUTPUT_ROOM.false)))

@@ -21,7 +21,7 @@ returns-in-Program c =
     let a = c.args in
     let shared_slice_known = c.shared_slice_known-1 in
     let k = c.compile-a in
-     let fresh = c.fresh in
+    let fresh = c.fresh in
     record {
       built =
           begins_accepted a.formula.now a.names.now a.path.now a.program.now k.new.path k.new.program a.out.now
@@ -38,7 +38,7 @@ returns-in-Refused c =
     let a = c.args in
     let pre = c.requires in
     let k = c.compile-a in
-     let text_length = c.text_length-m in
+    let text_length = c.text_length-m in
     let w = c.put_refusal-length in
     let h : w.result ≤ length a.out.now = omega (arith, w.ensures.room, pre) in
     record {
@@ -57,7 +57,7 @@ returns-in-RefusedAt c =
     let a = c.args in
     let pre = c.requires in
     let k = c.compile-a in
-     let w = c.put_node_refusal-length in
+    let w = c.put_node_refusal-length in
     let h : w.result ≤ length a.out.now = omega (arith, w.ensures.room, pre) in
     record {
       built =

@@ -10,10 +10,10 @@ shape_of-names-then-b-eq10 c = c.loop-end.invariant.same_length
 
 pub returns-then-b-eq10 : goal.returns-then-b-eq10
 returns-then-b-eq10 c = let i = c.loop-end.invariant in record {
-      place = (i.inside, i.no_newline, λ l. c.if-b-eq10.true);
-      kept = i.on;
-      holds = i.holds
-    }
+  place = (i.inside, i.no_newline, λ l. c.if-b-eq10.true);
+  kept = i.on;
+  holds = i.holds;
+}
 
 pub loop-end-preserved : goal.loop-end-preserved
 loop-end-preserved c =
@@ -28,7 +28,7 @@ shape_of-names c = c.loop-end.invariant.same_length
 
 pub returns : goal.returns
 returns c = let i = c.loop-end.invariant in record {
-      place = (i.inside, i.no_newline, λ l. absurd (omega (arith, c.loop-end-test.false)));
-      kept = i.on;
-      holds = i.holds
-    }
+  place = (i.inside, i.no_newline, λ l. absurd (omega (arith, c.loop-end-test.false)));
+  kept = i.on;
+  holds = i.holds;
+}

@@ -17,7 +17,7 @@ returns-in-Done c =
 pub returns-in-Fault : goal.returns-in-Fault
 returns-in-Fault c =
     let args = c.args in
-     let cells = last_cell args.c.now c.in-Fault.k c.requires.1 in (
+    let cells = last_cell args.c.now c.in-Fault.k c.requires.1 in (
       closes_fault c.in-Fault.n _ c.in-Fault.k _ (omega (arith, c.wide.ensures)) (omega (arith, c.wide.ensures)) cells.0 ∙ sym c.in-Fault.is,
       cells.1,
     )

@@ -19,7 +19,7 @@ node-n-requires c =
     let t = term (tree_in args.d args.b.now args.c.node) in record {
       ready = subst (λ (x : Layout). Ready x args.p.now args.s args.c (instruction_count t) (inner_count t) (entry_count t))
           (sym (layout_is args.l c.bit.result c.bit.ensures.0)) pre.ready;
-      formed = (pre.formed, refl)
+      formed = (pre.formed, refl);
     }
 
 pub returns : goal.returns

@@ -1,6 +1,5 @@
 use mathlib.Core.Path.{refl, ◌∙◌}
 use native.Mathlib.Omega.{arith}
-use Rattle.writer.specs.Over.{over}
 use Rattle.paths.proofs.Climb.{begin_is, length_is, parent_is, path_written, root_begin, step_fits, step_written}
 use Rattle.paths.proofs.write_path.Goals as goal
 

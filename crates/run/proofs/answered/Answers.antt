@@ -30,5 +30,5 @@ returns c =
     let word = c.word-to in record {
       reply = answered_reply args.inputs.now args.p.now args.regs.now store.new.xs _ args.budget args.position word.result args.value
           steps.result pre.0 pre.1 pre.3 pre.4 word.ensures.0 store.ensures e;
-      place = steps.ensures.place
+      place = steps.ensures.place;
     }

@@ -30,7 +30,7 @@ answered-requires c =
     let args = c.args in
     let s = args.state in
     let pre = c.requires in
-     let is_result = c.is_result-direct in
+    let is_result = c.is_result-direct in
     let v = c.in-Value.x in
     let l = at_code args.inputs.now args.p.now args.regs.now s.position (kept_values s.kept) (pending_of s.pending) (supplied_of args.supplied) pre.1 in
     let R = is_result.ensures c.if-direct.true in
@@ -51,7 +51,7 @@ returns-then-direct c =
       reply = answered.ensures.reply
           ∙ ap (λ (k : List Float). steps_at args.inputs.now args.p.now args.budget s.position (supplying k (some c.in-Value.x)) args.regs.now) (sym R.none_kept)
           ∙ ap (λ (g : Supplied). steps_at args.inputs.now args.p.now args.budget s.position (supplying (kept_values s.kept) (supplied_of g)) args.regs.now) (sym c.in-Value.is);
-      place = answered.ensures.place
+      place = answered.ensures.place;
     }
 
 pub returns-in-Nothing : goal.returns-in-Nothing
@@ -60,7 +60,7 @@ returns-in-Nothing c =
     let s = args.state in
     let steps = c.steps in record {
       reply = steps.ensures.reply ∙ ap (λ (g : Supplied). steps_at args.inputs.now args.p.now args.budget s.position (supplying (kept_values s.kept) (supplied_of g)) args.regs.now) (sym c.in-Nothing.is);
-      place = steps.ensures.place
+      place = steps.ensures.place;
     }
 
 pub returns-else-direct : goal.returns-else-direct
@@ -72,5 +72,5 @@ returns-else-direct c =
       reply = steps2.ensures.reply
           ∙ ap (λ (k : List Float). steps_at args.inputs.now args.p.now args.budget s.position k args.regs.now) keep.ensures
           ∙ ap (λ (g : Supplied). steps_at args.inputs.now args.p.now args.budget s.position (supplying (kept_values s.kept) (supplied_of g)) args.regs.now) (sym c.in-Value.is);
-      place = steps2.ensures.place
+      place = steps2.ensures.place;
     }

@@ -34,5 +34,5 @@ returns c =
             v,
             steps_writable args.inputs.now args.p.now 8192 args.s.left args.s.at [] args.regs.now _ steps.result v (omega arith) e
                 steps.ensures.place,
-          )
+          );
     }

@@ -15,7 +15,7 @@ returns-then-ok c =
       place = e.place s;
       state = e.state;
       number = e.number s;
-      lawful = e.lawful s
+      lawful = e.lawful s;
     }
 
 pub returns : goal.returns

@@ -16,7 +16,7 @@ returns-then-bad c =
           ∙ resume_5 args.inputs.now args.p.now room args.budget args.regs.now (supplied_of args.supplied) (state_of args.state)
           l v (sym unfit.ensures ∙ c.if-bad.true);
       place = λ v. refused_plain args.p.now 8192 5 args.state refusal.ensures (λ z. omega arith);
-      state = refused_back 5 args.state refusal.ensures
+      state = refused_back 5 args.state refusal.ensures;
     }
 
 pub returns-then-late : goal.returns-then-late
@@ -30,7 +30,7 @@ returns-then-late c =
           ∙ resume_11 args.inputs.now args.p.now room args.budget args.regs.now (supplied_of args.supplied) (state_of args.state)
           l v (sym unfit.ensures ∙ if1.false) (sym stale.ensures ∙ c.if-late.true);
       place = λ v. refused_plain args.p.now 8192 11 args.state refusal2.ensures (λ z. omega arith);
-      state = refused_back 11 args.state refusal2.ensures
+      state = refused_back 11 args.state refusal2.ensures;
     }
 
 pub goes-requires : goal.goes-requires
@@ -54,6 +54,6 @@ returns c =
           ∙ resume_goes args.inputs.now args.p.now room args.budget args.regs.now (supplied_of args.supplied) (state_of s)
           ks refl l v (sym unfit.ensures ∙ if1.false) (sym stale.ensures ∙ if2.false);
       place = λ v. steps_writable args.inputs.now args.p.now 8192 args.budget s.position ks args.regs.now _
-            goes.result v (omega arith) goes.ensures.reply goes.ensures.place;
-      state = steps_back args.inputs.now args.p.now args.budget s.position ks args.regs.now _ goes.result s goes.ensures.reply
+          goes.result v (omega arith) goes.ensures.reply goes.ensures.place;
+      state = steps_back args.inputs.now args.p.now args.budget s.position ks args.regs.now _ goes.result s goes.ensures.reply;
     }

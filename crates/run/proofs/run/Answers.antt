@@ -14,7 +14,7 @@ returns-then-ok c =
       reply = e.reply s;
       place = e.place s;
       number = e.number s;
-      lawful = e.lawful s
+      lawful = e.lawful s;
     }
 
 pub returns : goal.returns

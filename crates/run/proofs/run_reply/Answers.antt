@@ -14,7 +14,7 @@ returns-then-bad c =
       reply = λ v room l. refused_is args.p.now 5 args.state fresh args.regs.now refusal.ensures c.requires
           ∙ run_5 args.inputs.now args.p.now room args.budget args.regs.now l v (sym unfit.ensures ∙ c.if-bad.true);
       place = λ v. refused_plain args.p.now 8192 5 args.state refusal.ensures (λ z. omega arith);
-      state = refused_back 5 args.state refusal.ensures
+      state = refused_back 5 args.state refusal.ensures;
     }
 
 pub returns : goal.returns
@@ -28,7 +28,7 @@ returns c =
           ∙ run_goes args.inputs.now args.p.now room args.budget args.regs.now (kept_values args.state.kept)
           (ap (λ (x : Machine.State). x.kept) pre) l v (sym unfit.ensures ∙ if1.false);
       place = λ v. steps_writable args.inputs.now args.p.now 8192 args.budget 0 (kept_values args.state.kept) args.regs.now _ steps.result
-            v (omega arith) steps.ensures.reply steps.ensures.place;
+          v (omega arith) steps.ensures.reply steps.ensures.place;
       state = steps_back args.inputs.now args.p.now args.budget 0 (kept_values args.state.kept) args.regs.now _ steps.result args.state
-            steps.ensures.reply
+          steps.ensures.reply;
     }

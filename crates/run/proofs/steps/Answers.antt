@@ -18,8 +18,8 @@ loop-left-init c =
     let p = args.p.now in (
       c.if-k-eq0.auto.regs,
       elim c.if-k-eq0.branch [
-        then-k-eq0 w ↦ reaches_same inputs p (reaches_bare inputs p args.kept w.if-k-eq0.true w.along-s.ensures) w.regs-is w.left-is w.at-is
-      | else-k-eq0 w ↦ reaches_same inputs p (reaches_start inputs p args.budget args.position (kept_values args.kept) args.regs.now) w.regs-is w.left-is w.at-is
+        | then-k-eq0 w ↦ reaches_same inputs p (reaches_bare inputs p args.kept w.if-k-eq0.true w.along-s.ensures) w.regs-is w.left-is w.at-is
+        | else-k-eq0 w ↦ reaches_same inputs p (reaches_start inputs p args.budget args.position (kept_values args.kept) args.regs.now) w.regs-is w.left-is w.at-is
       ],
     )
 
@@ -43,7 +43,7 @@ returns-then-code-at c =
       reply = end_reply args.inputs.now args.p.now loop.left (args.budget - loop.left) loop.at word.result (kept_values loop.k) loop.regs
           c.finished.ensures word.ensures.0 if2.true
           ∙ c.loop-left.invariant.1.rest;
-      place = finished_place args.inputs.now args.p.now (args.budget - loop.left) loop.regs c.finished.ensures
+      place = finished_place args.inputs.now args.p.now (args.budget - loop.left) loop.regs c.finished.ensures;
     }
 
 pub step-t-requires : goal.step-t-requires
@@ -72,7 +72,7 @@ returns-in_default c =
           fresh.result c.stopped.ensures word.ensures.0 loop_test.true if2.false fresh.ensures step.ensures c.in_default.not-Next
           ∙ c.loop-left.invariant.1.rest;
       place = stop_place args.inputs.now args.p.now (args.budget - loop.left) loop.at word.result loop.k fresh.result c.stopped.ensures
-          word.ensures.0 if2.false step.ensures
+          word.ensures.0 if2.false step.ensures;
     }
 
 pub along-s-requires-in-loop-left : goal.along-s-requires-in-loop-left
@@ -93,7 +93,7 @@ loop-left-preserved c =
     let loop_test = c.loop-left-test in
     let if2 = c.if-code-at in
     let step = c.step-t in
-     let along2 = c.along-s-in-loop-left in (
+    let along2 = c.along-s-in-loop-left in (
       along2.auto.regs ∙ step.auto.regs ∙ loop.invariant.0,
       reaches_on args.inputs.now args.p.now
           (reaches_next args.inputs.now args.p.now loop.invariant.1 word.result c.in-Next.to loop_test.true if2.false word.ensures.0
@@ -119,7 +119,7 @@ returns-then-code-at-2 c =
       reply = end_reply args.inputs.now args.p.now loop.left args.budget loop.at word.result (kept_values loop.k) loop.regs
           c.finished-then-code-at-2.ensures word.ensures.0 if3.true
           ∙ reaches_all args.inputs.now args.p.now c.loop-left.invariant.1 loop_test.false;
-      place = finished_place args.inputs.now args.p.now args.budget loop.regs c.finished-then-code-at-2.ensures
+      place = finished_place args.inputs.now args.p.now args.budget loop.regs c.finished-then-code-at-2.ensures;
     }
 
 pub shape_of-regs : goal.shape_of-regs
@@ -135,5 +135,5 @@ returns c =
       reply = spent_reply args.inputs.now args.p.now loop.left args.budget loop.at word.result loop.k loop.regs c.replied.ensures
           word.ensures.0 c.if-code-at-2.false loop_test.false
           ∙ reaches_all args.inputs.now args.p.now c.loop-left.invariant.1 loop_test.false;
-      place = spent_place args.inputs.now args.p.now args.budget loop.at loop.k c.replied.ensures
+      place = spent_place args.inputs.now args.p.now args.budget loop.at loop.k c.replied.ensures;
     }

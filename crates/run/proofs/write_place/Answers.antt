@@ -9,7 +9,7 @@ use Rattle.run.proofs.write_place.Goals as goal
 pub returns-in-Domain : goal.returns-in-Domain
 returns-in-Domain c =
     let args = c.args in
-     let write_place = c.write_place in
+    let write_place = c.write_place in
     let l = c.requires in
     λ g. let w = subst (λ a. Writable args.p.now 8192 a) c.in-Domain.is g.1 in
     write_place.ensures (g.0, w.0, omega (arith, w.1, l))

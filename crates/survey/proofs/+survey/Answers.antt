@@ -45,7 +45,7 @@ overflow_sub-depth t c =
 pub survey-requires : goal.survey-requires
 survey-requires t c =
     let args = c.args in
-     let loop = c.loop-left in
+    let loop = c.loop-left in
     let h = child_room args.by.symbol args.by.state args.f.now args.table.now args.k args.depth loop.invariant.0 loop.table
     loop.has loop.fine loop.levels loop.next loop.left loop.invariant.1 (λ e. omega (arith, c.loop-left-test.true)) in
     (omega (arith, loop.invariant.0.deep, loop.invariant.1.deep), h)

@@ -86,7 +86,7 @@ grown-requires t c =
       added = node_small args.b.now args.d args.at weigh.result good.0.0
           (here_well args.b.now args.d args.left args.at if1.false pre node.result node.ensures.0)
           (first_is args.b.now args.d args.left args.at if1.false pre node.result node.ensures.0 tally.result tally.ensures
-          weigh.result weigh.ensures)
+          weigh.result weigh.ensures);
     }
 
 pub returns : goal.returns

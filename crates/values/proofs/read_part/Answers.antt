@@ -21,7 +21,7 @@ returns-then-end-input c =
     read_values.result.end read_values.result.reading read_values.new.values read_values.auto.values read_values.ensures.place
     read_values.ensures.read in record {
       place = (on.start, on.inside, on.no_newline, λ l. absurd (omega (arith, c.if-end-input.true)));
-      read = on.read
+      read = on.read;
     }
 
 pub bounds-input-end : goal.bounds-input-end
@@ -40,7 +40,7 @@ returns-then-b-eq10 c =
     read_values.result.end read_values.result.reading read_values.new.values read_values.auto.values read_values.ensures.place
     read_values.ensures.read in record {
       place = (on.start, on.inside, on.no_newline, λ l. c.if-b-eq10.true);
-      read = on.read
+      read = on.read;
     }
 
 pub overflow_add-at : goal.overflow_add-at
@@ -78,7 +78,7 @@ pub shape_of-values : goal.shape_of-values
 shape_of-values c = c.loop-at.invariant.same_length
 
 pub returns : goal.returns
-returns c =  record {
-      place = (c.loop-at.invariant.start, c.loop-at.invariant.inside, c.loop-at.invariant.no_newline, λ l. absurd (omega (arith, c.loop-at-test.false)));
-      read = c.loop-at.invariant.read
-    }
+returns c = record {
+  place = (c.loop-at.invariant.start, c.loop-at.invariant.inside, c.loop-at.invariant.no_newline, λ l. absurd (omega (arith, c.loop-at-test.false)));
+  read = c.loop-at.invariant.read;
+}

@@ -7,10 +7,10 @@ pub read_each-requires : goal.read_each-requires
 read_each-requires c = c.requires
 
 pub returns-then-digits-gt0 : goal.returns-then-digits-gt0
-returns-then-digits-gt0 c =  record {
-      place = c.read_each.ensures.place;
-      read = c.read_each.ensures.read c.args.values.now
-    }
+returns-then-digits-gt0 c = record {
+  place = c.read_each.ensures.place;
+  read = c.read_each.ensures.read c.args.values.now;
+}
 
 pub loop-at-init : goal.loop-at-init
 loop-at-init c =
@@ -59,7 +59,7 @@ loop-at-preserved c =
     let loop = c.loop-at in
     let loop_test = c.loop-at-test in
     let sixteen = c.sixteen-value in
-     let if2 = c.if-input-at-eq44 in
+    let if2 = c.if-input-at-eq44 in
     let keep = c.keep-count in
     let the_part = part args.input.now loop.at (loop.at + 16) in
     comma_run args.input.now args.from args.s args.values.now loop.at
@@ -82,7 +82,7 @@ returns-else-input-at-eq44 c =
     let loop = c.loop-at in
     let loop_test = c.loop-at-test in
     let sixteen = c.sixteen-value in
-     let between2 = c.between-else-input-at-eq44 in
+    let between2 = c.between-else-input-at-eq44 in
     let the_part = part args.input.now loop.at (loop.at + 16) in let r = value_end args.input.now args.from args.s args.values.now loop.at
     (record { good = args.s.good; count = loop.count; digits = 0; bits = 0 }) loop.values loop.invariant refl (omega (arith, loop_test.true))
     c.in-Number.bits (number_told 16 the_part the_part refl sixteen.result c.in-Number.bits c.in-Number.is sixteen.ensures)

@@ -26,7 +26,7 @@ returns-then-code-s c =
     word2.result v if1.true word2.ensures.0 value_at.ensures in record {
       reply = plain_ends _ (gives v) a.count word.result none a.registers.now e 0 bits_of.result (q.question ∷ q.first ∷ q.second ∷ [])
           a.cells.now _ refl bits_of.ensures question_cells.ensures.0 tt put_plain.ensures;
-      place = λ w. plain_place _ (gives v) a.count word.result none a.registers.now e a.path.now refl
+      place = λ w. plain_place _ (gives v) a.count word.result none a.registers.now e a.path.now refl;
     }
 
 pub returns-then-s-eq0 : goal.returns-then-s-eq0
@@ -44,7 +44,7 @@ returns-then-s-eq0 c =
     if2.true in record {
       reply = plain_ends _ spent a.count a.s.at none a.registers.now e 101 0 (q.question ∷ q.first ∷ q.second ∷ []) a.cells.now _ refl refl
           question_cells.ensures.0 tt put_plain2.ensures;
-      place = λ w. plain_place _ spent a.count a.s.at none a.registers.now e a.path.now refl
+      place = λ w. plain_place _ spent a.count a.s.at none a.registers.now e a.path.now refl;
     }
 
 pub stops-requires : goal.stops-requires

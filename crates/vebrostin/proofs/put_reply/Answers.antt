@@ -26,7 +26,7 @@ returns-then-kept-eq0 c =
     ∙ ap (λ (x : List ℕ). s.position ∷ length (kept_values k) ∷ padded 9 (kept_values k) ++ x) q.ensures.0)
     ∙ ap (λ (v : ℕ). (state_cells (state_of s) ++ (args.count ∷ v ∷ [])) ++ rest) value_of.ensures in record {
       cells = shown;
-      state = λ a. ap state_in shown ∙ written_back s args.count _ rest (none_held k empty) a q.ensures.1
+      state = λ a. ap state_in shown ∙ written_back s args.count _ rest (none_held k empty) a q.ensures.1;
     }
 
 pub returns-else-kept-eq0 : goal.returns-else-kept-eq0
@@ -43,5 +43,5 @@ returns-else-kept-eq0 c =
     ∙ ap (λ (x : List ℕ). ((s.position ∷ length (kept_values k) ∷ padded 9 (kept_values k) ++ x) ++ (args.count ∷ value_of.result ∷ [])) ++ rest) q.ensures.0
     ∙ ap (λ (v : ℕ). (state_cells (state_of s) ++ (args.count ∷ v ∷ [])) ++ rest) value_of.ensures in record {
       cells = shown;
-      state = λ a. ap state_in shown ∙ written_back s args.count _ rest (held_take k.count (places k) put_kept.ensures.held) a q.ensures.1
+      state = λ a. ap state_in shown ∙ written_back s args.count _ rest (held_take k.count (places k) put_kept.ensures.held) a q.ensures.1;
     }

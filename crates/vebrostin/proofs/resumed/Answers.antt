@@ -18,7 +18,7 @@ returns-then-ok c =
     let e = c.resumed_unchecked.ensures in
     let s = inr (whole.settled a.program.now (length a.path.now) (sym c.goes_on-ok.ensures ∙ c.if-ok.true)) in record {
       outcome = e.outcome s;
-      state = e.state s
+      state = e.state s;
     }
 
 pub returns : goal.returns

@@ -9,7 +9,7 @@ returns-then-few c =
     let e = resume_short a.inputs.now a.program.now a.budget (supplied_of a.supplied) a.registers.now a.cells.now a.path.now a.report.now (sym c.is_short-few.ensures ∙ c.if-few.true) in record {
       outcome = λ s. e.0;
       state = λ s. e.1;
-      report = refl
+      report = refl;
     }
 
 pub returns-then-no : goal.returns-then-no

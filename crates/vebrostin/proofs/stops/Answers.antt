@@ -37,7 +37,7 @@ returns-then-power c =
     known_word2.ensures.0 value_at2.ensures (sym puts_power.ensures ∙ if2.true)) in record {
       reply = plain_ends _ (asks (power x y)) args.count s.at (some (power x y)) regs e 100 0 (q.question ∷ q.first ∷ q.second ∷ []) args.cells.now _
           refl refl question_cells.ensures.0 question_cells.ensures.1 put_plain.ensures;
-      place = λ v. plain_place _ (asks (power x y)) args.count s.at (some (power x y)) regs e args.path.now refl
+      place = λ v. plain_place _ (asks (power x y)) args.count s.at (some (power x y)) regs e args.path.now refl;
     }
 
 pub overflow_sub-op : goal.overflow_sub-op
@@ -69,7 +69,7 @@ returns-then-function c =
       reply = plain_ends _ (asks (elementary (op - 20) x)) args.count s.at (some (elementary (op - 20) x)) regs e 100 0
           (q.question ∷ q.first ∷ q.second ∷ []) args.cells.now _ refl refl question_cells2.ensures.0 question_cells2.ensures.1
           put_plain2.ensures;
-      place = λ v. plain_place _ (asks (elementary (op - 20) x)) args.count s.at (some (elementary (op - 20) x)) regs e args.path.now refl
+      place = λ v. plain_place _ (asks (elementary (op - 20) x)) args.count s.at (some (elementary (op - 20) x)) regs e args.path.now refl;
     }
 
 pub returns : goal.returns
@@ -80,5 +80,5 @@ returns c =
     let b = args.program.now in
     let r = rest.result in record {
       reply = reply_ends b r _ _ args.cells.now _ _ rest.ensures.reply c.number_of.ensures put_reply.ensures.cells put_reply.ensures.state;
-      place = λ v. placed_as args.path.now rest.ensures.reply (rest.ensures.place v)
+      place = λ v. placed_as args.path.now rest.ensures.reply (rest.ensures.place v);
     }

@@ -17,7 +17,7 @@ returns-then-few c =
     (sym c.is_short-few.ensures ∙ c.if-few.true) in record {
       outcome = λ s. e.0;
       state = λ s. e.1;
-      report = refl
+      report = refl;
     }
 
 pub is_direct-direct-requires : goal.is_direct-direct-requires

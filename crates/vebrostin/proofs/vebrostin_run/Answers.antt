@@ -21,7 +21,7 @@ returns-then-ok c =
     let vebrostin_run_unchecked = c.vebrostin_run_unchecked in
     let s = inr (whole.settled a.program.now (length a.path.now) (sym goes_on.ensures ∙ if2.true)) in record {
       outcome = vebrostin_run_unchecked.ensures.outcome s;
-      state = vebrostin_run_unchecked.ensures.state s
+      state = vebrostin_run_unchecked.ensures.state s;
     }
 
 pub put_plain-requires : goal.put_plain-requires

@@ -75,5 +75,5 @@ returns c =
       reply = ap (λ (x : Played). x.reply) e;
       place = ap (λ (x : Played). x.path) e;
       demand = demand args.inputs.now args.p.now args.path.now args.rooms.now args.budgets.now args.flags.now args.values.now
-            args.regs.now _ (ap (λ (x : Played). x.reply) e)
+          args.regs.now _ (ap (λ (x : Played). x.reply) e);
     }

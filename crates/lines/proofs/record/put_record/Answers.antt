@@ -27,5 +27,5 @@ returns c =
           (o.ensures.answers ∙ found_record a.p.now f.new.values (length a.regs.now) ready (values_of seen) f.result (f.ensures seen r))
           (record { wrote = w.ensures.wrote; adds = t.ensures a.p.now a.number });
       beyond = wrote_some a.out.now a.at _ w.new.out w.result w.ensures.wrote (omega (arith, w.ensures.room, c.requires.1));
-      room = w.ensures.room
+      room = w.ensures.room;
     }

@@ -34,5 +34,5 @@ returns c =
     let run_reply = c.run_reply-r in record {
       runs = ran args.p.now pre.0 args.inputs.now (take word2.result zero_registers.new.regs) run_reply.new.regs word.result
           run_reply.result _ (zero_registers.ensures ∙ ap (λ (n : ℕ). replicate n 0f) word2.ensures.0) word.ensures.0 (run_reply.ensures.reply pre.0 8192 (omega arith)) refl;
-      place = run_reply.ensures.place pre.0
+      place = run_reply.ensures.place pre.0;
     }

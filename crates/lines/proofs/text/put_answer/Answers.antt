@@ -28,55 +28,55 @@ put_bad-requires c = omega (arith, c.requires.2)
 pub returns-in-Value : goal.returns-in-Value
 returns-in-Value c =
     let args = c.args in
-     let put_value = c.put_value in record {
+    let put_value = c.put_value in record {
       wrote = subst (λ (a : Answer). Wrote args.out.now args.at (shown (line_of (answer_of args.p.now a) 0)) put_value.new.out put_value.result)
           (sym c.in-Value.is) put_value.ensures;
-      room = omega (arith, put_value.ensures.ends)
+      room = omega (arith, put_value.ensures.ends);
     }
 
 pub returns-in-Elementary : goal.returns-in-Elementary
 returns-in-Elementary c =
     let args = c.args in
-     let put_elementary = c.put_elementary in record {
+    let put_elementary = c.put_elementary in record {
       wrote = subst
           (λ (a : Answer). Wrote args.out.now args.at (shown (line_of (answer_of args.p.now a) 0)) put_elementary.new.out put_elementary.result)
           (sym c.in-Elementary.is) put_elementary.ensures.wrote;
-      room = omega (arith, put_elementary.ensures.room)
+      room = omega (arith, put_elementary.ensures.room);
     }
 
 pub returns-in-Power : goal.returns-in-Power
 returns-in-Power c =
     let args = c.args in
-     let put_power = c.put_power in record {
+    let put_power = c.put_power in record {
       wrote = subst (λ (a : Answer). Wrote args.out.now args.at (shown (line_of (answer_of args.p.now a) 0)) put_power.new.out put_power.result)
           (sym c.in-Power.is) put_power.ensures;
-      room = omega (arith, put_power.ensures.ends)
+      room = omega (arith, put_power.ensures.ends);
     }
 
 pub returns-in-Spent : goal.returns-in-Spent
 returns-in-Spent c =
     let args = c.args in
-     let put_bytes = c.put_bytes in record {
+    let put_bytes = c.put_bytes in record {
       wrote = subst (λ (a : Answer). Wrote args.out.now args.at (shown (line_of (answer_of args.p.now a) 0)) put_bytes.new.out put_bytes.result)
           (sym c.in-Spent.is) (wrote args.out.now args.at (ascii "spent,") put_bytes.new.out put_bytes.result put_bytes.ensures);
-      room = omega (arith, put_bytes.ensures.0)
+      room = omega (arith, put_bytes.ensures.0);
     }
 
 pub returns-in-Domain : goal.returns-in-Domain
 returns-in-Domain c =
     let args = c.args in
-     let put_domain = c.put_domain in record {
+    let put_domain = c.put_domain in record {
       wrote = subst
           (λ (a : Answer). Wrote args.out.now args.at (shown (line_of (answer_of args.p.now a) 0)) put_domain.new.out put_domain.result)
           (sym c.in-Domain.is) put_domain.ensures.wrote;
-      room = put_domain.ensures.room
+      room = put_domain.ensures.room;
     }
 
 pub returns-in-Refused : goal.returns-in-Refused
 returns-in-Refused c =
     let args = c.args in
-     let put_bad = c.put_bad in record {
+    let put_bad = c.put_bad in record {
       wrote = subst (λ (a : Answer). Wrote args.out.now args.at (shown (line_of (answer_of args.p.now a) 0)) put_bad.new.out put_bad.result)
           (sym c.in-Refused.is) put_bad.ensures.wrote;
-      room = omega (arith, put_bad.ensures.room)
+      room = omega (arith, put_bad.ensures.room);
     }

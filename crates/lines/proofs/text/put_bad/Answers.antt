@@ -17,5 +17,5 @@ returns c =
           put_decimal.result (omega (arith, put_bytes.ensures.0, pre))
           (wrote args.out.now args.at (ascii "bad,") put_bytes.new.out put_bytes.result put_bytes.ensures)
           (wrote put_bytes.new.out put_bytes.result (decimal args.n) put_decimal.new.out put_decimal.result put_decimal.ensures);
-      room = omega (arith, decimal_byte args.n fits.n.fits, put_bytes.ensures.0, put_decimal.ensures.0)
+      room = omega (arith, decimal_byte args.n fits.n.fits, put_bytes.ensures.0, put_decimal.ensures.0);
     }

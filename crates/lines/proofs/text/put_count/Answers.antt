@@ -25,5 +25,5 @@ returns c =
       wrote = wrote_then a.out.now a.at (decimal a.n) w.new.out w.result a.after.now v.new.out v.result
           (omega (arith, w.ensures.0, pre.0)) (wrote a.out.now a.at (decimal a.n) w.new.out w.result w.ensures)
           (wrote w.new.out w.result a.after.now v.new.out v.result v.ensures);
-      room = omega (arith, w.ensures.0, v.ensures.0, pre.1)
+      room = omega (arith, w.ensures.0, v.ensures.0, pre.1);
     }

@@ -26,5 +26,5 @@ returns c =
           (wrote args.out.now args.at (ascii "domain,") put_bytes.new.out put_bytes.result put_bytes.ensures)
           (path_wrote put_bytes.new.out put_bytes.result path_length.result the_path_of write_place.new.out h l
           (write_place.ensures (pre.0, pre.1, omega (arith, m, path_length.ensures))));
-      room = omega (arith, path_length.ensures, put_bytes.ensures.0, pre.2)
+      room = omega (arith, path_length.ensures, put_bytes.ensures.0, pre.2);
     }

@@ -56,5 +56,5 @@ returns c =
     (wrote put_bytes.new.out put_bytes.result (decimal args.f) put_decimal.new.out put_decimal.result put_decimal.ensures)
     (wrote put_decimal.new.out put_decimal.result colon put_bytes2.new.out put_bytes2.result put_bytes2.ensures) put_bits.ensures in record {
       wrote = w;
-      room = let e4 = put_bits.ensures.ends in omega arith
+      room = let e4 = put_bits.ensures.ends in omega arith;
     }

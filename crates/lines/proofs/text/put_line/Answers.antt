@@ -195,5 +195,5 @@ returns c =
         put_decimal2.auto.out,
         put_bytes3.ensures.0,
         pre.2,
-      )
+      );
     }

@@ -150,5 +150,5 @@ returns c =
         put_bytes4.ensures.0,
         pre.0,
         pre.1,
-      )
+      );
     }

@@ -22,5 +22,5 @@ returns c =
       wrote = total_wrote a.out.now a.at (totals_of a.t) w1.new.out w2.new.out w3.new.out w4.new.out w5.new.out w6.new.out
           w1.result w2.result w3.result w4.result w5.result w6.result (omega arith) (omega arith) (omega arith) (omega arith) (omega arith)
           (wrote a.out.now a.at (ascii "total,") w1.new.out w1.result w1.ensures) w2.ensures.wrote w3.ensures.wrote w4.ensures.wrote w5.ensures.wrote w6.ensures.wrote;
-      room = omega arith
+      room = omega arith;
     }
