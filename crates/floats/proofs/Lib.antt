@@ -3,4 +3,5 @@ mod Zeros
 mod Truncate
 mod Bits
 mod RootSteps
+mod Remainders
 pub mod Values

@@ -17,9 +17,7 @@ use Rattle.lines.proofs.Compose.{whole_output}
 use Rattle.lines.proofs.Feeding.{Feeding, SameLengths, feeding_advances, feeding_end, feeding_start, feeding_step}
 use Rattle.lines.proofs.Texts.{wrote_then}
 use Rattle.legs_cases.specs.declared.Listing.{Listing}
-use Rattle.legs_cases.specs.declared.Listing.TheVariants as Listing
 use Rattle.legs_cases.specs.declared.Fed.{Fed}
-use Rattle.legs_cases.specs.declared.Fed.TheVariants as Fed
 use Rattle.legs_cases.specs.Listed.{Copies, FeedsAll, Fits, Lists}
 
 -- ---- the loop over the blocks: what came of the bytes before a place stands in the whole

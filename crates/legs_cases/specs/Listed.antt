@@ -5,9 +5,7 @@ use Rattle.lines.specs.declared.Stage.{Stage}
 use Rattle.lines.specs.Text.{Wrote}
 use Rattle.lines.specs.Owed.{Advances, Memory, Owed, file_of}
 use Rattle.legs_cases.specs.declared.Listing.{Listing}
-use Rattle.legs_cases.specs.declared.Listing.TheVariants as Listing
 use Rattle.legs_cases.specs.declared.Fed.{Fed}
-use Rattle.legs_cases.specs.declared.Fed.TheVariants as Fed
 
 -- all of a text stands in the slice from a place on
 pub record Fits (all : List ℕ) (from : ℕ) (text all' : List ℕ) (end : ℕ) : Type 0 where

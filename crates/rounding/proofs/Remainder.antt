@@ -29,7 +29,7 @@ use Rattle.rounding.proofs.Once.{sign_back, difference, add_is}
 use Rattle.rounding.proofs.Order.{le_shows, le_of_values±, zero_left}
 
 -- ---- remainders of multiples
-scaled_mod : (a b k : ℕ) → 0 < b → 0 < k → a * k % (b * k) ≡ a % b * k
+pub scaled_mod : (a b k : ℕ) → 0 < b → 0 < k → a * k % (b * k) ≡ a % b * k
 scaled_mod a b k B K = ap (λ (z : ℕ). z % (b * k)) split ∙ digits_mod (a / b) (mul-lt-mul_of_pos_right (mod-lt a B) K)
   where
     split : a * k ≡ a / b * (b * k) + a % b * k
