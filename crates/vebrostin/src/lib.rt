@@ -1,6 +1,6 @@
 #![tactic(auto)]
-// The library for C and Rust: compile, derive, run and resume over numbers and slices, each under a C name. include/vebrostin.h declares
-// them. No caller owes anything but slices that are there.
+// The library: compile, derive, run and resume over numbers and slices. The crate vebrostin_c gives each to C and Rust under its C name.
+// No caller owes anything but slices that are there.
 ghost use Rattle.std.specs.Prelude.{◌≡◌, true, false, cond, ◌||◌, [], ◌∷◌, ◌++◌, ◌+◌, ◌<◌, ◌≤◌, min, drop, get_or, length, ltb};
 ghost use Rattle.std.proofs.Math.Option.{none, some};
 ghost use Rattle.formula.specs.Text.{word_at};
@@ -56,8 +56,7 @@ fn compile_told(given: compile::Answer) -> Told
 }
 
 // 0 and a program, or the refusal, with its node in the report.
-#[unsafe(no_mangle)]
-pub extern "C" fn vebrostin_compile(
+pub fn vebrostin_compile(
     formula: &[u8],
     names: &[u8],
     path: &mut [u8],
@@ -92,8 +91,7 @@ fn derive_told(given: derive::Answer) -> Told
 }
 
 // 0, a derivative tree, the records of its nodes and its program, or the refusal, with its node in the report.
-#[unsafe(no_mangle)]
-pub extern "C" fn vebrostin_derive(
+pub fn vebrostin_derive(
     formula: &[u8],
     names: &[u8],
     symbol: u32,
@@ -115,30 +113,26 @@ pub extern "C" fn vebrostin_derive(
 }
 
 // Whether run and resume take the bytes.
-#[unsafe(no_mangle)]
-pub extern "C" fn vebrostin_is_program(program: &[u8]) -> bool
+pub fn vebrostin_is_program(program: &[u8]) -> bool
     ensures { result ≡ valid (program_at program.now) }
 {
     program::is_program(program)
 }
 
 // The counts of a program's header.
-#[unsafe(no_mangle)]
-pub extern "C" fn vebrostin_instructions(program: &[u8]) -> usize
+pub fn vebrostin_instructions(program: &[u8]) -> usize
     ensures { result ≡ word_at program.now 4 }
 {
     reader::word(program, CODE_AT)
 }
 
-#[unsafe(no_mangle)]
-pub extern "C" fn vebrostin_registers(program: &[u8]) -> usize
+pub fn vebrostin_registers(program: &[u8]) -> usize
     ensures { result ≡ word_at program.now 8 }
 {
     reader::word(program, REGISTERS_AT)
 }
 
-#[unsafe(no_mangle)]
-pub extern "C" fn vebrostin_inputs(program: &[u8]) -> usize
+pub fn vebrostin_inputs(program: &[u8]) -> usize
     ensures { result ≡ word_at program.now 16 }
 {
     reader::word(program, INPUTS_AT)
@@ -538,8 +532,7 @@ fn is_short(cells: &[u64], report: &[u64]) -> bool
 }
 
 // 0 and a value, 100 and a question, 101 for spent, or the refusal; the state, the count and the value stand in the cells.
-#[unsafe(no_mangle)]
-pub extern "C" fn vebrostin_run(
+pub fn vebrostin_run(
     program: &[u8],
     inputs: &[f64],
     registers: &mut [f64],
@@ -591,8 +584,7 @@ fn resumed(
 }
 
 // Goes on with no value: a question that pends is put again.
-#[unsafe(no_mangle)]
-pub extern "C" fn vebrostin_resume(
+pub fn vebrostin_resume(
     program: &[u8],
     inputs: &[f64],
     registers: &mut [f64],
@@ -617,8 +609,7 @@ pub extern "C" fn vebrostin_resume(
 }
 
 // Goes on with the value for the question that pends.
-#[unsafe(no_mangle)]
-pub extern "C" fn vebrostin_answer(
+pub fn vebrostin_answer(
     program: &[u8],
     inputs: &[f64],
     registers: &mut [f64],
@@ -647,8 +638,7 @@ pub extern "C" fn vebrostin_answer(
 
 // As `vebrostin_run`, without the check of the bytes: where they are a program, or a slice is too short, it is that.
 // Otherwise it ends too and stays inside the slices; what it answers and leaves in them, but for the report, is free.
-#[unsafe(no_mangle)]
-pub extern "C" fn vebrostin_run_unchecked(
+pub fn vebrostin_run_unchecked(
     program: &[u8],
     inputs: &[f64],
     registers: &mut [f64],
@@ -709,8 +699,7 @@ fn resumed_unchecked(
 }
 
 // As `vebrostin_resume`, without the check.
-#[unsafe(no_mangle)]
-pub extern "C" fn vebrostin_resume_unchecked(
+pub fn vebrostin_resume_unchecked(
     program: &[u8],
     inputs: &[f64],
     registers: &mut [f64],
@@ -736,8 +725,7 @@ pub extern "C" fn vebrostin_resume_unchecked(
 }
 
 // As `vebrostin_answer`, without the check.
-#[unsafe(no_mangle)]
-pub extern "C" fn vebrostin_answer_unchecked(
+pub fn vebrostin_answer_unchecked(
     program: &[u8],
     inputs: &[f64],
     registers: &mut [f64],
