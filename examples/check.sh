@@ -1,6 +1,6 @@
 #!/bin/sh
-# Makes each example again, runs `legs` on it and compares with what stands beside it, and so with the terms of derivatives. LEGS names the
-# program, and tools/library/build.sh builds the command that makes them.
+# Makes each example again, runs `legs` on it and compares with what stands beside it, and so with the terms of derivatives. tools/legs/build.sh
+# builds `legs` (LEGS names another program), and tools/library/build.sh the command that makes them.
 set -e
 cd "$(dirname "$0")/.."
 mkdir -p target/examples

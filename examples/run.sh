@@ -17,11 +17,7 @@ if [ ! -f "examples/$name/formula.bin" ]; then
     exit 2
 fi
 mkdir -p target/examples
-if ! rt check legs > target/examples/legs.log 2>&1; then
-    tail -n 20 target/examples/legs.log >&2
-    echo "legs could not be built; target/examples/legs.log has it all" >&2
-    exit 1
-fi
+tools/legs/build.sh
 tools/library/runner.sh target/bin/legs target/examples/legs
 legs=$(realpath target/examples/legs)
 cd "examples/$name"

@@ -1,4 +1,4 @@
-//! Links the static library that `rt staticlib vebrostin` writes; VEBROSTIN_LIB names another folder.
+//! Links the static library that tools/library/build.sh writes; VEBROSTIN_LIB names another folder.
 fn main() {
     let folder = std::env::var("VEBROSTIN_LIB").unwrap_or_else(|_| {
         let here = std::env::var("CARGO_MANIFEST_DIR").expect("cargo says where the crate is");

@@ -1,8 +1,8 @@
 #!/bin/sh
 # Times compile, derive, run and legs beside the Rust reference on the same inputs, in one run, as tables. Needs rt, rustc, cc.
-# legs is target/bin/legs, or what LEGS names; without it there is no table of lines a second. Where BEFORE names another build of
-# legs, only the two builds are timed, side by side. Where DERIVE_BEFORE names a libvebrostin.a from before there were records, only derive
-# of that build and of this one is timed, side by side.
+# legs is target/bin/legs (tools/legs/build.sh), or what LEGS names; without it there is no table of lines a second. Where BEFORE names
+# another build of legs, only the two builds are timed, side by side. Where DERIVE_BEFORE names a libvebrostin.a from before there were
+# records, only derive of that build and of this one is timed, side by side.
 set -e
 cd "$(dirname "$0")/../.."
 out=target/library

@@ -1,6 +1,6 @@
 #!/bin/sh
 # Compares the library with the Rust reference on random and damaged formulas: run.sh SEED COUNT. Needs rt, rustc and cc only.
-# Where target/bin/legs is there, its output is compared too; LEGS names another program.
+# Where target/bin/legs is there (tools/legs/build.sh), its output is compared too; LEGS names another program.
 set -e
 cd "$(dirname "$0")/../.."
 [ $# -eq 2 ] || { echo "usage: $0 SEED COUNT" >&2; exit 2; }

@@ -1,6 +1,7 @@
 /* floats' Sqrt, Floor, Ceil and Modulo beside the C library's on random bits, bit for bit.
    From the root of a scratch checkout with the crate float_exports in it (README.md):
-   rt staticlib float_exports && gcc -O2 -fno-builtin tools/floats/compare.c target/staticlib/libfloat_exports.a -lm -o /tmp/compare && /tmp/compare 100000000 */
+   (cd crates/float_exports && rt lib) &&
+   gcc -O2 -fno-builtin tools/floats/compare.c crates/float_exports/out/libfloat_exports.a -lm -o /tmp/compare && /tmp/compare 100000000 */
 #include <math.h>
 #include <stdint.h>
 #include <stdio.h>

@@ -1,6 +1,7 @@
 /* Nanoseconds a call of floats' Sqrt, Floor, Ceil and Modulo beside the C library's, in one run on the same arguments.
    From the root of a scratch checkout with the crate float_exports in it (README.md):
-   rt staticlib float_exports && gcc -O2 -fno-builtin tools/floats/speed.c target/staticlib/libfloat_exports.a -lm -o /tmp/speed && /tmp/speed
+   (cd crates/float_exports && rt lib) &&
+   gcc -O2 -fno-builtin tools/floats/speed.c crates/float_exports/out/libfloat_exports.a -lm -o /tmp/speed && /tmp/speed
    -fno-builtin makes sqrt, floor, ceil and fmod calls. */
 #include <math.h>
 #include <stdint.h>

@@ -4,7 +4,7 @@ set -e
 here=$(cd "$(dirname "$0")" && pwd)
 root=$here/../..
 oracle=${ORACLE:-/tmp/oracle/oracle}
-(cd "$root" && rt check legs | tail -1)
+"$root/tools/legs/build.sh"
 [ -x "$oracle" ] || OUT=$oracle "$root/reference/build.sh"
 legs=$(mktemp)
 trap 'rm -f "$legs"' EXIT

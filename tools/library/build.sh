@@ -4,7 +4,9 @@ set -e
 cd "$(dirname "$0")/../.."
 out=target/library
 mkdir -p "$out"
-RT_JOBS=${RT_JOBS:-1} rt staticlib vebrostin
+mkdir -p target/staticlib
+(cd crates/vebrostin_c && rt lib)
+cp crates/vebrostin_c/out/libvebrostin_c.a target/staticlib/libvebrostin.a
 rustc --edition 2021 -O --crate-type rlib --crate-name vebrostin rust/src/lib.rs -L target/staticlib -l static=vebrostin --out-dir "$out"
 rustc --edition 2021 -O --crate-name vebrostin_command rust/src/bin/vebrostin/main.rs --extern vebrostin="$out/libvebrostin.rlib" -o "$out/vebrostin"
 rustc --edition 2021 -O examples/fuel_per_mile.rs --extern vebrostin="$out/libvebrostin.rlib" -o "$out/fuel_per_mile_rust"
