@@ -74,7 +74,7 @@ pub fn read_values(b: &[u8], at: usize, out: &mut [f64]) {
     }
 }
 
-#[derive(Drop)]
+#[derive(Clone, Copy)]
 pub struct Digits {
     pub fine: bool,
     pub value: u64,
@@ -195,7 +195,7 @@ pub fn all(a: bool, b: bool) -> bool {
 pub const MOST: u64 = 1_000_000;
 
 // The cases so far, the calls in them, how many cases came out otherwise than recorded, and whether the record ended.
-#[derive(Drop)]
+#[derive(Clone, Copy)]
 pub struct Tally {
     pub cases: u64,
     pub calls: u64,
@@ -239,8 +239,9 @@ pub fn counted(stdout: Stdout, t: Tally, right: bool, calls: u64) -> io::Result<
 }
 
 // Writes a number and what it counts.
-pub fn say(stdout: Stdout, n: u64, text: &str) -> io::Result<()> {
-    print!(stdout; "{n}{text}")
+pub fn say(stdout: Stdout, n: u64, text: &[u8]) -> io::Result<()> {
+    print!(stdout; "{n}")?;
+    stdout.write_all(text)
 }
 
 pub fn verdict(stdout: Stdout, t: Tally) -> io::Result<()> {

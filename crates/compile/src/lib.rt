@@ -147,7 +147,7 @@ pub fn write(
 }
 
 // How many symbols there are, or a refusal, or one at a node.
-#[derive(Drop)]
+#[derive(Clone, Copy)]
 pub enum Reading {
     Symbols(usize),
     Refused(u8),
@@ -155,7 +155,7 @@ pub enum Reading {
 }
 
 // What is known before the formula is gone into; the kinds of the symbols are all zero in a refusal.
-#[derive(Drop)]
+#[derive(Clone, Copy)]
 pub struct Prepared {
     pub reading: Reading,
     pub kinds: [u8; 256],
@@ -242,7 +242,7 @@ pub fn compile(formula: &[u8], names: &[u8], path: &mut [u8], program: &mut [u8]
 // ---- a formula lowered for its own sake
 
 // Whether a formula is Boolean, or the refusal of its first fault.
-#[derive(Drop)]
+#[derive(Clone, Copy)]
 pub enum Lowered {
     Kind(bool),
     Refused(u8),

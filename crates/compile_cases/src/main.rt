@@ -95,6 +95,6 @@ fn main(rt: HostRuntime) -> io::Result<()> {
     let mut b = [0u8; 327680];
     cases::read_full(rt.stdin(), &mut b);
     let t = all_cases(stdout, &b, reader::word(&b, 0))?;
-    say(stdout, t.cases, " cases, ")?;
-    say(stdout, t.wrong, " differ\n")
+    say(stdout, t.cases, b" cases, ")?;
+    say(stdout, t.wrong, b" differ\n")
 }

@@ -14,7 +14,7 @@ use derive::derive;
 use run::Reply;
 
 // "a formula that compiles, or its derivative by a named symbol where one is given"
-#[derive(Drop)]
+#[derive(Clone, Copy)]
 pub enum Wanted {
     Formula,
     Derivative(usize),
@@ -60,7 +60,7 @@ fn write_program(
 }
 
 // The refusal of compile or derive, with a node where it has one, or the reply to the last call.
-#[derive(Drop)]
+#[derive(Clone, Copy)]
 pub enum Played {
     Refused(u8),
     RefusedAt(u8, usize),

@@ -1,6 +1,6 @@
 #![tactic(auto)]
 // Plays lists of calls that tools/compare recorded, every beginning of each, from slices filled anew: by `demand::make_and_play`, and by
-// `hosted::make_and_call`, which hands the cells from one C function to the next. The answers are the Rust reference's, and for budgets
+// `hosted::make_and_call`, which hands the cells from one function of the library to the next. The answers are the Rust reference's, and for budgets
 // and refused calls those of the model in tools/compare/machine.rs, whose whole runs agree with the reference's.
 //
 // Standard input has a record for each case; numbers are 8 bytes, the least first. A case has 12 numbers (`Head`), then formula, names and
@@ -172,7 +172,7 @@ fn is_played(b: &[u8], refusal: usize, node: u64, p: Played) -> bool {
     }
 }
 
-// ---- by the C functions
+// ---- by the library's functions
 
 fn by_host(
     h: Head,
@@ -594,7 +594,7 @@ fn main(rt: HostRuntime) -> io::Result<()> {
         }
         i += 1;
     }
-    say(stdout, t.cases, " cases, ")?;
-    say(stdout, t.calls, " calls\n")?;
+    say(stdout, t.cases, b" cases, ")?;
+    say(stdout, t.calls, b" calls\n")?;
     cases::verdict(stdout, t)
 }

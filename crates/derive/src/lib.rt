@@ -28,7 +28,7 @@ use survey::{By, survey_formula, with_primal};
 use writer::zero_from;
 
 // A tree of so many nodes, its records and its program stand in their slices, or derive refused by a number, or by a number and the node from 0.
-#[derive(Drop)]
+#[derive(Clone, Copy)]
 pub enum Answer {
     Derived(usize),
     Refused(u8),

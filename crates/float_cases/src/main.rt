@@ -96,6 +96,6 @@ fn main(rt: HostRuntime) -> io::Result<()> {
         }
         i += 1;
     }
-    cases::say(stdout, t.cases, " cases\n")?;
+    cases::say(stdout, t.cases, b" cases\n")?;
     cases::verdict(stdout, t)
 }

@@ -1,4 +1,4 @@
--- The loop over a host's list of calls: what the C functions leave, and that it follows the machine's replies.
+-- The loop over a host's list of calls: what the library's functions leave, and that it follows the machine's replies.
 use mathlib.Core.Path.{◌≡◌, refl, ap, ap₂, sym, ◌∙◌, subst}
 use mathlib.Core.Bool.{Bool, true, false, ◌||◌}
 use mathlib.Core.List.{List, [], ◌∷◌, ◌++◌}
@@ -25,7 +25,7 @@ use Rattle.vebrostin.proofs.Crossing.{written_count, written_question, written_v
 use Rattle.hosted.specs.Hosted.{host_at, hosting, lent, resumed}
 use Rattle.hosted.specs.Owed.{Follows, Shows}
 
--- ---- the C functions' definitions
+-- ---- the definitions of the library's functions
 
 abbrev pub left : ℕ → List ℕ → List Float → List ℕ → List ℕ → Outcome
 left number cells regs path report = record { number = number; cells = cells; registers = regs; path = path; report = report }

@@ -1,3 +1,3 @@
--- Demand 3 for a host that has only the C functions.
+-- Demand 3 for a host that has only the library's functions.
 pub mod Hosted
 pub mod Owed

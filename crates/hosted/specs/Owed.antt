@@ -34,7 +34,7 @@ abbrev pub Makes : Made → ℕ → List ℕ → List ℕ → Type 0
 Makes X number path path' = (number ≡ made_number X) × (path' ≡ placed (place_of X) path)
 
 -- A refusal of compile or derive, which with a short report is 1: its number, its place or its node, and registers and cells as they were. Else number, cells,
--- registers, path slice and report are those of the C functions' definitions. With fewer than sixteen cells that is 1, and no call writes. With sixteen it is
+-- registers, path slice and report are those of the definitions of the library's functions. With fewer than sixteen cells that is 1, and no call writes. With sixteen it is
 -- the machine's last reply; and "finite inputs of the declared count and the registers that 01 asks for" given, that reply owes what the tree reading gives, and
 -- the counts add up to at most the instructions that the code holds.
 abbrev pub Owes : Made → List ℕ → List Float → List ℕ → List ℕ → List ℕ → List Float → List Float → List Float → List ℕ → List ℕ → List ℕ → List ℕ → List ℕ → List ℕ → ℕ → Type 0

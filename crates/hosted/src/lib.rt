@@ -1,5 +1,5 @@
 #![tactic(auto)]
-// Demand 3 for a host that has only the C functions of `vebrostin`: compile or derive, then a list of calls that hand the cells on.
+// Demand 3 for a host that has only the functions of `vebrostin`, which `vebrostin_c` gives under C names: compile or derive, then a list of calls that hand the cells on.
 ghost use Rattle.std.specs.Prelude.{◌≡◌, false, length};
 ghost use Rattle.run.specs.Calls.{resume_at};
 ghost use Rattle.run.specs.Views.{supplied_of};
@@ -18,7 +18,7 @@ use vebrostin::{
 };
 
 // "a formula that compiles, or its derivative by a named symbol where one is given"
-#[derive(Drop)]
+#[derive(Clone, Copy)]
 pub enum Wanted {
     Formula,
     Derivative(u32),

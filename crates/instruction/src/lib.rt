@@ -19,14 +19,14 @@ use reader::{byte, half, long, word};
 use work::{Kept, Outcome};
 
 // What an instruction does: a node's work, or a jump.
-#[derive(Drop)]
+#[derive(Clone, Copy)]
 pub enum Effect {
     Work(Outcome),
     Jump(usize),
 }
 
 // An instruction that was done, or why it was not: where the run goes on, the record of the path of a Domain, a question.
-#[derive(Drop)]
+#[derive(Clone, Copy)]
 pub enum Progress {
     Next(usize),
     Domain(usize),

@@ -427,7 +427,7 @@ fn main(rt: HostRuntime) -> io::Result<()> {
         }
         i += 1;
     }
-    say(stdout, t.cases, " cases, ")?;
-    say(stdout, t.calls, " calls\n")?;
+    say(stdout, t.cases, b" cases, ")?;
+    say(stdout, t.calls, b" calls\n")?;
     cases::verdict(stdout, t)
 }

@@ -42,7 +42,7 @@ pub enum Stage {
 }
 
 // The next stage, how many bytes of the input were used, and how many of the output were written.
-#[derive(Drop)]
+#[derive(Clone, Copy)]
 pub struct Advanced {
     pub stage: Stage,
     pub used: usize,
@@ -50,7 +50,7 @@ pub struct Advanced {
 }
 
 // A stage, and how many bytes of the output were written.
-#[derive(Drop)]
+#[derive(Clone, Copy)]
 pub struct Begun {
     pub stage: Stage,
     pub length: usize,

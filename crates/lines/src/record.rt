@@ -14,7 +14,7 @@ use run::Answer;
 use values::{Found, Reading, finish};
 
 // An answer, and the instructions completed.
-#[derive(Drop)]
+#[derive(Clone, Copy)]
 pub struct Outcome {
     pub answer: Answer,
     pub count: usize,
@@ -76,7 +76,7 @@ fn answer_of(p: &[u8], found: Found, values: &[f64], regs: &mut [f64]) -> Outcom
 }
 
 // Where a record ends, and the totals with its line.
-#[derive(Drop)]
+#[derive(Clone, Copy)]
 pub struct Recorded {
     pub end: usize,
     pub totals: Totals,

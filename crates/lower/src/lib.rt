@@ -25,7 +25,7 @@ use refusals::{INVALID_INPUT, OUTSIDE_DOMAIN, UNKNOWN_SYMBOL, UNSUPPORTED, WRONG
 use writer::{put_half, put_long, put_word};
 
 // Where path records and list entries begin, and whether the formula is a derivative.
-#[derive(Drop)]
+#[derive(Clone, Copy)]
 pub struct Layout {
     pub paths: usize,
     pub lists: usize,
@@ -33,7 +33,7 @@ pub struct Layout {
 }
 
 // A place in the formula, and what is next free: register, instruction, path record, list entry.
-#[derive(Drop)]
+#[derive(Clone, Copy)]
 pub struct Cursor {
     pub node: usize,
     pub reg: usize,
@@ -43,14 +43,14 @@ pub struct Cursor {
 }
 
 // A node's path: the number of its record, and the length of its text.
-#[derive(Drop)]
+#[derive(Clone, Copy)]
 pub struct Site {
     pub path: usize,
     pub length: usize,
 }
 
 // A node's register, or the first three of its children's; whether it is Boolean; whether it varies.
-#[derive(Drop)]
+#[derive(Clone, Copy)]
 pub struct Value {
     pub a: usize,
     pub b: usize,
@@ -60,7 +60,7 @@ pub struct Value {
 }
 
 // A lowered part, or a refusal: its number and the number of its path's record.
-#[derive(Drop)]
+#[derive(Clone, Copy)]
 pub enum Low {
     Done(Value, Cursor),
     Fault(u8, usize),

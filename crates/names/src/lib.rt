@@ -242,7 +242,7 @@ fn comes_again(
 }
 
 // The names of a line: how many there are, and the kind of each, 0 parameter, 1 state, 2 time, 3 input; zeros after them.
-#[derive(Drop)]
+#[derive(Clone, Copy)]
 pub struct Names {
     pub ok: bool,
     pub count: usize,

@@ -144,7 +144,7 @@ fn is_head(f: Fields) -> bool
 }
 
 // What formula bytes are: a formula, or what is wrong with them, at which node from 0.
-#[derive(Drop)]
+#[derive(Clone, Copy)]
 pub enum Received {
     Whole,
     EndedEarly(usize),

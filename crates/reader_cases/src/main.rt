@@ -260,6 +260,6 @@ fn main(rt: HostRuntime) -> io::Result<()> {
     let n = cases::read_full(rt.stdin(), &mut text);
     let mut work = [0u8; 262272];
     let t = all_cases(stdout, &text[0..n], &mut work)?;
-    cases::say(stdout, t.cases, " cases\n")?;
+    cases::say(stdout, t.cases, b" cases\n")?;
     cases::verdict(stdout, t)
 }

@@ -114,7 +114,7 @@ fn stopped(t: Progress, code: usize, done: usize, at: usize, kept: Kept, none: K
 }
 
 // Where a run stands, and what is left of its budget.
-#[derive(Drop)]
+#[derive(Clone, Copy)]
 pub struct Place {
     pub at: usize,
     pub left: usize,

@@ -234,6 +234,6 @@ fn main(rt: HostRuntime) -> io::Result<()> {
     let mut b = [0u8; 131072];
     cases::read_full(rt.stdin(), &mut b);
     let t = all_lists(stdout, &b, size(&b, 0))?;
-    say(stdout, t.cases, " calls\n")?;
+    say(stdout, t.cases, b" calls\n")?;
     cases::verdict(stdout, t)
 }

@@ -34,7 +34,7 @@ pub struct Attributes {
 }
 
 // The bits of a literal.
-#[derive(Drop)]
+#[derive(Clone, Copy)]
 pub struct Literal {
     pub literal: bool,
     pub bits: u64,
@@ -461,7 +461,7 @@ pub fn rule_of(f: &[u8], k: usize, by: By, table: &[usize]) -> usize
 }
 
 // Whether a node has a rule where it needs one, and the attributes of its derivative.
-#[derive(Drop)]
+#[derive(Clone, Copy)]
 pub struct Outcome {
     pub ruled: bool,
     pub diff: Attributes,
@@ -577,7 +577,7 @@ pub fn survey(f: &[u8], k: usize, depth: usize, by: By, table: &mut [usize])
 // ---- of the whole formula
 
 // The formula's own attributes, whether the symbol stands in it, whether it has a derivative, and the derivative's attributes.
-#[derive(Drop)]
+#[derive(Clone, Copy)]
 pub struct Found {
     pub own: Attributes,
     pub has: bool,

@@ -10,7 +10,7 @@ ghost use Rattle.lower.specs.Piece.{kids, past};
 ghost use Rattle.tally.specs.Weight.{drops_at, more, weight};
 
 // The byte after some nodes, and what they need.
-#[derive(Drop)]
+#[derive(Clone, Copy)]
 pub struct Counts {
     pub node: usize,
     pub code: usize,

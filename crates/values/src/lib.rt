@@ -90,7 +90,7 @@ pub fn read_byte(s: Reading, b: u8, values: &mut [f64]) -> Reading
 }
 
 // What was read up to a byte of the input.
-#[derive(Drop)]
+#[derive(Clone, Copy)]
 pub struct Part {
     pub reading: Reading,
     pub end: usize,
@@ -228,7 +228,7 @@ pub fn read_part(input: &[u8], from: usize, s: Reading, values: &mut [f64]) -> P
 
 // What a whole line is found to be: not as said, or so many values; one more than the slice has places stands for any
 // number above that.
-#[derive(Drop)]
+#[derive(Clone, Copy)]
 pub enum Found {
     Malformed,
     Values(usize),

@@ -7,7 +7,7 @@ ghost use Rattle.values.specs.Eights.{AllBelow, Numbers, digit_byte};
 use std::num::wrapping_add_u64;
 
 // What bytes are found to be: digits with this number, or not.
-#[derive(Drop)]
+#[derive(Clone, Copy)]
 pub enum Digits {
     Number(u64),
     Other,

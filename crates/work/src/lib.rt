@@ -30,7 +30,7 @@ pub struct Kept {
 
 // "The answer of a run carries its number in the case": a value; not a number; a question with its function's
 // number and its argument; Power's, with base and exponent.
-#[derive(Drop)]
+#[derive(Clone, Copy)]
 pub enum Outcome {
     Value(f64),
     Undefined,
