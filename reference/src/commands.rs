@@ -139,7 +139,7 @@ fn evaluate(program: &Program, inputs: &[f64], source: Source) -> Answer {
     }
 }
 
-/// `refused N PATH` with document 01's number.
+/// `refused N PATH` with the number of docs/REFERENCE.md, 6.
 fn refusal(error: Error) -> String {
     let Some(number) = refusals::number(&error.code) else {
         return format!("error unexpected {:?}", error.code);

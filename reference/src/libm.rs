@@ -9,7 +9,7 @@ pub enum Source {
     CLibrary,
 }
 
-/// A question: document 01's function number (16 for Power) and the arguments.
+/// A question: the function's number (16 for Power) and the arguments.
 #[derive(Clone, Debug)]
 pub struct Question {
     pub function: u8,

@@ -1,4 +1,4 @@
-//! The name line of document 01.
+//! The name line (docs/REFERENCE.md, 2).
 use crate::compile::{Symbol, SymbolKind};
 use std::collections::BTreeSet;
 

@@ -1,4 +1,4 @@
-//! Formula bytes of document 01 to the reference's `Expr` and back.
+//! Formula bytes (docs/REFERENCE.md, 1) to the reference's `Expr` and back.
 use crate::compile::Symbol;
 use crate::expression::{Expr, Literal};
 use crate::names::name_of;

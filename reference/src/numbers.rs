@@ -1,4 +1,4 @@
-//! Document 01's operator numbers: an operator's number is its place in the list.
+//! The operator numbers of docs/REFERENCE.md, 1: an operator's number is its place in the list.
 use crate::expression::{Binary, Boolean, Compare, Function, Unary};
 
 pub const UNARY: [Unary; 3] = [Unary::Positive, Unary::Negative, Unary::Not];

@@ -1,4 +1,4 @@
-//! Document 01's numbers of the refusals that the reference's compiler gives.
+//! The numbers (docs/REFERENCE.md, 6) of the refusals that the reference's compiler gives.
 use crate::errors::ErrorCode;
 
 /// The number, nothing for an error that the compiler doesn't give.

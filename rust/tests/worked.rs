@@ -1,4 +1,4 @@
-//! Document 01's worked flights, and each refusal's text, through the crate.
+//! The worked flights of docs/REFERENCE.md, and each refusal's text, through the crate.
 use vebrostin::slices::{self, PATH, RECORD, REPORT, STATE};
 use vebrostin::{Answer, Error, Program, Question, Record, Refusal, Rule, Run};
 

@@ -1,4 +1,4 @@
-//! Document 01's run and resume over the reference's instructions: budgets, states and refusals, which the reference lacks.
+//! Run and resume (docs/REFERENCE.md, 9) over the reference's instructions: budgets, states and refusals, which the reference lacks.
 use crate::compile::show::Row;
 use vebrostin::slices::{ASK, COUNT, FIRST, KEPT, KEPT_COUNT, POSITION, QUESTION, SECOND, SPENT, STATE, VALUE};
 

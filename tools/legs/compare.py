@@ -313,7 +313,7 @@ def faulty_outputs():
 # ---- the zeros of Min and Max: -0 below +0, in every order
 
 def zero_tables():
-    """Formula, lines and the whole output, as document 02 has them."""
+    """Formula, lines and the whole output, written out here."""
     pairs = b"".join(b"%s,%s\n" % (a, b) for a in (PLUS, MINUS) for b in (PLUS, MINUS))
     least, most = node(7, 11, [symbol(0), symbol(1)]), node(7, 12, [symbol(0), symbol(1)])
     for name, formula, zeros in [("Min", least, (PLUS, MINUS, MINUS, MINUS)), ("Max", most, (PLUS, PLUS, PLUS, MINUS))]:

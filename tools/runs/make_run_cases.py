@@ -1,5 +1,5 @@
 #!/usr/bin/env python3
-"""Writes the record that crates/run_cases replays: lists of calls on small programs, with an executable model of document 01's run and resume.
+"""Writes the record that crates/run_cases replays: lists of calls on small programs, with an executable model of run and resume (docs/REFERENCE.md, 9).
 
     ORACLE=/tmp/oracle/oracle tools/runs/make_run_cases.py crates/run_cases/stdin
 

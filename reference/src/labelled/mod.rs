@@ -1,4 +1,4 @@
-//! Which rule made each node of a derivative tree (document 02, slip 8): `derivative.rs` once more, over nodes that carry a label. A node
+//! Which rule made each node of a derivative tree: `derivative.rs` once more, over nodes that carry a label. A node
 //! that is constructed takes the label at work, and a clone keeps its own. It knows nothing of how the port finds its records.
 use crate::errors::{Error, ErrorCode};
 use crate::expression::Expr as Plain;
@@ -44,7 +44,7 @@ pub fn derive(formula: &Plain, name: &str, state: bool) -> Result<Labelled, Erro
     Ok(Labelled { tree: plain(&tree), records, decided })
 }
 
-/// A node's label, but for the two places at which docs/DECISIONS.md reads slip 8 otherwise.
+/// A node's label, but for the two places where docs/DECISIONS.md decides otherwise.
 fn decision(node: &Expr, formula: &[&Expr]) -> Label {
     let label = node.label();
     let rule = match (node, label.rule) {
