@@ -4,8 +4,9 @@ use mathlib.Core.List.{List, [], ◌∷◌, ◌++◌, append_assoc, append-nil}
 use Prim.Native.Nat.{ℕ, suc, ◌+◌, ◌-◌, ◌≤◌, ◌<◌}
 use native.Mathlib.Omega.{arith}
 use native.Mathlib.Nat.{add-zero}
-use lib.ListN.{length, take, drop, set, length-append, length-drop, take-append-drop, get_or, replicate, length-replicate, replicate-append-replicate}
-use lib.Seq.{paste, paste-suc, take-length, set_split, take_at, drop_at, drop-append-add, drop-drop, length-take-le, take-append-le, drop-length}
+use borrow.Rule.Slice.PartMut.{put_mid}
+use lib.ListN.{length, take, drop, set, length-append, length-drop, take-append-drop, replicate}
+use lib.Seq.{set_split, take_at, drop_at, drop-append-add, drop-drop, length-take-le, take-append-le, drop-length}
 use Rattle.formula.specs.Text.{zeros}
 use Rattle.writer.specs.Over.{over, zeroed}
 
@@ -63,61 +64,26 @@ over_before p a xs ys h =
     let g : a + length xs + length ys ≡ a + length (xs ++ ys) = omega (arith, length-append xs ys) in
     rw (t, d, append_assoc xs ys (drop (a + length (xs ++ ys)) p), g)
 
-pub paste_over : (d : List ℕ) (at n : ℕ) (s : List ℕ) → n ≡ length s → paste d at s n ≡ over d at s
-unfolding over
-paste_over d at n s e =
-    ap (λ (k : ℕ). paste d at s k) e
-    ∙ ap (λ (x : List ℕ). take at d ++ x ++ drop (at + length s) d) (take-length s)
-    ∙ append_assoc (take at d) s (drop (at + length s) d)
-
-pub paste_more : (d : List ℕ) (at : ℕ) (s : List ℕ) (j : ℕ) → at + j < length d → j < length s
-    → set (paste d at s j) (at + j) (get_or s j 0) ≡ paste d at s (j + 1)
-paste_more d at s j h k =
-    let e : suc j ≡ j + 1 = omega arith in
-    paste-suc d at s j 0 h k ∙ ap (λ (x : ℕ). paste d at s x) e
-
 pub over_one : (p : List ℕ) (i x : ℕ) → i < length p → set p i x ≡ over p i (x ∷ [])
 unfolding over
 over_one p i x h =
     let e : suc i ≡ i + 1 = omega arith in
     set_split p i x h ∙ ap (λ (k : ℕ). take i p ++ (x ∷ drop k p)) e
 
--- ---- zeros to the end
+-- ---- a part of a slice that was lent and comes back
 
-zeros_snoc : (n : ℕ) → ◌++◌ {A = ℕ} (replicate n 0) (0 ∷ []) ≡ replicate (n + 1) 0
-zeros_snoc n = replicate-append-replicate n 1 0
+pub over_lent : (p : List ℕ) (a k : ℕ) (xs : List ℕ) → k ≡ length xs → put_mid a k p xs ≡ over p a xs
+unfolding over
+over_lent p a k xs e = rw (e, drop-drop)
 
-pub zero_more : (out0 out : List ℕ) (at j : ℕ) → at ≤ j → j < length out0 → length out ≡ length out0 → out ≡ over out0 at (replicate (j - at) 0)
-    → set out j 0 ≡ over out0 at (replicate (j + 1 - at) 0)
-zero_more out0 out at j h k l e =
-    let r : List ℕ = replicate (j - at) 0 in
-    let lr : length r ≡ j - at = length-replicate (j - at) 0 in
-    let z : j ≡ at + length r = omega arith in
-    let y : j - at + 1 ≡ j + 1 - at = omega arith in
-    over_one out j 0 (omega arith)
-    ∙ ap (λ (x : List ℕ). over x j (0 ∷ [])) e
-    ∙ ap (λ (x : ℕ). over (over out0 at r) x (0 ∷ [])) z
-    ∙ over_over out0 at r (0 ∷ []) (omega arith)
-    ∙ ap (λ (x : List ℕ). over out0 at x) (zeros_snoc (j - at))
-    ∙ ap (λ (x : ℕ). over out0 at (replicate x 0)) y
-
-pub zero_none : (out0 : List ℕ) (at : ℕ) → out0 ≡ over out0 at (replicate (at - at) 0)
-zero_none out0 at =
-    let z : 0 ≡ at - at = omega arith in
-    sym (over_nil out0 at) ∙ ap (λ (x : ℕ). over out0 at (replicate x 0)) z
-
-pub zero_last : (out0 out : List ℕ) (at j : ℕ) → at ≤ j → length out0 ≤ j → j ≤ length out0 → out ≡ over out0 at (replicate (j - at) 0) → out ≡ zeroed out0 at
-unfolding over zeroed
-zero_last out0 out at j h k l e =
-    let r : List ℕ = replicate (j - at) 0 in
-    let lr : length r ≡ j - at = length-replicate (j - at) 0 in
-    let z : at + length r ≡ length out0 = omega arith in
-    let y : j - at ≡ length out0 - at = omega arith in
-    e
-    ∙ ap (λ (x : ℕ). take at out0 ++ (r ++ drop x out0)) z
-    ∙ ap (λ (x : List ℕ). take at out0 ++ (r ++ x)) (drop-length out0)
-    ∙ ap (λ (x : List ℕ). take at out0 ++ x) (append-nil r)
-    ∙ ap (λ (x : ℕ). take at out0 ++ replicate x 0) y
+pub zeroed_lent : (p : List ℕ) (a : ℕ) (xs : List ℕ) → let k = length p - a in a ≤ length p → xs ≡ replicate (length (take k (drop a p))) 0
+    → put_mid a k p xs ≡ zeroed p a
+unfolding zeroed
+zeroed_lent p a xs h z =
+    let k = length p - a in
+    let n : a + k ≡ length p = omega arith in
+    let l : length (take k (drop a p)) ≡ k = length-take-le k (drop a p) (omega (arith, length-drop a p)) in
+    rw (z, l, drop-drop, n, drop-length, append-nil)
 
 -- a text at the beginning, then zeros to the end
 pub text_zeroed : (out0 mid t : List ℕ) (n : ℕ) → n ≡ length t → n ≤ length out0 → mid ≡ over out0 0 t → zeroed mid n ≡ t ++ zeros (length out0 - length t)

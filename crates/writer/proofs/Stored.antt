@@ -1,39 +1,34 @@
--- Numbers as they are stored, byte after byte.
-use mathlib.Core.Path.{◌≡◌, ◌∙◌}
-use mathlib.Core.List.{List, append_assoc}
-use Prim.Native.Nat.{ℕ, suc, ◌+◌, ◌/◌, ◌%◌, ◌≤◌}
+-- Numbers as they are stored, the lowest byte first.
+use mathlib.Core.Path.{◌≡◌, refl, ap, ap₂, sym, ◌∙◌}
+use mathlib.Core.List.{List, ◌∷◌}
+use Prim.Native.Nat.{ℕ, zero, suc, ◌+◌, ◌-◌, ◌/◌, ◌^◌, ◌%◌, ◌≤◌}
 use native.Mathlib.Omega.{arith}
-use lib.ListN.{length, take, drop, set}
-use lib.Seq.{sets, sets-eq}
+use native.Mathlib.Nat.{div-one, div-div-eq-div-mul, pow-suc}
+use borrow.Rule.Slice.PartMut.{put_mid}
+use lib.ListN.{length, take}
+use Rattle.std.specs.Int.{bytes_low_first, byte_at, to_le_bytes, w64}
 use Rattle.formula.specs.Text.{little_endian}
 use Rattle.writer.specs.Over.{over}
+use Rattle.writer.proofs.Over.{over_lent}
 
-over_sets : (p : List ℕ) (i : ℕ) (xs : List ℕ) → i + length xs ≤ length p → sets p i xs ≡ over p i xs
-unfolding over
-over_sets p i xs h = sets-eq xs p i h ∙ append_assoc (take i p) xs (drop (i + length xs) p)
+byte_is : (i x : ℕ) → byte_at i x ≡ x / 256 ^ i % 256
+byte_is zero x = ap (λ (n : ℕ). n % 256) (sym (div-one x))
+byte_is (suc i) x = refl
 
-pub half_stored : (p : List ℕ) (i x : ℕ) → i + 2 ≤ length p → set (set p i (x % 256)) (i + 1) (x / 256 % 256) ≡ over p i (little_endian 2 x)
-half_stored p i x h =
-    let e : i + 1 ≡ suc i = omega arith in
-    rw e (over_sets p i (little_endian 2 x) h)
+-- n of k bytes from byte i on
+bytes_from : (n k i x : ℕ) → n ≤ k → take n (bytes_low_first i k x) ≡ little_endian n (x / 256 ^ i)
+bytes_from zero k i x h = refl
+bytes_from (suc n) zero i x h = absurd (omega arith)
+bytes_from (suc n) (suc k) i x h =
+    let up : x / 256 ^ i / 256 ≡ x / 256 ^ suc i = rw (div-div-eq-div-mul, pow-suc) in
+    ap₂ (λ (b : ℕ) (bs : List ℕ). b ∷ bs) (byte_is i x) (bytes_from n k (suc i) x (omega arith) ∙ ap (little_endian n) (sym up))
 
-pub word_stored : (p : List ℕ) (i x : ℕ) → i + 4 ≤ length p
-    → set (set (set (set p i (x % 256)) (i + 1) (x / 256 % 256)) (i + 2) (x / 256 / 256 % 256)) (i + 3) (x / 256 / 256 / 256 % 256) ≡ over p i (little_endian 4 x)
-word_stored p i x h =
-    let e1 : i + 1 ≡ suc i = omega arith in
-    let e2 : i + 2 ≡ suc (suc i) = omega arith in
-    let e3 : i + 3 ≡ suc (suc (suc i)) = omega arith in
-    rw (e1, e2, e3) (over_sets p i (little_endian 4 x) h)
+little_long : (n x : ℕ) → length (little_endian n x) ≡ n
+little_long zero x = refl
+little_long (suc n) x = ap suc (little_long n (x / 256))
 
-pub long_stored : (p : List ℕ) (i x : ℕ) → i + 8 ≤ length p
-    → set (set (set (set (set (set (set (set p i (x % 256)) (i + 1) (x / 256 % 256)) (i + 2) (x / 256 / 256 % 256)) (i + 3) (x / 256 / 256 / 256 % 256)) (i + 4) (x / 256 / 256 / 256 / 256 % 256)) (i + 5) (x / 256 / 256 / 256 / 256 / 256 % 256)) (i + 6) (x / 256 / 256 / 256 / 256 / 256 / 256 % 256)) (i + 7) (x / 256 / 256 / 256 / 256 / 256 / 256 / 256 % 256)
-    ≡ over p i (little_endian 8 x)
-long_stored p i x h =
-    let e1 : i + 1 ≡ suc i = omega arith in
-    let e2 : i + 2 ≡ suc (suc i) = omega arith in
-    let e3 : i + 3 ≡ suc (suc (suc i)) = omega arith in
-    let e4 : i + 4 ≡ suc (suc (suc (suc i))) = omega arith in
-    let e5 : i + 5 ≡ suc (suc (suc (suc (suc i)))) = omega arith in
-    let e6 : i + 6 ≡ suc (suc (suc (suc (suc (suc i))))) = omega arith in
-    let e7 : i + 7 ≡ suc (suc (suc (suc (suc (suc (suc i)))))) = omega arith in
-    rw (e1, e2, e3, e4, e5, e6, e7) (over_sets p i (little_endian 8 x) h)
+-- the n lowest of the eight bytes of x, written over a part
+pub lowest_written : (p : List ℕ) (a n x : ℕ) (xs : List ℕ) → n ≤ 8 → xs ≡ take n (to_le_bytes w64 x) → put_mid a (a + n - a) p xs ≡ over p a (little_endian n x)
+lowest_written p a n x xs h e =
+    let low : xs ≡ little_endian n x = e ∙ bytes_from n 8 0 x h ∙ ap (little_endian n) (div-one x) in
+    rw low (over_lent p a (a + n - a) (little_endian n x) (omega (arith, little_long n x)))

@@ -9,12 +9,9 @@ pub fn put_bytes(out: &mut [u8], at: usize, b: &[u8]) -> usize
     requires { at + length b.now ≤ length out.old }
     ensures { (result ≡ at + length b.now) × (out.new ≡ over out.old at b.now) }
 {
-    let mut i = 0;
-    while i < b.len() {
-        out[at + i] = b[i];
-        i += 1;
-    }
-    at + i
+    let end = at + b.len();
+    out[at..end].copy_from_slice(b);
+    end
 }
 
 // Zeros from a place to the end.
@@ -22,11 +19,16 @@ pub fn zero_from(out: &mut [u8], at: usize)
     requires { at ≤ length out.old }
     ensures { out.new ≡ zeroed out.old at }
 {
-    let mut i = at;
-    while i < out.len() {
-        out[i] = 0;
-        i += 1;
-    }
+    out[at..].fill(0);
+}
+
+// Writes a number in N bytes from a place on, the lowest byte first.
+fn put<const N: usize>(p: &mut [u8], at: usize, x: u64)
+    requires fits { at + N ≤ length p.old }
+    requires narrow { N ≤ 8 }
+    ensures { p.new ≡ over p.old at (little_endian N x) }
+{
+    p[at..at + N].copy_from_slice(&x.to_le_bytes()[..N]);
 }
 
 // Writes a number in 2 bytes from a place on, the lowest byte first.
@@ -34,8 +36,7 @@ pub fn put_half(p: &mut [u8], at: usize, x: usize)
     requires { at + 2 ≤ length p.old }
     ensures { p.new ≡ over p.old at (little_endian 2 x) }
 {
-    p[at] = (x % 256) as u8;
-    p[at + 1] = (x / 256 % 256) as u8;
+    put::<2>(p, at, x as u64);
 }
 
 // Writes a number in 4 bytes from a place on, the lowest byte first.
@@ -43,10 +44,7 @@ pub fn put_word(p: &mut [u8], at: usize, x: usize)
     requires { at + 4 ≤ length p.old }
     ensures { p.new ≡ over p.old at (little_endian 4 x) }
 {
-    p[at] = (x % 256) as u8;
-    p[at + 1] = (x / 256 % 256) as u8;
-    p[at + 2] = (x / 256 / 256 % 256) as u8;
-    p[at + 3] = (x / 256 / 256 / 256 % 256) as u8;
+    put::<4>(p, at, x as u64);
 }
 
 // Writes a number in 8 bytes from a place on, the lowest byte first.
@@ -54,17 +52,11 @@ pub fn put_long(p: &mut [u8], at: usize, x: u64)
     requires { at + 8 ≤ length p.old }
     ensures { p.new ≡ over p.old at (little_endian 8 x) }
 {
-    p[at] = (x % 256) as u8;
-    p[at + 1] = (x / 256 % 256) as u8;
-    p[at + 2] = (x / 256 / 256 % 256) as u8;
-    p[at + 3] = (x / 256 / 256 / 256 % 256) as u8;
-    p[at + 4] = (x / 256 / 256 / 256 / 256 % 256) as u8;
-    p[at + 5] = (x / 256 / 256 / 256 / 256 / 256 % 256) as u8;
-    p[at + 6] = (x / 256 / 256 / 256 / 256 / 256 / 256 % 256) as u8;
-    p[at + 7] = (x / 256 / 256 / 256 / 256 / 256 / 256 / 256 % 256) as u8;
+    put::<8>(p, at, x);
 }
 
-// Writes a number in decimal from a place on, and says where it ends.
+// Writes a number in decimal from a place on, and says where it ends. Written by hand: `write!` would need a writer over
+// the slice, and an error for room that is known to be there.
 pub fn put_decimal(out: &mut [u8], at: usize, n: u64) -> usize
     requires { at + length (decimal n) ≤ length out.old }
     ensures { (result ≡ at + length (decimal n)) × (out.new ≡ over out.old at (decimal n)) }
