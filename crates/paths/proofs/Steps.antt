@@ -1,30 +1,27 @@
 -- The text of a step, written from its end.
 use mathlib.Core.Path.{◌≡◌, sym, ap, ◌∙◌}
-use mathlib.Core.List.{List, [], ◌∷◌, ◌++◌}
-use Prim.Native.Nat.{ℕ, zero, suc, ◌+◌, ◌-◌, ◌/◌, ◌%◌, ◌≤◌, ◌<◌}
+use mathlib.Core.List.{List, ◌++◌}
+use Prim.Native.Nat.{ℕ, zero, suc, ◌+◌, ◌-◌, ◌*◌, ◌/◌, ◌^◌, ◌≤◌, ◌<◌, max}
 use native.Mathlib.Omega.{arith}
+use native.Mathlib.Nat.{pow-suc}
 use borrow.Author.Tests.{ne_eqb}
-use lib.ListN.{length, length-append, set}
+use lib.ListN.{length, length-append}
 use Rattle.formula.specs.Text.{ascii, decimal}
 use Rattle.formula.specs.Path.{argument, step_text}
 use Rattle.machine.proofs.Size.{step_short}
 use Rattle.layout.specs.Opcode.{step_of}
 use Rattle.writer.specs.Over.{over}
-use Rattle.writer.proofs.Over.{over_before, over_one}
-use Rattle.writer.proofs.Decimal.{decimal_large}
+use Rattle.writer.proofs.Over.{over_before}
+use Rattle.writer.proofs.Decimal.{length_large, length_small}
 
--- one digit more stands before those that were written
-pub digit_more : (out whole : List ℕ) (n x at begin : ℕ) → 10 ≤ n → x ≡ 48 + n % 10 → at ≡ begin + length (decimal (n / 10)) → at < length out
-    → over out begin (decimal n) ≡ whole → over (set out at x) begin (decimal (n / 10)) ≡ whole
-digit_more out whole n x at begin h ex ea l e =
-    let m = decimal (n / 10) in
-    let s : set out at x ≡ over out at (x ∷ []) = over_one out at x l in
-    ap (λ (p : List ℕ). over p begin m) s ∙ ap (λ (k : ℕ). over (over out k (x ∷ [])) begin m) ea
-    ∙ over_before out begin m (x ∷ []) (omega arith)
-    ∙ ap (λ (y : ℕ). over out begin (m ++ y ∷ [])) ex ∙ ap (λ (d : List ℕ). over out begin d) (sym (decimal_large n h)) ∙ e
-
-pub last_digit : (out0 out xs ys : List ℕ) {at begin : ℕ} → at ≡ begin → over out begin xs ≡ over out0 begin ys → over out at xs ≡ over out0 at ys
-last_digit out0 out xs ys e w = ap (λ (k : ℕ). over out k xs) e ∙ w ∙ ap (λ (k : ℕ). over out0 k ys) (sym e)
+-- as many digits as the power of ten that it reaches, and one more; 0 has one like 1
+pub digits_of : (k n m : ℕ) → m ≡ max n 1 → 10 ^ k ≤ m → m < 10 * 10 ^ k → k + 1 ≡ length (decimal n)
+digits_of zero n m e low high = let h : n < 10 = omega arith in omega (arith, length_small n h)
+digits_of (suc k) n m e low high =
+    let s : 10 ^ suc k ≡ 10 ^ k * 10 = pow-suc 10 k in
+    let h : 10 ≤ n = omega arith in
+    let less = digits_of k (n / 10) (n / 10) (omega arith) (omega arith) (omega arith) in
+    omega (arith, length_large n h)
 
 -- ---- steps
 

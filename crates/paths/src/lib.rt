@@ -1,28 +1,33 @@
 #![tactic(auto)]
 // A path's text, from its record: "Text from `root` with `.arguments[i]`, `.condition`, `.then`, `.else`".
-ghost use Rattle.std.specs.Prelude.{◌≡◌, ◌+◌, ◌*◌, ◌^◌, ◌≤◌, ◌<◌, length};
+ghost use Rattle.std.specs.Prelude.{◌≡◌, ◌+◌, ◌*◌, ◌^◌, ◌≤◌, ◌<◌, length, MatchOption};
 ghost use Rattle.std.proofs.Math.Option.{some};
-ghost use Rattle.formula.specs.Text.{decimal};
+ghost use Rattle.formula.specs.Text.{decimal, word_at};
 ghost use Rattle.formula.specs.Path.{root, step_text, placed};
 ghost use Rattle.layout.specs.Opcode.{step_of};
 ghost use Rattle.writer.specs.Over.{over};
 ghost use Rattle.paths.specs.Table.{FitsPath, path_in_table};
 
 use layout::RECORD_SIZE;
-use writer::{put_bytes, zero_from};
+use writer::{put_bytes, put_decimal, zero_from};
 
 // How many digits a number has.
 fn digits(n: usize) -> usize
-    requires { n < 2 ^ 32 }
-    ensures { (result ≡ length (decimal n)) × (result ≤ 2 ^ 32) }
+    ensures { (result ≡ length (decimal n)) × (result ≤ 20) }
 {
-    let mut left = n;
-    let mut count = 1;
-    while 10 <= left {
-        left /= 10;
-        count += 1;
+    n.max(1).ilog10() as usize + 1
+}
+
+// The name of a step by its number in a record; the numbers from 3 on are those of arguments.
+fn name_of(step: usize) -> Option<&'static [u8]>
+    ensures { MatchOption result (3 ≤ step) (λ name. (name.now ≡ step_text (step_of step)) × (length name.now ≤ 10)) }
+{
+    match step {
+        0 => Some(b".condition"),
+        1 => Some(b".then"),
+        2 => Some(b".else"),
+        _ => None,
     }
-    count
 }
 
 // How many bytes the text of a step has.
@@ -30,11 +35,9 @@ pub fn step_length(step: usize) -> usize
     requires { step < 2 ^ 32 }
     ensures { (result ≡ length (step_text (step_of step))) × (result ≤ 2 ^ 33) }
 {
-    match step {
-        0 => 10,
-        1 => 5,
-        2 => 5,
-        _ => 12 + digits(step - 3),
+    match name_of(step) {
+        Some(name) => name.len(),
+        None => b".arguments[]".len() + digits(step - 3),
     }
 }
 
@@ -48,36 +51,49 @@ fn copy_before(out: &mut [u8], end: usize, text: &[u8]) -> usize
     begin
 }
 
-// Writes a number's digits, the last one first.
+// Writes a number that ends before a byte, and says where it begins.
 fn number_before(out: &mut [u8], end: usize, n: usize) -> usize
     requires { (length (decimal n) ≤ end) × (end ≤ length out.old) }
     ensures { (result + length (decimal n) ≡ end) × (out.new ≡ over out.old result (decimal n)) }
 {
-    let mut left = n;
-    let mut at = end;
-    while 10 <= left {
-        at -= 1;
-        out[at] = (48 + left % 10) as u8;
-        left /= 10;
-    }
-    at -= 1;
-    out[at] = (48 + left) as u8;
-    at
+    let begin = end - digits(n);
+    put_decimal(out, begin, n as u64);
+    begin
 }
 
+// Writes a step that ends before a byte, and says where it begins.
 fn step_before(out: &mut [u8], end: usize, step: usize) -> usize
     requires { (length (step_text (step_of step)) ≤ end) × (end ≤ length out.old) }
     ensures { (result + length (step_text (step_of step)) ≡ end) × (out.new ≡ over out.old result (step_text (step_of step))) }
 {
-    match step {
-        0 => copy_before(out, end, b".condition"),
-        1 => copy_before(out, end, b".then"),
-        2 => copy_before(out, end, b".else"),
-        _ => {
+    match name_of(step) {
+        Some(name) => copy_before(out, end, name),
+        None => {
             let close = copy_before(out, end, b"]");
             let number = number_before(out, close, step - 3);
             copy_before(out, number, b".arguments[")
         }
+    }
+}
+
+// A path's record: its parent's number, its last step, and how many bytes its text has.
+#[derive(Clone, Copy)]
+struct Record {
+    parent: usize,
+    step: usize,
+    length: usize,
+}
+
+fn record_at(b: &[u8], at: usize) -> Record
+    requires { at + RECORD_SIZE < 2 ^ 64 }
+    ensures parent { result.parent ≡ word_at b.now at }
+    ensures step { (result.step ≡ word_at b.now (at + 4)) × (result.step < 2 ^ 32) }
+    ensures length { result.length ≡ word_at b.now (at + 8) }
+{
+    Record {
+        parent: reader::word(b, at),
+        step: reader::word(b, at + 4),
+        length: reader::word(b, at + 8),
     }
 }
 
@@ -88,24 +104,19 @@ pub fn write_path(b: &[u8], base: usize, k: usize, out: &mut [u8])
     requires { base + 12 * k + 12 < 2 ^ 64 }
     ensures { FitsPath b.now base k (length out.old) → out.new ≡ placed (some (path_in_table b.now base k)) out.old }
 {
-    let end = reader::word(b, base + RECORD_SIZE * k + 8);
+    let end = record_at(b, base + RECORD_SIZE * k).length;
     if out.len() < end {
         return;
     }
     let mut at = k;
     let mut begin = end;
     while 0 < at {
-        let step = reader::word(b, base + RECORD_SIZE * at + 4);
-        let parent = reader::word(b, base + RECORD_SIZE * at);
-        let length = step_length(step);
-        if begin < length {
+        let record = record_at(b, base + RECORD_SIZE * at);
+        if at <= record.parent || begin < step_length(record.step) {
             return;
         }
-        if at <= parent {
-            return;
-        }
-        begin = step_before(out, begin, step);
-        at = parent;
+        begin = step_before(out, begin, record.step);
+        at = record.parent;
     }
     if begin < 4 {
         return;
