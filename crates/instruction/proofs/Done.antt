@@ -14,8 +14,10 @@ use Rattle.machine.specs.Program.{Op, constant, copy, jump, jump_if_false, load,
 use Rattle.machine.specs.Machine as Machine
 use Rattle.machine.specs.Machine.{fails, goes, read_all, stored, wants, worked}
 use Rattle.layout.specs.Decode.{destination_at, op_at, path_number, path_of, raw_program}
-use Rattle.work.specs.View.{shown}
-use Rattle.work.specs.declared.Outcome.TheVariants.{Elementary, Power, Undefined, Value}
+use Rattle.work.specs.View.{question_of, shown}
+use Rattle.work.specs.declared.Question.{Question}
+use Rattle.work.specs.declared.Outcome.TheVariants.{Undefined, Value}
+use Rattle.work.specs.declared.Outcome.TheVariants as O
 use Rattle.instruction.specs.Effects.{effect_at, shown_effect}
 use Rattle.instruction.specs.Progressing.{Progressed, effect_of, machine_effect, registers_after}
 use Rattle.instruction.specs.declared.Effect.{Effect}
@@ -28,8 +30,7 @@ use Rattle.instruction.specs.declared.Progress.TheVariants as P
 abbrev pub done : Path → ℕ → ℕ → List Float → Effect → Machine.Effect
 done p n d regs (Work (Value v)) = stored p n d regs v
 done p n d regs (Work Undefined) = fails p
-done p n d regs (Work (Elementary f x)) = wants (elementary f x)
-done p n d regs (Work (Power x y)) = wants (power x y)
+done p n d regs (Work (O.Question q)) = wants (question_of q)
 done p n d regs (Jump to) = goes to regs
 
 worked_is : (p : Path) (n d : ℕ) (regs : List Float) (w : Interaction) → worked p n d regs w ≡ done p n d regs (Work (shown w))
@@ -76,13 +77,8 @@ module _ (inputs : List Float) (b : List ℕ) where
       pub undefined_done : (k : ℕ) → E ≡ Work Undefined → k ≡ path_number b n → Progressed b n (machine_effect inputs b n kept regs) (P.Domain k) regs regs
       undefined_done k f h = progressed (fails (path_of b (path_number b n))) (is (Work Undefined) f) (rw h) refl (λ j z. let y : k ≡ j = cc in sym y ∙ h)
 
-      pub elementary_done : (g : ℕ) (x : Float) → E ≡ Work (Elementary g x) → Progressed b n (machine_effect inputs b n kept regs) (P.Elementary g x) regs regs
-      elementary_done g x f =
-          progressed (wants (elementary g x)) (is (Work (Elementary g x)) f) refl refl (λ k z. absurd (let y : ◌≡◌ {A = ℕ} 0 1 = cc in omega arith))
-
-      pub power_done : (x y : Float) → E ≡ Work (Power x y) → Progressed b n (machine_effect inputs b n kept regs) (P.Power x y) regs regs
-      power_done x y f =
-          progressed (wants (power x y)) (is (Work (Power x y)) f) refl refl (λ k z. absurd (let y : ◌≡◌ {A = ℕ} 0 1 = cc in omega arith))
+      pub question_done : (q : Question) → E ≡ Work (O.Question q) → Progressed b n (machine_effect inputs b n kept regs) (P.Question q) regs regs
+      question_done q f = progressed (wants (question_of q)) (is (Work (O.Question q)) f) refl refl (λ k z. absurd (let y : ◌≡◌ {A = ℕ} 0 1 = cc in omega arith))
 
       pub jump_done : (to : ℕ) → E ≡ Jump to → Progressed b n (machine_effect inputs b n kept regs) (Next to) regs regs
       jump_done to f = progressed (goes to regs) (is (Jump to) f) refl refl (λ k z. absurd (let y : ◌≡◌ {A = ℕ} 0 1 = cc in omega arith))

@@ -15,7 +15,8 @@ use Rattle.meaning.specs.Work.{power_defined}
 use Rattle.machine.specs.Program.{jump}
 use Rattle.layout.specs.Decode.{op_at, ops, slot_at}
 use Rattle.work.specs.Opcode.{puts_function}
-use Rattle.work.specs.declared.Outcome.TheVariants.{Elementary, Power, Value}
+use Rattle.work.specs.declared.Outcome.TheVariants.{Question, Value}
+use Rattle.work.specs.declared.Question.TheVariants.{Elementary, Power}
 use Rattle.program.proofs.Tests.{one_of}
 use Rattle.instruction.specs.Effects.{effect_at, shown_effect}
 use Rattle.instruction.specs.declared.Effect.{Effect}
@@ -47,7 +48,7 @@ module _ (inputs : List Float) (b : List ℕ) (n : ℕ) (regs : List Float) (op 
     is_defined : power_defined binary64 (get_or regs (word_at b (slot_at n + 8)) 0f) (get_or regs (word_at b (slot_at n + 12)) 0f) ≡ true
     is_defined = rw (← is_x, ← is_y) (and_second (eqb op 12) _ h)
 
-    pub power_puts : effect_at inputs b n [] regs ≡ Work (Power x y)
+    pub power_puts : effect_at inputs b n [] regs ≡ Work (Question (Power x y))
     unfolding effect_at op_at
     power_puts = rw (is_power, is_defined, is_x, is_y)
 
@@ -61,12 +62,12 @@ module _ (inputs : List Float) (b : List ℕ) (n : ℕ) (regs : List Float) (op 
     abbrev effect_of : List Float → ℕ → Effect
     effect_of kept m = shown_effect inputs (get_or (ops b (long_at b (slot_at n + 8)) (half_at b (slot_at n + 2)) (word_at b (slot_at n + 8)) (word_at b (slot_at n + 12)) (word_at b (slot_at n + 16))) m (jump 0)) n kept regs
 
-    pub function_puts : effect_at inputs b n [] regs ≡ Work (Elementary (op - 20) x)
+    pub function_puts : effect_at inputs b n [] regs ≡ Work (Question (Elementary (op - 20) x))
     unfolding effect_at op_at
     function_puts =
         let r = function_range op h in
         rw (← eo, is_x)
-        (one_of (λ (m : ℕ). (m ≡ 23 → ⊥) → effect_of [] m ≡ Work (Elementary (m - 20) (get_or regs (word_at b (slot_at n + 8)) 0f))) 8 20 op r.0 r.1
+        (one_of (λ (m : ℕ). (m ≡ 23 → ⊥) → effect_of [] m ≡ Work (Question (Elementary (m - 20) (get_or regs (word_at b (slot_at n + 8)) 0f)))) 8 20 op r.0 r.1
         (λ z. refl, (λ z. refl, (λ z. refl, (λ z. absurd (z refl), (λ z. refl, (λ z. refl, (λ z. refl, (λ z. refl, tt)))))))) r.2)
 
     pub function_takes : (v : Float) → effect_at inputs b n (v ∷ []) regs ≡ Work (Value v)

@@ -1,7 +1,7 @@
 -- What an instruction does, by its opcode.
 use mathlib.Core.Path.{◌≡◌, refl, ap, sym, ◌∙◌}
 use mathlib.Core.Bool.{Bool, true, false, cond}
-use mathlib.Core.List.{List, [], ◌∷◌}
+use mathlib.Core.List.{List, []}
 use Prim.Native.Nat.{ℕ, zero, suc, ◌+◌, ◌≤◌, ◌<◌}
 use mathlib.Core.Logic.{◌⊎◌, inl, inr, ⊎_elim}
 use native.Mathlib.Omega.{arith}
@@ -9,7 +9,7 @@ use lib.ListN.{get_or}
 use lib.Ieee.{Float, binary64, of_bits}
 use Rattle.arithmetic.specs.Value.{0f, is_zero}
 use Rattle.formula.specs.Text.{byte_at, half_at, long_at, word_at}
-use Rattle.meaning.specs.Work.{advance, give}
+use Rattle.meaning.specs.Work.{advance}
 use Rattle.machine.specs.Program.{jump}
 use Rattle.layout.specs.Decode.{op_at, ops, slot_at}
 use Rattle.work.specs.View.{shown}

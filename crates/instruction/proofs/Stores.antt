@@ -1,8 +1,9 @@
 -- Instructions that are done at once: the value that each opcode stores, and what comes of it.
+use Rattle.std.proofs.Common.{Some}
 use mathlib.Core.Path.{◌≡◌, refl, ap, ap₂, sym, ◌∙◌}
 use mathlib.Core.Bool.{Bool, true, false, cond, true≢false}
 use mathlib.Core.List.{List}
-use Prim.Native.Nat.{ℕ, suc, ◌+◌, ◌*◌, ◌≤◌, ◌<◌}
+use Prim.Native.Nat.{ℕ, ◌+◌, ◌*◌, ◌≤◌, ◌<◌}
 use native.Mathlib.Numerals.{add-one}
 use native.Mathlib.Omega.{arith}
 use lib.ListN.{get_or, set}
@@ -17,7 +18,7 @@ use Rattle.work.specs.View.{shown}
 use Rattle.work.specs.Opcode.{work_of}
 use Rattle.work.specs.declared.Outcome.TheVariants.{Value}
 use Rattle.work.proofs.Answers.{given}
-use Rattle.instruction.specs.Common.{Stores, Went, Works, not_done}
+use Rattle.instruction.specs.Common.{Stores, Went, Works}
 use Rattle.instruction.specs.Effects.{effect_at, extremum_at, operation_at, shown_effect}
 use Rattle.instruction.specs.declared.Effect.{Effect}
 use Rattle.instruction.specs.declared.Effect.TheVariants.{Jump, Work}
@@ -103,31 +104,28 @@ module _ (inputs : List Float) (b : List ℕ) (n : ℕ) (regs : List Float) wher
       ∙ ap₂ (λ (i j : ℕ). shown_effect inputs (get_or (ops b (i + 4294967296 * j) count i j z) (byte_at b (slot_at n)) (jump 0)) n kept regs) ex ey
       ∙ ap (λ (k : ℕ). shown_effect inputs (get_or (ops b k count (word_at b (slot_at n + 8)) (word_at b (slot_at n + 12)) z) (byte_at b (slot_at n)) (jump 0)) n kept regs) bits
 
-  went_stored : (d : ℕ) (v : Float) {after : List Float} → n < 4294967296 → ((kept : List Float) → Work (Value v) ≡ effect_at inputs b n kept regs) → finite v ≡ true → d ≡ word_at b (slot_at n + 4)
-      → after ≡ set regs d v → Went inputs b n regs (n + 1) after
+  went_stored : (d : ℕ) (v : Float) {after : List Float} → ((kept : List Float) → Work (Value v) ≡ effect_at inputs b n kept regs) → finite v ≡ true → d ≡ word_at b (slot_at n + 4)
+      → after ≡ set regs d v → Went inputs b n regs (Some (n + 1)) after
   unfolding destination_at
-  went_stored d v h g f e s = record { done = λ no kept. value_done inputs b n kept regs (g kept) v d refl f e s; undone = λ z. absurd (omega arith) }
+  went_stored d v g f e s = λ kept. value_done inputs b n kept regs (g kept) v d refl f e s
 
-  pub went_value : (op x y d : ℕ) (v : Float) {after : List Float} → n < 4294967296 → op ≡ byte_at b (slot_at n) → x ≡ word_at b (slot_at n + 8) → y ≡ word_at b (slot_at n + 12)
-      → Stores op x y inputs regs v → finite v ≡ true → d ≡ word_at b (slot_at n + 4) → after ≡ set regs d v → Went inputs b n regs (n + 1) after
-  went_value op x y d v h eo ex ey S f e s = went_stored d v h (stored_effect op x y v eo ex ey S f) f e s
+  pub went_value : (op x y d : ℕ) (v : Float) {after : List Float} → op ≡ byte_at b (slot_at n) → x ≡ word_at b (slot_at n + 8) → y ≡ word_at b (slot_at n + 12)
+      → Stores op x y inputs regs v → finite v ≡ true → d ≡ word_at b (slot_at n + 4) → after ≡ set regs d v → Went inputs b n regs (Some (n + 1)) after
+  went_value op x y d v eo ex ey S f e s = went_stored d v (stored_effect op x y v eo ex ey S f) f e s
 
-  pub went_worked : (op d : ℕ) (v : Float) {after : List Float} → n < 4294967296 → op ≡ byte_at b (slot_at n) → Works b (slot_at n) op regs v → finite v ≡ true → d ≡ word_at b (slot_at n + 4)
-      → after ≡ set regs d v → Went inputs b n regs (n + 1) after
-  went_worked op d v h eo W f e s = went_stored d v h (λ kept. operation_is inputs b n kept regs op eo (W f).0 ((W f).1 kept)) f e s
+  pub went_worked : (op d : ℕ) (v : Float) {after : List Float} → op ≡ byte_at b (slot_at n) → Works b (slot_at n) op regs v → finite v ≡ true → d ≡ word_at b (slot_at n + 4)
+      → after ≡ set regs d v → Went inputs b n regs (Some (n + 1)) after
+  went_worked op d v eo W f e s = went_stored d v (λ kept. operation_is inputs b n kept regs op eo (W f).0 ((W f).1 kept)) f e s
 
-  went_to : (to : ℕ) → to < not_done → ((kept : List Float) → Jump to ≡ effect_at inputs b n kept regs) → Went inputs b n regs to regs
-  went_to to h e = record { done = λ no kept. jump_done inputs b n kept regs (e kept) to refl; undone = λ z. refl }
+  went_to : (to : ℕ) → ((kept : List Float) → Jump to ≡ effect_at inputs b n kept regs) → Went inputs b n regs (Some to) regs
+  went_to to e = λ kept. jump_done inputs b n kept regs (e kept) to refl
 
-  pub went_jump : (op t : ℕ) → t < 4294967296 → op ≡ byte_at b (slot_at n) → op ≡ 4 → t ≡ word_at b (slot_at n + 16) → Went inputs b n regs t regs
-  went_jump op t h eo z e = went_to t (omega arith) (λ kept. jump_is inputs b n kept regs op t eo z e)
+  pub went_jump : (op t : ℕ) → op ≡ byte_at b (slot_at n) → op ≡ 4 → t ≡ word_at b (slot_at n + 16) → Went inputs b n regs (Some t) regs
+  went_jump op t eo z e = went_to t (λ kept. jump_is inputs b n kept regs op t eo z e)
 
-  pub went_taken : (op i t : ℕ) (v : Float) → t < 4294967296 → op ≡ byte_at b (slot_at n) → op ≡ 3 → i ≡ word_at b (slot_at n + 8) → v ≡ get_or regs i 0f → is_zero v ≡ true → t ≡ word_at b (slot_at n + 16)
-      → Went inputs b n regs t regs
-  went_taken op i t v h eo z ei ev f e = went_to t (omega arith) (λ kept. taken_is inputs b n kept regs op i t v eo z ei ev f e)
+  pub went_taken : (op i t : ℕ) (v : Float) → op ≡ byte_at b (slot_at n) → op ≡ 3 → i ≡ word_at b (slot_at n + 8) → v ≡ get_or regs i 0f → is_zero v ≡ true → t ≡ word_at b (slot_at n + 16)
+      → Went inputs b n regs (Some t) regs
+  went_taken op i t v eo z ei ev f e = went_to t (λ kept. taken_is inputs b n kept regs op i t v eo z ei ev f e)
 
-  pub went_on : (op i : ℕ) (v : Float) → n < 4294967296 → op ≡ byte_at b (slot_at n) → op ≡ 3 → i ≡ word_at b (slot_at n + 8) → v ≡ get_or regs i 0f → is_zero v ≡ false → Went inputs b n regs (n + 1) regs
-  went_on op i v h eo z ei ev f = went_to (n + 1) (omega arith) (λ kept. passed_is inputs b n kept regs op i (n + 1) v eo z ei ev f (add-one n))
-
-  pub went_nowhere : Went inputs b n regs not_done regs
-  went_nowhere = record { done = λ no kept. absurd (no refl); undone = λ z. refl }
+  pub went_on : (op i : ℕ) (v : Float) → op ≡ byte_at b (slot_at n) → op ≡ 3 → i ≡ word_at b (slot_at n + 8) → v ≡ get_or regs i 0f → is_zero v ≡ false → Went inputs b n regs (Some (n + 1)) regs
+  went_on op i v eo z ei ev f = went_to (n + 1) (λ kept. passed_is inputs b n kept regs op i (n + 1) v eo z ei ev f (add-one n))

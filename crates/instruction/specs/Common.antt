@@ -1,5 +1,5 @@
 -- Instructions that ask nothing, done at once.
-use Rattle.std.specs.Prelude.{◌≡◌, true, List, ℕ, ◌+◌, ◌*◌, ◌<◌, get_or, Float}
+use Rattle.std.specs.Prelude.{◌≡◌, true, List, ℕ, ◌+◌, ◌*◌, ◌<◌, get_or, Float, Option, Some, None}
 use Rattle.arithmetic.specs.Value.{finite}
 use Rattle.machine.specs.Program.{jump}
 use Rattle.layout.specs.Decode.{ops}
@@ -19,11 +19,7 @@ Stores op x y inputs regs v =
 abbrev pub Works : List ℕ → ℕ → ℕ → List Float → Float → Type 0
 Works b at op regs v = finite v ≡ true → (4 < op) × ((kept : List Float) → Work (Value v) ≡ operation_at b at op kept regs)
 
--- no position of an instruction
-abbrev pub not_done : ℕ
-not_done = 18446744073709551615
-
--- the instruction n was done, whatever is kept, and the run goes on at r; or r is no position and nothing is changed
-pub record Went (inputs : List Float) (b : List ℕ) (n : ℕ) (before : List Float) (r : ℕ) (after : List Float) : Type 0 where
-  pub done : (r ≡ not_done → ⊥) → (kept : List Float) → Progressed b n (machine_effect inputs b n kept before) (Next r) before after
-  pub undone : r ≡ not_done → after ≡ before
+-- the instruction n was done, whatever is kept, and the run goes on at a place; or it was not, and nothing is changed
+abbrev pub Went : List Float → List ℕ → ℕ → List Float → Option ℕ → List Float → Type 0
+Went inputs b n before (Some to) after = (kept : List Float) → Progressed b n (machine_effect inputs b n kept before) (Next to) before after
+Went inputs b n before None after = after ≡ before

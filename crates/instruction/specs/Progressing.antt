@@ -1,12 +1,12 @@
 -- An instruction that was done, beside the machine's effect.
 use Rattle.std.specs.Prelude.{◌≡◌, List, ℕ, Float}
 use Rattle.std.specs.Float.{binary64}
-use Rattle.meaning.specs.Work.{elementary, power}
 use Rattle.machine.specs.Machine as Machine
 use Rattle.machine.specs.Machine.{fails, goes, wants}
 use Rattle.layout.specs.Decode.{destination_at, op_at, path_number, path_of, raw_program}
+use Rattle.work.specs.View.{question_of}
 use Rattle.instruction.specs.declared.Progress.{Progress}
-use Rattle.instruction.specs.declared.Progress.TheVariants.{Domain, Elementary, Next, Power}
+use Rattle.instruction.specs.declared.Progress.TheVariants.{Domain, Next, Question}
 
 -- the machine's effect of the instruction n of the bytes
 unfoldable pub machine_effect : List Float → List ℕ → ℕ → List Float → List Float → Machine.Effect
@@ -17,8 +17,7 @@ machine_effect inputs b n kept regs =
 abbrev pub effect_of : List ℕ → Progress → List Float → Machine.Effect
 effect_of b (Next to) regs = goes to regs
 effect_of b (Domain k) regs = fails (path_of b k)
-effect_of b (Elementary f x) regs = wants (elementary f x)
-effect_of b (Power x y) regs = wants (power x y)
+effect_of b (Question q) regs = wants (question_of q)
 
 abbrev pub registers_after : Machine.Effect → List Float → List Float
 registers_after (goes to regs) before = regs

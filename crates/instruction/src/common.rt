@@ -12,9 +12,6 @@ use layout::{HEADER_SIZE, SLOT_SIZE};
 use reader::known_word;
 use work::truth_value;
 
-// No position of an instruction.
-pub const NOT_DONE: usize = 0xffff_ffff_ffff_ffff;
-
 // "Division by a zero of either sign .. [is] Domain": a NaN.
 fn quotient(x: f64, y: f64) -> f64
     ensures { result ≡ cond (ne y 0f) (div binary64 x y) nan }
@@ -50,7 +47,7 @@ fn value(op: u8, a: usize, b: usize, inputs: &[f64], regs: &[f64]) -> f64
 
 // The instruction n, whose slot is there, done if it is common and no Domain: the position after it. What is kept makes no
 // difference to such an instruction. Any other changes nothing.
-pub fn step(p: &[u8], n: usize, inputs: &[f64], regs: &mut [f64]) -> usize
+pub fn step(p: &[u8], n: usize, inputs: &[f64], regs: &mut [f64]) -> Option<usize>
     requires { (n < 4294967296) × (slot_at n + slot_size ≤ length p.now) }
     ensures { Went inputs.now p.now n regs.old result regs.new }
 {
@@ -60,17 +57,17 @@ pub fn step(p: &[u8], n: usize, inputs: &[f64], regs: &mut [f64]) -> usize
     let b = known_word(p, at + 12);
     if op == 3 {
         if value_at(regs, a) == 0.0 {
-            return known_word(p, at + 16);
+            return Some(known_word(p, at + 16));
         }
-        return n + 1;
+        return Some(n + 1);
     }
     if op == 4 {
-        return known_word(p, at + 16);
+        return Some(known_word(p, at + 16));
     }
     let v = value(op, a, b, inputs, regs);
     if floats::value::is_finite(v) {
         store(regs, known_word(p, at + 4), v);
-        return n + 1;
+        return Some(n + 1);
     }
-    NOT_DONE
+    None
 }

@@ -16,7 +16,7 @@ ghost use Rattle.instruction.specs.Progressing.{Progressed, machine_effect};
 
 use layout::{CODE_AT, ENTRY_SIZE, HEADER_SIZE, PATHS_AT, RECORD_SIZE, SLOT_SIZE};
 use reader::{byte, half, long, word};
-use work::{Kept, Outcome};
+use work::{Kept, Outcome, Question};
 
 // What an instruction does: a node's work, or a jump.
 #[derive(Clone, Copy)]
@@ -30,8 +30,7 @@ pub enum Effect {
 pub enum Progress {
     Next(usize),
     Domain(usize),
-    Elementary(u8, f64),
-    Power(f64, f64),
+    Question(Question),
 }
 
 pub fn value_at(xs: &[f64], i: usize) -> f64
@@ -234,8 +233,7 @@ pub fn step(p: &[u8], n: usize, inputs: &[f64], regs: &mut [f64], kept: Kept) ->
                 Progress::Domain(word(p, at + 20))
             }
             Outcome::Undefined => Progress::Domain(word(p, at + 20)),
-            Outcome::Elementary(f, x) => Progress::Elementary(f, x),
-            Outcome::Power(x, y) => Progress::Power(x, y),
+            Outcome::Question(q) => Progress::Question(q),
         },
     }
 }

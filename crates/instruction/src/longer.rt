@@ -7,7 +7,6 @@ ghost use Rattle.arithmetic.specs.Modulo.{modulo};
 ghost use Rattle.layout.specs.Decode.{slot_at, slot_size};
 ghost use Rattle.instruction.specs.Common.{Went, Works};
 
-use crate::common::NOT_DONE;
 use crate::{extremum, store, value_at};
 use layout::{HEADER_SIZE, SLOT_SIZE};
 use reader::{half, known_word};
@@ -42,7 +41,7 @@ fn value(op: u8, p: &[u8], at: usize, regs: &[f64]) -> f64
 }
 
 // As `common::step`.
-pub fn step(p: &[u8], n: usize, regs: &mut [f64]) -> usize
+pub fn step(p: &[u8], n: usize, regs: &mut [f64]) -> Option<usize>
     requires { (n < 4294967296) × (slot_at n + slot_size ≤ length p.now) }
     ensures { (inputs : List Float) → Went inputs p.now n regs.old result regs.new }
 {
@@ -51,7 +50,7 @@ pub fn step(p: &[u8], n: usize, regs: &mut [f64]) -> usize
     let v = value(op, p, at, regs);
     if floats::value::is_finite(v) {
         store(regs, known_word(p, at + 4), v);
-        return n + 1;
+        return Some(n + 1);
     }
-    NOT_DONE
+    None
 }

@@ -11,7 +11,7 @@ use Rattle.formula.specs.Operator.{Operation, unary, binary, compare, call, Unar
 use Rattle.meaning.specs.Work.{Interaction, give, undefined, ask, power, advance, work, unary_work, binary_work, call_work, power_defined, hill_work, density_work, density_cost}
 use Rattle.work.specs.View.{shown}
 use Rattle.work.specs.declared.Outcome.{Outcome}
-use Rattle.work.specs.declared.Outcome.TheVariants.{Value, Undefined, Elementary, Power as Two}
+use Rattle.work.specs.declared.Outcome.TheVariants.{Value, Undefined, Question}
 
 -- at most n questions, whatever the answers
 abbrev pub AtMost : ℕ → Interaction → Type 0
@@ -76,8 +76,7 @@ module _ (F : Format) where
 abbrev pub is_question : Outcome → Bool
 is_question (Value v) = false
 is_question Undefined = false
-is_question (Elementary f x) = true
-is_question (Two a b) = true
+is_question (Question q) = true
 
 pub room : (n : ℕ) (w : Interaction) (kept : List Float) → AtMost n w → is_question (shown (advance w kept)) ≡ true → length kept < n
 room n (give v) [] m e = absurd (true≢false (sym e))

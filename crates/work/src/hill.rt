@@ -5,35 +5,32 @@ ghost use Rattle.std.specs.Float.{binary64};
 ghost use Rattle.meaning.specs.Work.{advance, hill_work};
 ghost use Rattle.work.specs.View.{shown, kept_values};
 
-use crate::{Kept, Outcome};
+use crate::{EXP, Kept, LOG, Outcome, asking};
 
 pub fn hill(x: f64, n: f64, k: f64, kept: Kept) -> Outcome
     ensures { result ≡ shown (advance (hill_work binary64 x n k) (kept_values kept)) }
 {
-    if n <= 0.0 {
-        return Outcome::Undefined;
-    }
-    if k <= 0.0 {
+    if n <= 0.0 || k <= 0.0 {
         return Outcome::Undefined;
     }
     if x <= 0.0 {
         return Outcome::Value(0.0);
     }
-    if kept.count == 0 {
-        return Outcome::Elementary(1, x);
-    }
-    if kept.count == 1 {
-        return Outcome::Elementary(1, k);
-    }
-    let z = n * (kept.first - kept.second);
+    let Some(log_x) = kept.get(0) else {
+        return asking(LOG, x);
+    };
+    let Some(log_k) = kept.get(1) else {
+        return asking(LOG, k);
+    };
+    let z = n * (log_x - log_k);
     if 0.0 <= z {
-        if kept.count == 2 {
-            return Outcome::Elementary(0, -z);
-        }
-        return Outcome::Value(1.0 / (1.0 + kept.third));
+        let Some(e) = kept.get(2) else {
+            return asking(EXP, -z);
+        };
+        return Outcome::Value(1.0 / (1.0 + e));
     }
-    if kept.count == 2 {
-        return Outcome::Elementary(0, z);
-    }
-    Outcome::Value(kept.third / (1.0 + kept.third))
+    let Some(q) = kept.get(2) else {
+        return asking(EXP, z);
+    };
+    Outcome::Value(q / (1.0 + q))
 }

@@ -5,11 +5,11 @@ mod density;
 mod hill;
 mod operator;
 
-ghost use Rattle.std.specs.Prelude.{◌≡◌, ◌&&◌, [], ◌∷◌, ◌++◌, eqb, take};
+ghost use Rattle.std.specs.Prelude.{◌≡◌, ◌&&◌, ◌<◌, [], ◌∷◌, ◌++◌, eqb, length, nat_lt, take};
 ghost use Rattle.std.specs.Float.{binary64};
 ghost use Rattle.arithmetic.specs.Value.{truth_value};
-ghost use Rattle.meaning.specs.Work.{advance, power_defined};
-ghost use Rattle.work.specs.View.{shown, kept_values};
+ghost use Rattle.meaning.specs.Work.{advance, elementary, power_defined};
+ghost use Rattle.work.specs.View.{Next, shown, shown_question, kept_values};
 ghost use Rattle.work.specs.Opcode.{puts_function, work_of};
 
 // "A half-done Hill or density keeps the values supplied to it, logarithms and the density's first exp":
@@ -17,65 +17,76 @@ ghost use Rattle.work.specs.Opcode.{puts_function, work_of};
 #[derive(Clone, Copy)]
 pub struct Kept {
     pub count: usize,
-    pub first: f64,
-    pub second: f64,
-    pub third: f64,
-    pub fourth: f64,
-    pub fifth: f64,
-    pub sixth: f64,
-    pub seventh: f64,
-    pub eighth: f64,
-    pub ninth: f64,
+    pub values: [f64; 9],
 }
 
-// "The answer of a run carries its number in the case": a value; not a number; a question with its function's
-// number and its argument; Power's, with base and exponent.
+impl Kept {
+    // Nothing kept.
+    pub fn new() -> Kept
+        ensures { kept_values result ≡ [] }
+    {
+        Kept {
+            count: 0,
+            values: [0.0; 9],
+        }
+    }
+
+    // One value more; past nine it is lost.
+    pub fn with(self, value: f64) -> Kept
+        ensures { kept_values result ≡ take 9 (kept_values self ++ value ∷ []) }
+    {
+        let mut kept = self;
+        if kept.has_room() {
+            kept.values[kept.count] = value;
+            kept.count += 1;
+        }
+        kept
+    }
+
+    fn has_room(&self) -> bool
+        ensures room { result ≡ nat_lt self.now.count 9 }
+        ensures places { length self.now.values ≡ 9 }
+    {
+        self.count < self.values.len()
+    }
+
+    // The value at a place, if as many are kept.
+    fn get(&self, place: usize) -> Option<f64>
+        requires { place < 9 }
+        ensures { Next (kept_values self.now) place result }
+    {
+        if place < self.count {
+            Some(self.values[place])
+        } else {
+            None
+        }
+    }
+}
+
+// What the host is asked: a function by its number, of an argument; Power, of base and exponent.
 #[derive(Clone, Copy)]
-pub enum Outcome {
-    Value(f64),
-    Undefined,
+pub enum Question {
     Elementary(u8, f64),
     Power(f64, f64),
 }
 
-// Nothing kept.
-pub fn fresh() -> Kept
-    ensures { kept_values result ≡ [] }
-{
-    Kept {
-        count: 0,
-        first: 0.0,
-        second: 0.0,
-        third: 0.0,
-        fourth: 0.0,
-        fifth: 0.0,
-        sixth: 0.0,
-        seventh: 0.0,
-        eighth: 0.0,
-        ninth: 0.0,
-    }
+// "The answer of a run carries its number in the case": a value; not a number; a question.
+#[derive(Clone, Copy)]
+pub enum Outcome {
+    Value(f64),
+    Undefined,
+    Question(Question),
 }
 
-// One value more; past nine it is lost.
-pub fn keep(kept: Kept, value: f64) -> Kept
-    ensures { kept_values result ≡ take 9 (kept_values kept ++ value ∷ []) }
+// The functions that Hill and the density ask for, by number.
+const EXP: u8 = 0;
+
+const LOG: u8 = 1;
+
+fn asking(function: u8, x: f64) -> Outcome
+    ensures { result ≡ Outcome.Question (shown_question (elementary function x)) }
 {
-    let mut k = kept;
-    let n = k.count;
-    match n {
-        0 => k.first = value,
-        1 => k.second = value,
-        2 => k.third = value,
-        3 => k.fourth = value,
-        4 => k.fifth = value,
-        5 => k.sixth = value,
-        6 => k.seventh = value,
-        7 => k.eighth = value,
-        8 => k.ninth = value,
-        _ => return k,
-    }
-    k.count = n + 1;
-    k
+    Outcome::Question(Question::Elementary(function, x))
 }
 
 // "truth values and comparisons 1.0 or 0.0"
@@ -89,16 +100,12 @@ pub fn truth_value(b: bool) -> f64
 pub fn work(opcode: usize, x: f64, y: f64, z: f64, kept: Kept) -> Outcome
     ensures { result ≡ shown (advance (work_of opcode x y z) (kept_values kept)) }
 {
-    if opcode < 8 {
-        return operator::unary(opcode, x, y, z, kept);
+    match opcode {
+        0..=7 => operator::unary(opcode, x, y, z, kept),
+        8..=13 => operator::binary(opcode, x, y, z, kept),
+        14..=19 => operator::compare(opcode, x, y, z, kept),
+        _ => call::call(opcode, x, y, z, kept),
     }
-    if opcode < 14 {
-        return operator::binary(opcode, x, y, z, kept);
-    }
-    if opcode < 20 {
-        return operator::compare(opcode, x, y, z, kept);
-    }
-    call::call(opcode, x, y, z, kept)
 }
 
 // "Power within its domain" puts a question.
@@ -112,5 +119,5 @@ pub fn puts_power(opcode: u8, x: f64, y: f64) -> bool
 pub fn puts_function(opcode: u8) -> bool
     ensures { result ≡ puts_function opcode }
 {
-    20 <= opcode && (opcode < 28 && opcode != 23)
+    20 <= opcode && opcode < 28 && opcode != 23
 }

@@ -1,93 +1,89 @@
 // Unary, binary and compare nodes.
 ghost use Rattle.std.specs.Prelude.{◌≡◌, ◌≤◌, ◌<◌};
 ghost use Rattle.std.specs.Float.{binary64};
-ghost use Rattle.meaning.specs.Work.{advance, power_defined};
+ghost use Rattle.meaning.specs.Work.{advance, divide_work, modulo_work, power_defined, power_work};
 ghost use Rattle.work.specs.View.{shown, kept_values};
 ghost use Rattle.work.specs.Opcode.{work_of};
 
-use crate::{Kept, Outcome, truth_value};
+use crate::{Kept, Outcome, Question, truth_value};
 
 pub fn unary(opcode: usize, x: f64, y: f64, z: f64, kept: Kept) -> Outcome
     requires { opcode < 8 }
     ensures { result ≡ shown (advance (work_of opcode x y z) (kept_values kept)) }
 {
-    if opcode == 6 {
-        return Outcome::Value(-x);
+    match opcode {
+        6 => Outcome::Value(-x),
+        7 => Outcome::Value(truth_value(x == 0.0)),
+        _ => Outcome::Value(x),
     }
-    if opcode == 7 {
-        return Outcome::Value(truth_value(x == 0.0));
+}
+
+// "Division by a zero of either sign ... [is] Domain."
+fn quotient(a: f64, b: f64, kept: Kept) -> Outcome
+    ensures { result ≡ shown (advance (divide_work binary64 a b) (kept_values kept)) }
+{
+    if b != 0.0 {
+        Outcome::Value(a / b)
+    } else {
+        Outcome::Undefined
     }
-    Outcome::Value(x)
 }
 
 // "Power with base 0 and exponent <= 0, or a negative base and a fractional exponent, ... are Domain."
 pub fn is_power_defined(a: f64, b: f64) -> bool
     ensures { result ≡ power_defined binary64 a b }
 {
-    if a == 0.0 {
-        if b <= 0.0 {
-            return false;
-        }
-    }
-    if 0.0 <= a {
-        return true;
-    }
-    floats::whole::is_whole(b)
+    (0.0 <= a || floats::whole::is_whole(b)) && !(a == 0.0 && b <= 0.0)
 }
 
-// "Division by a zero of either sign ... and Modulo with b <= 0 are Domain."
+fn power(a: f64, b: f64, kept: Kept) -> Outcome
+    ensures { result ≡ shown (advance (power_work binary64 a b) (kept_values kept)) }
+{
+    if !is_power_defined(a, b) {
+        return Outcome::Undefined;
+    }
+    match kept.get(0) {
+        Some(value) => Outcome::Value(value),
+        None => Outcome::Question(Question::Power(a, b)),
+    }
+}
+
+// "Modulo with b <= 0 [is] Domain."
+fn remainder(a: f64, b: f64, kept: Kept) -> Outcome
+    ensures { result ≡ shown (advance (modulo_work binary64 a b) (kept_values kept)) }
+{
+    if 0.0 < b {
+        Outcome::Value(floats::modulo::modulo(a, b))
+    } else {
+        Outcome::Undefined
+    }
+}
+
 pub fn binary(opcode: usize, a: f64, b: f64, z: f64, kept: Kept) -> Outcome
     requires { (8 ≤ opcode) × (opcode < 14) }
     ensures { result ≡ shown (advance (work_of opcode a b z) (kept_values kept)) }
 {
-    if opcode == 8 {
-        return Outcome::Value(a + b);
+    match opcode {
+        8 => Outcome::Value(a + b),
+        9 => Outcome::Value(a - b),
+        10 => Outcome::Value(a * b),
+        11 => quotient(a, b, kept),
+        12 => power(a, b, kept),
+        _ => remainder(a, b, kept),
     }
-    if opcode == 9 {
-        return Outcome::Value(a - b);
-    }
-    if opcode == 10 {
-        return Outcome::Value(a * b);
-    }
-    if opcode == 11 {
-        if b != 0.0 {
-            return Outcome::Value(a / b);
-        }
-        return Outcome::Undefined;
-    }
-    if opcode == 12 {
-        if is_power_defined(a, b) {
-            if kept.count == 0 {
-                return Outcome::Power(a, b);
-            }
-            return Outcome::Value(kept.first);
-        }
-        return Outcome::Undefined;
-    }
-    if 0.0 < b {
-        return Outcome::Value(floats::modulo::modulo(a, b));
-    }
-    Outcome::Undefined
 }
 
 pub fn compare(opcode: usize, a: f64, b: f64, z: f64, kept: Kept) -> Outcome
     requires { (14 ≤ opcode) × (opcode < 20) }
     ensures { result ≡ shown (advance (work_of opcode a b z) (kept_values kept)) }
 {
-    if opcode == 14 {
-        return Outcome::Value(truth_value(a < b));
-    }
-    if opcode == 15 {
-        return Outcome::Value(truth_value(a <= b));
-    }
-    if opcode == 16 {
-        return Outcome::Value(truth_value(a > b));
-    }
-    if opcode == 17 {
-        return Outcome::Value(truth_value(a >= b));
-    }
-    if opcode == 18 {
-        return Outcome::Value(truth_value(a == b));
-    }
-    Outcome::Value(truth_value(a != b))
+    let holds = match opcode {
+        14 => a < b,
+        15 => a <= b,
+        16 => a > b,
+        17 => a >= b,
+        18 => a == b,
+        _ => a != b,
+    };
+    Outcome::Value(truth_value(holds))
 }

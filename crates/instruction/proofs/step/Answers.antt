@@ -2,7 +2,7 @@ use mathlib.Core.Path.{sym, ap, ◌∙◌}
 use Rattle.layout.specs.Decode.{destination_at, path_number}
 use Rattle.work.specs.View.{kept_values}
 use Rattle.instruction.specs.declared.Effect.TheVariants.{Work}
-use Rattle.instruction.proofs.Done.{elementary_done, infinite_done, jump_done, power_done, undefined_done, value_done}
+use Rattle.instruction.proofs.Done.{infinite_done, jump_done, question_done, undefined_done, value_done}
 use Rattle.instruction.proofs.step.Goals as goal
 
 pub returns-then-is_finite : goal.returns-then-is_finite
@@ -41,16 +41,7 @@ returns-in-Undefined c =
     undefined_done args.inputs.now args.p.now args.n (kept_values args.kept) args.regs.now effect_at.ensures c.word-in-Undefined.result
     (c.in-Work.is ∙ ap Work c.in-Undefined.is) c.word-in-Undefined.ensures.0
 
-pub returns-in-Elementary : goal.returns-in-Elementary
-returns-in-Elementary c =
-    let args = c.args in
-    let effect_at = c.effect_at-e in
-    elementary_done args.inputs.now args.p.now args.n (kept_values args.kept) args.regs.now effect_at.ensures c.in-Elementary.f
-    c.in-Elementary.x (c.in-Work.is ∙ ap Work c.in-Elementary.is)
-
-pub returns-in-Power : goal.returns-in-Power
-returns-in-Power c =
-    let args = c.args in
-    let effect_at = c.effect_at-e in
-    power_done args.inputs.now args.p.now args.n (kept_values args.kept) args.regs.now effect_at.ensures c.in-Power.x
-    c.in-Power.y (c.in-Work.is ∙ ap Work c.in-Power.is)
+pub returns-in-Question : goal.returns-in-Question
+returns-in-Question c =
+    question_done c.args.inputs.now c.args.p.now c.args.n (kept_values c.args.kept) c.args.regs.now c.effect_at-e.ensures c.in-Question.q
+    (c.in-Work.is ∙ ap Work c.in-Question.is)

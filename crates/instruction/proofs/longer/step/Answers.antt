@@ -1,21 +1,9 @@
 use mathlib.Core.Path.{refl, sym, ◌∙◌}
-use Rattle.instruction.proofs.Stores.{went_nowhere, went_worked}
+use Rattle.instruction.proofs.Stores.{went_worked}
 use Rattle.instruction.proofs.longer.step.Goals as goal
 
 pub returns-then-is_finite : goal.returns-then-is_finite
-returns-then-is_finite c =
-    let args = c.args in
-    let pre = c.requires in
-    let value = c.value-v in
-    let is_finite = c.is_finite in
-    let if1 = c.if-is_finite in
-    let known_word = c.known_word in
-    let store = c.store in
-    λ inputs.
-    went_worked inputs args.p.now args.n args.regs.now _ known_word.result value.result pre.0 refl value.ensures
-    (sym is_finite.ensures ∙ if1.true) known_word.ensures.0 store.ensures
-
-pub returns : goal.returns
-returns c =
-    let args = c.args in
-    λ inputs. went_nowhere inputs args.p.now args.n args.regs.now
+returns-then-is_finite c = λ inputs.
+    let to = c.known_word in
+    went_worked inputs c.args.p.now c.args.n c.args.regs.now _ to.result c.value-v.result refl c.value-v.ensures
+    (sym c.is_finite.ensures ∙ c.if-is_finite.true) to.ensures.0 c.store.ensures

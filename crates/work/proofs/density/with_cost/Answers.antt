@@ -1,42 +1,36 @@
-use native.Mathlib.Omega.{arith}
 use lib.Ieee.{of_bits}
-use Rattle.work.specs.View.{places}
-use Rattle.work.proofs.Answers.{take_all}
+use lib.ListN.{drop}
 use Rattle.meaning.specs.Work.{density_cost}
+use Rattle.work.specs.View.{kept_values}
+use Rattle.work.proofs.Answers.{given}
 use Rattle.work.proofs.density.with_cost.Goals as goal
 
-pub returns-then-kept-eq3 : goal.returns-then-kept-eq3
-unfolding density_cost of_bits
-returns-then-kept-eq3 c = rw c.if-kept-eq3.true
+pub returns-in_default : goal.returns-in_default
+unfolding density_cost
+returns-in_default c = rw (c.in_default.ensures, c.asking.ensures)
 
-pub returns-then-kept-eq4 : goal.returns-then-kept-eq4
-unfolding density_cost of_bits
-returns-then-kept-eq4 c = rw c.if-kept-eq4.true
+pub returns-in_default-get : goal.returns-in_default-get
+unfolding density_cost
+returns-in_default-get c = rw (c.in-Some.ensures, c.in_default-get.ensures, c.asking-in_default-get.ensures)
 
-pub returns-then-kept-eq5 : goal.returns-then-kept-eq5
-unfolding density_cost of_bits
-returns-then-kept-eq5 c = rw (c.if-kept-eq5.true, c.abs.ensures)
+pub returns-in_default-get-2 : goal.returns-in_default-get-2
+unfolding density_cost
+returns-in_default-get-2 c = rw (c.in-Some.ensures, c.in-Some-get.ensures, c.in_default-get-2.ensures, c.asking-in_default-get-2.ensures, c.abs.ensures)
 
-pub returns-then-kept-eq6 : goal.returns-then-kept-eq6
-unfolding density_cost of_bits
-returns-then-kept-eq6 c = rw c.if-kept-eq6.true
+pub returns-in_default-get-3 : goal.returns-in_default-get-3
+unfolding density_cost
+returns-in_default-get-3 c = rw (c.in-Some.ensures, c.in-Some-get.ensures, c.in-Some-get-2.ensures, c.in_default-get-3.ensures, c.asking-in_default-get-3.ensures)
 
-pub returns-then-kept-eq7 : goal.returns-then-kept-eq7
+pub returns-in_default-get-4 : goal.returns-in_default-get-4
 unfolding density_cost of_bits
-returns-then-kept-eq7 c = rw (c.if-kept-eq7.true, c.ln_two.ensures)
+returns-in_default-get-4 c = rw (c.in-Some.ensures, c.in-Some-get.ensures, c.in-Some-get-2.ensures, c.in-Some-get-3.ensures, c.in_default-get-4.ensures, c.asking-in_default-get-4.ensures, c.ln_two.ensures)
 
-pub returns-then-kept-eq8 : goal.returns-then-kept-eq8
-unfolding density_cost of_bits
-returns-then-kept-eq8 c = rw c.if-kept-eq8.true
+pub returns-in_default-get-5 : goal.returns-in_default-get-5
+unfolding density_cost
+returns-in_default-get-5 c = rw (c.in-Some.ensures, c.in-Some-get.ensures, c.in-Some-get-2.ensures, c.in-Some-get-3.ensures, c.in-Some-get-4.ensures, c.in_default-get-5.ensures, c.asking-in_default-get-5.ensures)
 
 pub returns : goal.returns
-unfolding density_cost of_bits
+unfolding density_cost
 returns c =
-    let args = c.args in
-    let pre = c.requires in
-    let if1 = c.if-kept-eq3 in
-    let if2 = c.if-kept-eq4 in
-    let if3 = c.if-kept-eq5 in
-    let if4 = c.if-kept-eq6 in
-    let if5 = c.if-kept-eq7 in
-    rw (take_all args.kept.count (places args.kept) (omega (arith, pre, if1.false, if2.false, if3.false, if4.false, if5.false, c.if-kept-eq8.false)))
+    rw (c.in-Some.ensures, c.in-Some-get.ensures, c.in-Some-get-2.ensures, c.in-Some-get-3.ensures, c.in-Some-get-4.ensures, c.in-Some-get-5.ensures)
+    (given _ (drop 9 (kept_values c.args.kept)))
