@@ -1,104 +1,149 @@
 #![tactic(auto)]
-// What the programs share that replay recorded cases: numbers of a record, slices beside it, and the count of cases.
-ghost use Rattle.std.specs.Prelude.{◌≤◌, length};
+// What the programs share that replay recorded cases: the numbers of a record, slices beside it, and the count of cases.
+ghost use Rattle.std.specs.Prelude.{◌≡◌, ◌≤◌, length, IfSome};
 
 use floats::value::{bits_of, of_bits};
+use std::io;
 use std::io::{Read, Stdin, Stdout};
-use std::{io, num};
+use std::ops::ControlFlow;
 
 // ---- a record
 
-// A place in a record, some bytes or numbers on.
-pub fn plus(a: usize, b: usize) -> usize {
-    num::wrapping_add_usize(a, b)
+// What stands in a record as a cell, 8 bytes with the least first.
+pub trait Cell: Copy {
+    fn from_cell(cell: u64) -> Self;
+
+    fn to_cell(self) -> u64;
 }
 
-// Where a record's number i begins, where numbers have 8 bytes; past every record where i is too large.
-pub fn place(i: usize) -> usize {
-    if i < 1_000_000 {
-        return 8 * i;
+impl Cell for u64 {
+    fn from_cell(cell: u64) -> u64 {
+        cell
     }
-    8_000_000
-}
 
-// A record's number i, the least byte first.
-pub fn cell(b: &[u8], i: usize) -> u64 {
-    reader::long(b, place(i))
-}
-
-pub fn size(b: &[u8], i: usize) -> usize {
-    cell(b, i) as usize
-}
-
-// A length, cut to what there is. Whether a record asked for more is for the caller to say.
-pub fn cut(n: usize, most: usize) -> usize
-    ensures { result ≤ most }
-{
-    if n < most {
-        return n;
+    fn to_cell(self) -> u64 {
+        self
     }
-    most
+}
+
+impl Cell for usize {
+    fn from_cell(cell: u64) -> usize {
+        cell as usize
+    }
+
+    fn to_cell(self) -> u64 {
+        self as u64
+    }
+}
+
+impl Cell for f64 {
+    fn from_cell(cell: u64) -> f64 {
+        of_bits(cell)
+    }
+
+    fn to_cell(self) -> u64 {
+        bits_of(self)
+    }
+}
+
+// The rest of a record, which is read from its front. Past the end it reads as zeros.
+#[derive(Clone, Copy)]
+pub struct Record<'a> {
+    rest: &'a [u8],
+}
+
+impl<'a> Record<'a> {
+    pub fn new(bytes: &'a [u8]) -> Record<'a> {
+        Record { rest: bytes }
+    }
+
+    pub fn byte(&mut self) -> u8 {
+        let byte = reader::byte(self.rest, 0);
+        self.skip(1);
+        byte
+    }
+
+    // A number of 4 bytes, the least first.
+    pub fn word(&mut self) -> usize {
+        let word = reader::word(self.rest, 0);
+        self.skip(4);
+        word
+    }
+
+    pub fn cell<T: Cell>(&mut self) -> T {
+        let cell = reader::long(self.rest, 0);
+        self.skip(8);
+        T::from_cell(cell)
+    }
+
+    // Reads as many cells as there is room for.
+    pub fn cells<T: Cell>(&mut self, out: &mut [T]) {
+        for place in out.iter_mut() {
+            *place = self.cell();
+        }
+    }
+
+    // The next n bytes, where there are so many.
+    pub fn bytes(&mut self, n: usize) -> Option<&'a [u8]>
+        ensures { IfSome result (λ bytes. length bytes.now ≡ n) }
+    {
+        let (bytes, rest) = self.rest.split_at_checked(n)?;
+        self.rest = rest;
+        Some(bytes)
+    }
+
+    fn skip(&mut self, n: usize) {
+        self.rest = self.rest.get(n..).unwrap_or(&[]);
+    }
+}
+
+// Whether the cells of some bytes are these numbers, bit for bit.
+pub fn same<T: Cell>(recorded: &[u8], numbers: &[T]) -> bool {
+    let mut record = Record::new(recorded);
+    numbers
+        .iter()
+        .all(|number| number.to_cell() == record.cell::<u64>())
+}
+
+// The number that hexadecimal digits write, the last 16 of them.
+pub fn hex(digits: &[u8]) -> Option<u64> {
+    let mut value: u64 = 0;
+    for byte in digits {
+        let digit = names::digit(*byte);
+        if digit == 16 {
+            return None;
+        }
+        value = value << 4 | digit;
+    }
+    Some(value)
 }
 
 // Reads standard input to the start of a buffer until that is full, the input ends or a read fails, and says how many bytes it read.
-pub fn read_full(mut stdin: Stdin, b: &mut [u8]) -> usize
-    ensures { result ≤ length b.new }
+pub fn read_full(mut stdin: Stdin, room: &mut [u8]) -> usize
+    ensures { result ≤ length room.new }
 {
     let mut done = 0;
-    while done < b.len() {
-        let Ok(n) = stdin.read(&mut b[done..]) else {
-            break;
-        };
-        if n == 0 {
-            break;
+    while done < room.len() {
+        match stdin.read(&mut room[done..]) {
+            Ok(0) | Err(_) => break,
+            Ok(n) => done += n,
         }
-        done += n;
     }
     done
 }
 
-// Reads n bytes of standard input to the start of a buffer; false at the end of the input, or where they don't fit.
-pub fn take(stdin: Stdin, b: &mut [u8], n: usize) -> bool {
-    if b.len() < n {
-        return false;
+// Reads n bytes of standard input; none where the input ends before or they don't fit.
+pub fn take(mut stdin: Stdin, room: &mut [u8], n: usize) -> Option<&[u8]>
+    ensures { IfSome result (λ bytes. length bytes.now ≡ n) }
+{
+    if room.len() < n {
+        return None;
     }
-    read_full(stdin, &mut b[0..n]) == n
-}
-
-// Reads values from the record's number `at` on.
-pub fn read_values(b: &[u8], at: usize, out: &mut [f64]) {
-    let mut i = 0;
-    while i < out.len() {
-        out[i] = of_bits(cell(b, plus(at, i)));
-        i += 1;
+    let part = &mut room[..n];
+    if read_full(stdin, part) < n {
+        return None;
     }
-}
-
-#[derive(Clone, Copy)]
-pub struct Digits {
-    pub fine: bool,
-    pub value: u64,
-}
-
-// The hexadecimal digits from a place to the end before another: whether they are that, and the last 16 as a number.
-pub fn hex(b: &[u8], at: usize, end: usize) -> Digits {
-    let mut value: u64 = 0;
-    let mut i = at;
-    while i < end {
-        let d = names::digit(reader::byte(b, i));
-        if d == 16 {
-            return Digits {
-                fine: false,
-                value: 0,
-            };
-        }
-        value = value % 0x1000_0000_0000_0000 * 16 + d;
-        i += 1;
-    }
-    Digits {
-        fine: true,
-        value: value,
-    }
+    Some(part)
 }
 
 // ---- slices beside a record
@@ -106,147 +151,92 @@ pub fn hex(b: &[u8], at: usize, end: usize) -> Digits {
 // A slice that was not written holds what it was filled with.
 pub const FILL: u8 = 170;
 
-pub fn fill(slice: &mut [u8]) {
-    let mut i = 0;
-    while i < slice.len() {
-        slice[i] = FILL;
-        i += 1;
-    }
-}
-
-fn expected(b: &[u8], at: usize, n: usize, rest: u8, i: usize) -> u8 {
-    if i < n {
-        return reader::byte(b, plus(at, i));
-    }
-    rest
-}
-
-// Whether a slice begins with the n bytes recorded at a place and is `rest` after them.
-pub fn holds(slice: &[u8], b: &[u8], at: usize, n: usize, rest: u8) -> bool {
-    let mut i = 0;
-    while i < slice.len() {
-        if slice[i] != expected(b, at, n, rest, i) {
-            return false;
-        }
-        i += 1;
-    }
-    n <= slice.len()
+// Whether a slice is a text with `rest` after it to its end.
+pub fn holds(slice: &[u8], text: &[u8], rest: u8) -> bool {
+    slice
+        .strip_prefix(text)
+        .is_some_and(|after| after.iter().all(|byte| *byte == rest))
 }
 
 // Whether a slice is as a call leaves it: a text and zeros, or zeros, or not written.
-pub fn is_left(slice: &[u8], b: &[u8], at: usize, n: usize, zero: bool) -> bool {
-    if zero || n > 0 {
-        return holds(slice, b, at, n, 0);
-    }
-    holds(slice, b, at, 0, FILL)
-}
-
-// Whether values are those from the record's number `at` on, bit for bit.
-pub fn same_values(b: &[u8], at: usize, xs: &[f64]) -> bool {
-    let mut i = 0;
-    while i < xs.len() {
-        let bits = bits_of(xs[i]);
-        if bits != cell(b, plus(at, i)) {
-            return false;
-        }
-        i += 1;
-    }
-    true
-}
-
-pub fn same_cells(b: &[u8], at: usize, cells: &[u64]) -> bool {
-    let mut i = 0;
-    while i < cells.len() {
-        if cells[i] != cell(b, plus(at, i)) {
-            return false;
-        }
-        i += 1;
-    }
-    true
+pub fn is_left(slice: &[u8], text: &[u8], zero: bool) -> bool {
+    let written = zero || !text.is_empty();
+    holds(slice, text, if written { 0 } else { FILL })
 }
 
 // What a report holds before a call.
 pub const HELD: u64 = 7;
 
-fn reported_at(node: u64, i: usize) -> u64 {
-    if i == 0 { node } else { HELD }
-}
-
 // Whether a node stands in a report's first place, and the other places are as they were.
-pub fn is_reported(report: &[u64], node: u64) -> bool {
-    let mut i = 0;
-    while i < report.len() {
-        if report[i] != reported_at(node, i) {
-            return false;
-        }
-        i += 1;
-    }
-    true
-}
-
-// Both of two comparisons.
-pub fn all(a: bool, b: bool) -> bool {
-    a && b
+pub fn is_reported(report: &[u64; 8], node: u64) -> bool {
+    *report == [node, HELD, HELD, HELD, HELD, HELD, HELD, HELD]
 }
 
 // ---- the count
 
 // So many cases are replayed at most.
-pub const MOST: u64 = 1_000_000;
+const MOST: u64 = 1_000_000;
 
-// The cases so far, the calls in them, how many cases came out otherwise than recorded, and whether the record ended.
-#[derive(Clone, Copy)]
+// The cases so far, the calls in them, and how many cases came out otherwise than recorded.
+#[derive(Clone, Copy, Default)]
 pub struct Tally {
     pub cases: u64,
     pub calls: u64,
     pub wrong: u64,
-    pub ended: bool,
 }
 
-pub fn begin() -> Tally {
-    Tally {
-        cases: 0,
-        calls: 0,
-        wrong: 0,
-        ended: false,
+impl Tally {
+    // One case more, with so many calls; says which case came out otherwise.
+    pub fn count(&mut self, mut stdout: Stdout, right: bool, calls: u64) -> io::Result<()> {
+        if !right {
+            println!(stdout; "wrong: case {}", self.cases)?;
+            self.wrong = self.wrong.wrapping_add(1);
+        }
+        self.cases = self.cases.wrapping_add(1);
+        self.calls = self.calls.wrapping_add(calls);
+        Ok(())
+    }
+
+    pub fn verdict(&self, mut stdout: Stdout) -> io::Result<()> {
+        if self.wrong == 0 {
+            println!(stdout; "ok")?;
+        }
+        Ok(())
     }
 }
 
-pub fn end(t: Tally) -> Tally {
-    Tally {
-        cases: t.cases,
-        calls: t.calls,
-        wrong: t.wrong,
-        ended: true,
-    }
-}
-
-// One case more, with so many calls; says which case came out otherwise.
-pub fn counted(stdout: Stdout, t: Tally, right: bool, calls: u64) -> io::Result<Tally> {
-    let mut wrong = t.wrong;
-    if !right {
-        println!(stdout; "wrong: case {}", t.cases)?;
-        wrong = num::wrapping_add_u64(wrong, 1);
-    }
-    let cases = num::wrapping_add_u64(t.cases, 1);
-    let calls = num::wrapping_add_u64(t.calls, calls);
-    Ok(Tally {
-        cases: cases,
-        calls: calls,
-        wrong: wrong,
-        ended: false,
-    })
-}
-
-// Writes a number and what it counts.
-pub fn say(stdout: Stdout, n: u64, text: &[u8]) -> io::Result<()> {
-    print!(stdout; "{n}")?;
-    stdout.write_all(text)
-}
-
-pub fn verdict(stdout: Stdout, t: Tally) -> io::Result<()> {
-    if t.wrong == 0 {
-        stdout.println("ok")?;
+// Reads a head that fills the room lent for it and hands it on to `case`, again and again, until the input ends or `case` breaks off.
+pub fn each_head<F: FnMut(&[u8]) -> io::Result<ControlFlow<()>>>(
+    stdin: Stdin,
+    room: &mut [u8],
+    mut case: F,
+) -> io::Result<()>
+    requires { F.IsAlwaysCallable case }
+{
+    let length = room.len();
+    for _ in 0..MOST {
+        let Some(head) = take(stdin, room, length) else {
+            break;
+        };
+        if case(head)?.is_break() {
+            break;
+        }
     }
     Ok(())
+}
+
+// Counts so many cases that one record holds; `case` says of the next one whether it is as recorded.
+pub fn all_cases<F: FnMut(&mut Record) -> bool>(
+    stdout: Stdout,
+    record: &mut Record,
+    count: usize,
+    mut case: F,
+) -> io::Result<Tally>
+    requires { F.IsAlwaysCallable case }
+{
+    let mut tally = Tally::default();
+    for _ in 0..count {
+        tally.count(stdout, case(record), 0)?;
+    }
+    Ok(tally)
 }
