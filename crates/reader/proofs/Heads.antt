@@ -102,19 +102,6 @@ pub and_all : (i z r : Bool) → r ≡ i → z ≡ (i && true) → r ≡ z
 and_all true z r e q = e ∙ sym q
 and_all false z r e q = e ∙ sym q
 
--- none of the nine kinds
-pub other_kind : (k : ℕ) → (k ≡ 0 → ⊥) → (k ≡ 1 → ⊥) → (k ≡ 2 → ⊥) → (k ≡ 3 → ⊥) → (k ≡ 4 → ⊥) → (k ≡ 5 → ⊥) → (k ≡ 6 → ⊥) → (k ≡ 7 → ⊥) → (k ≡ 8 → ⊥) → 8 < k
-other_kind zero a b c d e f g h i = absurd (a refl)
-other_kind (suc zero) a b c d e f g h i = absurd (b refl)
-other_kind (suc (suc zero)) a b c d e f g h i = absurd (c refl)
-other_kind (suc (suc (suc zero))) a b c d e f g h i = absurd (d refl)
-other_kind (suc (suc (suc (suc zero)))) a b c d e f g h i = absurd (e refl)
-other_kind (suc (suc (suc (suc (suc zero))))) a b c d e f g h i = absurd (f refl)
-other_kind (suc (suc (suc (suc (suc (suc zero)))))) a b c d e f g h i = absurd (g refl)
-other_kind (suc (suc (suc (suc (suc (suc (suc zero))))))) a b c d e f g h i = absurd (h refl)
-other_kind (suc (suc (suc (suc (suc (suc (suc (suc zero)))))))) a b c d e f g h i = absurd (i refl)
-other_kind (suc (suc (suc (suc (suc (suc (suc (suc (suc k))))))))) a b c d e f g h i = omega arith
-
 -- ---- a node's fields are those of its head
 
 when_true : (c : Bool) (o : Option Head) (h : Head) → when c o ≡ some h → c ≡ true

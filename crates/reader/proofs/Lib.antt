@@ -1,4 +1,5 @@
 pub mod Past
+pub mod Loads
 pub mod Heads
 pub mod Trees
 pub mod Scan

@@ -1,10 +1,15 @@
--- There is 0 past the end.
-use mathlib.Core.Path.{◌≡◌}
-use mathlib.Core.List.{List}
-use Prim.Native.Nat.{ℕ, ◌+◌, ◌≤◌}
+-- There is 0 past the end, and in zeros.
+use mathlib.Core.Path.{◌≡◌, refl}
+use mathlib.Core.List.{List, []}
+use Prim.Native.Nat.{ℕ, zero, suc, ◌+◌, ◌≤◌}
 use native.Mathlib.Omega.{arith}
 use lib.ListN.{length, get_or-eq_default}
-use Rattle.formula.specs.Text.{byte_at, half_at, word_at, long_at}
+use Rattle.formula.specs.Text.{byte_at, half_at, word_at, long_at, zeros}
+
+pub zero_byte : (n k : ℕ) → byte_at (zeros n) k ≡ 0
+zero_byte zero k = let h : 0 ≤ k = omega arith in get_or-eq_default [] 0 h
+zero_byte (suc n) zero = refl
+zero_byte (suc n) (suc k) = zero_byte n k
 
 module _ (b : List ℕ) where
   pub byte_past : (at : ℕ) → length b ≤ at → byte_at b at ≡ 0

@@ -14,8 +14,10 @@ use Rattle.formula.specs.Node.{Fields, fields_at, head_of, head_at, children_at,
 use Rattle.formula.specs.Transfer as Transfer
 use Rattle.formula.specs.Transfer.{all_good_nodes, ended_early, fault_in, good_nodes, left_over, received, transfer_of, wrong_field}
 use Rattle.reader.specs.Read.{is_some, told}
-use Rattle.reader.specs.declared.Received.{Received}
-use Rattle.reader.specs.declared.Received.TheVariants.{Whole, EndedEarly, WrongField, LeftOver}
+use Rattle.std.specs.Prelude.{Result, Ok, Err}
+use Rattle.std.specs.Result.{is_ok}
+use Rattle.reader.specs.declared.Malformed.{Malformed}
+use Rattle.reader.specs.declared.Malformed.TheVariants.{EndedEarly, WrongField, LeftOver}
 use Rattle.reader.proofs.Heads.{no_true, and_first, and_second}
 use Rattle.reader.proofs.Trees.{head_past, headed, tree_by_node, children_next, children_none, fewer_levels}
 
@@ -133,32 +135,32 @@ passed b k at n z t m = passed_in (head_at b at) b k at n z refl t m
 -- ---- what the bytes are, from a node on
 
 -- with this number of nodes before the first that is malformed, or with all of them well-formed
-abbrev pub verdict : List ℕ → Bool → ℕ → Received
+abbrev pub verdict : List ℕ → Bool → ℕ → Result Unit Malformed
 verdict b well k =
-    cond well (cond (eqb (node_size * k) (length b)) Whole (LeftOver k)) (cond (leb (node_size * suc k) (length b)) (WrongField k) (EndedEarly k))
+    cond well (cond (eqb (node_size * k) (length b)) (Ok tt) (Err (LeftOver k))) (cond (leb (node_size * suc k) (length b)) (Err (WrongField k)) (Err (EndedEarly k)))
 
 -- so many trees are owed at the node j
-unfoldable pub scanned : List ℕ → ℕ → ℕ → Received
+unfoldable pub scanned : List ℕ → ℕ → ℕ → Result Unit Malformed
 unfolding trees
 scanned b owed j = verdict b (all_well_formed (trees b owed (node_size * j))) (j + all_good_nodes (trees b owed (node_size * j)))
 
-told_fault : (c : Bool) (k : ℕ) → told (cond c (wrong_field k) (ended_early k)) ≡ cond c (WrongField k) (EndedEarly k)
+told_fault : (c : Bool) (k : ℕ) → told (cond c (wrong_field k) (ended_early k)) ≡ cond c (Err (WrongField k)) (Err (EndedEarly k))
 told_fault true k = refl
 told_fault false k = refl
 
 start_whole : (b : List ℕ) (t : Formula) (e : Bool) → well_formed t ≡ true → eqb (node_size * size t) (length b) ≡ e → tree_at b 0 ≡ t
-    → told (received b (cond e (some t) none)) ≡ cond (eqb (node_size * size t) (length b)) Whole (LeftOver (size t))
-start_whole b t true w q z = sym (ap (λ (o : Bool). cond o Whole (LeftOver (size t))) q)
+    → told (received b (cond e (some t) none)) ≡ cond (eqb (node_size * size t) (length b)) (Ok tt) (Err (LeftOver (size t)))
+start_whole b t true w q z = sym (ap (λ (o : Bool). cond o (Ok tt) (Err (LeftOver (size t)))) q)
 start_whole b t false w q z =
     ap (λ (T : Formula). told (fault_in b T)) z
     ∙ ap (λ (o : Bool). told (cond o (left_over (good_nodes t)) (cond (leb (node_size * suc (good_nodes t)) (length b)) (wrong_field (good_nodes t)) (ended_early (good_nodes t))))) w
-    ∙ ap (λ (k : ℕ). LeftOver k) (good_size t w)
-    ∙ sym (ap (λ (o : Bool). cond o Whole (LeftOver (size t))) q)
+    ∙ ap (λ (k : ℕ). Err (LeftOver k)) (good_size t w)
+    ∙ sym (ap (λ (o : Bool). cond o (Ok tt) (Err (LeftOver (size t)))) q)
 
 start_by : (b : List ℕ) (t : Formula) (w : Bool) → well_formed t ≡ w → tree_at b 0 ≡ t
     → told (received b (cond (w && eqb (node_size * size t) (length b)) (some t) none)) ≡ verdict b w (good_nodes t)
 start_by b t true q z =
-    start_whole b t (eqb (node_size * size t) (length b)) q refl z ∙ ap (λ (k : ℕ). cond (eqb (node_size * k) (length b)) Whole (LeftOver k)) (sym (good_size t q))
+    start_whole b t (eqb (node_size * size t) (length b)) q refl z ∙ ap (λ (k : ℕ). cond (eqb (node_size * k) (length b)) (Ok tt) (Err (LeftOver k))) (sym (good_size t q))
 start_by b t false q z =
     ap (λ (T : Formula). told (fault_in b T)) z
     ∙ ap (λ (o : Bool). told (cond o (left_over (good_nodes t)) (cond (leb (node_size * suc (good_nodes t)) (length b)) (wrong_field (good_nodes t)) (ended_early (good_nodes t))))) q
@@ -176,7 +178,7 @@ scan_start b =
     ∙ ap (λ (w : Bool). verdict b w (good_nodes t)) (sym (and-true (well_formed t)))
     ∙ ap (λ (k : ℕ). verdict b (well_formed t && true) k) (no_more (well_formed t) (good_nodes t))
 
-pub scan_end : (b : List ℕ) (owed j : ℕ) → owed ≡ 0 → scanned b owed j ≡ cond (eqb (node_size * j) (length b)) Whole (LeftOver j)
+pub scan_end : (b : List ℕ) (owed j : ℕ) → owed ≡ 0 → scanned b owed j ≡ cond (eqb (node_size * j) (length b)) (Ok tt) (Err (LeftOver j))
 unfolding scanned trees
 scan_end b owed j z =
     let e = children_none (λ a. tree_at b a) owed (node_size * j) z in
@@ -188,7 +190,7 @@ bad_head none t k at e = refl
 bad_head (some h) t k at e = absurd (no_true (sym e))
 
 pub scan_bad : (b : List ℕ) (owed j : ℕ) → (owed ≡ 0 → ⊥) → is_some (head_at b (node_size * j)) ≡ false
-    → scanned b owed j ≡ cond (leb (node_size * suc j) (length b)) (WrongField j) (EndedEarly j)
+    → scanned b owed j ≡ cond (leb (node_size * suc j) (length b)) (Err (WrongField j)) (Err (EndedEarly j))
 unfolding scanned trees
 scan_bad b owed j z e =
     let at = node_size * j in
@@ -213,31 +215,21 @@ scan_step b owed j n z e m =
     ∙ ap (λ (k : ℕ). verdict b (all_well_formed us) k) a
     ∙ ap (λ (y : ℕ). verdict b (all_well_formed (trees b (owed - 1 + n) y)) (suc j + all_good_nodes (trees b (owed - 1 + n) y))) x
 
-told_no_whole : (c d : Bool) (k : ℕ) → told (cond c (left_over k) (cond d (wrong_field k) (ended_early k))) ≡ Whole → ⊥
-told_no_whole true d k e = let z : ◌≡◌ {A = ℕ} 0 1 = cc in omega arith
-told_no_whole false true k e = let z : ◌≡◌ {A = ℕ} 0 1 = cc in omega arith
-told_no_whole false false k e = let z : ◌≡◌ {A = ℕ} 0 1 = cc in omega arith
+fault_not_ok : (c d : Bool) (k : ℕ) → is_ok (told (cond c (left_over k) (cond d (wrong_field k) (ended_early k)))) ≡ false
+fault_not_ok true d k = refl
+fault_not_ok false true k = refl
+fault_not_ok false false k = refl
 
-fault_not_whole : (b : List ℕ) (t : Formula) → told (fault_in b t) ≡ Whole → ⊥
-fault_not_whole b t e = told_no_whole (well_formed t) (leb (node_size * suc (good_nodes t)) (length b)) (good_nodes t) e
-
-some_by : (b : List ℕ) (o : Option Formula) → told (received b o) ≡ Whole → true ≡ is_some o
-some_by b none e = absurd (fault_not_whole b (tree_at b 0) e)
-some_by b (some f) e = refl
-
-none_by : (b : List ℕ) (o : Option Formula) → (told (received b o) ≡ Whole → ⊥) → false ≡ is_some o
-none_by b none n = refl
-none_by b (some f) n = absurd (n refl)
+ok_by : (b : List ℕ) (o : Option Formula) → is_ok (told (received b o)) ≡ is_some o
+ok_by b none =
+    let t = tree_at b 0 in
+    fault_not_ok (well_formed t) (leb (node_size * suc (good_nodes t)) (length b)) (good_nodes t)
+ok_by b (some f) = refl
 
 -- bytes are whole where they are a formula, and only there
-module _ (b : List ℕ) (r : Received) (e : r ≡ told (transfer_of b)) where
-  pub whole_some : r ≡ Whole → true ≡ is_some (formula_of b)
-  unfolding transfer_of
-  whole_some w = some_by b (formula_of b) (sym e ∙ w)
-
-  pub fault_none : (r ≡ Whole → ⊥) → false ≡ is_some (formula_of b)
-  unfolding transfer_of
-  fault_none n = none_by b (formula_of b) (λ q. n (e ∙ q))
+pub ok_some : (b : List ℕ) → is_ok (told (transfer_of b)) ≡ is_some (formula_of b)
+unfolding transfer_of
+ok_some b = ok_by b (formula_of b)
 
 -- ---- a formula's own tree
 
@@ -272,7 +264,7 @@ formula_in b f d e l =
 
 -- a formula was received just where the bytes are one
 whole_by : (b : List ℕ) (f : Formula) (o : Option Formula) → received b o ≡ Transfer.whole f → o ≡ some f
-whole_by b f none e = absurd (fault_not_whole b (tree_at b 0) (ap told e))
+whole_by b f none e = absurd (no_true (sym (ok_by b none) ∙ ap (λ (X : Transfer.Transfer). is_ok (told X)) e))
 whole_by b f (some g) e = let q : g ≡ f = cc in ap (λ (x : Formula). some x) q
 
 pub whole_formula : (b : List ℕ) (f : Formula) → transfer_of b ≡ Transfer.whole f → formula_of b ≡ some f

@@ -1,4 +1,4 @@
--- The scan of `receive`: at a byte, with so many trees owed.
+-- The scan of `receive`: at a node, with so many trees owed.
 use mathlib.Core.Path.{◌≡◌, refl, sym, ap, ◌∙◌}
 use mathlib.Core.Bool.{Bool, true, false, cond}
 use mathlib.Core.List.{List}
@@ -7,108 +7,111 @@ use Prim.Native.Nat.{ℕ, suc, ◌+◌, ◌-◌, ◌*◌, ◌/◌, ◌≤◌, �
 use native.Mathlib.Omega.{arith}
 use lib.ListN.{length}
 use lib.Dec.{eqb, leb}
-use borrow.Author.Tests.{eqb-false, eqb-true, le-leb, lt-leb}
+use borrow.Author.Tests.{eq-eqb, le-leb, lt-leb, ne_eqb}
 use Rattle.formula.specs.Node.{Fields, fields_at, head_of, head_at, node_size}
 use Rattle.formula.specs.Transfer.{transfer_of}
 use Rattle.reader.specs.Read.{is_some, told}
-use Rattle.reader.specs.declared.Received.TheVariants.{Whole, EndedEarly, WrongField, LeftOver}
+use Rattle.reader.specs.declared.Malformed.TheVariants.{EndedEarly, WrongField, LeftOver}
 use Rattle.reader.proofs.Scan.{is_there, past_none, scan_bad, scan_end, scan_start, scan_step, scanned}
+use Rattle.std.specs.Prelude.{Ok, Err}
 
-pub record Owing (b : List ℕ) (at owed : ℕ) : Type 0 where
-  pub node : ℕ
-  pub place : at ≡ node_size * node
-  pub inside : at ≤ length b
-  pub same : told (transfer_of b) ≡ scanned b owed node
+-- at the node k so many trees are owed
+unfoldable pub Owing : List ℕ → ℕ → ℕ → Type 0
+Owing b k owed = told (transfer_of b) ≡ scanned b owed k
 
-pub owing_start : (b : List ℕ) → Owing b 0 1
-owing_start b = record { node = 0; place = omega arith; inside = omega arith; same = scan_start b }
-
-module _ (b : List ℕ) (at owed : ℕ) (w : Owing b at owed) where
-  divided : w.node ≡ at / 16
-  divided = let e = w.place in omega arith
-
-  pub owing_end : owed ≡ 0 → cond (eqb at (length b)) Whole (LeftOver (at / 16)) ≡ told (transfer_of b)
-  owing_end z =
-      ap (λ (k : ℕ). cond (eqb at (length b)) Whole (LeftOver k)) (sym divided)
-      ∙ ap (λ (x : ℕ). cond (eqb x (length b)) Whole (LeftOver w.node)) w.place
-      ∙ sym (w.same ∙ scan_end b owed w.node z)
+module _ (b : List ℕ) (k owed : ℕ) (w : Owing b k owed) where
+  owing_end : owed ≡ 0 → cond (eqb (node_size * k) (length b)) (Ok tt) (Err (LeftOver k)) ≡ told (transfer_of b)
+  unfolding Owing
+  owing_end z = sym (w ∙ scan_end b owed k z)
 
   module _ (z : owed ≡ 0 → ⊥) where
-    faulty : is_some (head_at b at) ≡ false → cond (leb (node_size * suc w.node) (length b)) (WrongField (at / 16)) (EndedEarly (at / 16)) ≡ told (transfer_of b)
-    faulty e =
-        ap (λ (k : ℕ). cond (leb (node_size * suc w.node) (length b)) (WrongField k) (EndedEarly k)) (sym divided)
-        ∙ sym (w.same ∙ scan_bad b owed w.node z (ap (λ (x : ℕ). is_some (head_at b x)) (sym w.place) ∙ e))
+    faulty : is_some (head_at b (node_size * k)) ≡ false → cond (leb (node_size * suc k) (length b)) (Err (WrongField k)) (Err (EndedEarly k)) ≡ told (transfer_of b)
+    unfolding Owing
+    faulty e = sym (w ∙ scan_bad b owed k z e)
 
-    pub owing_early : length b < at + node_size → EndedEarly (at / 16) ≡ told (transfer_of b)
+    owing_early : length b < node_size * suc k → Err (EndedEarly k) ≡ told (transfer_of b)
     owing_early l =
-        let e = w.place in
-        let h : length b < node_size * suc w.node = omega arith in
-        sym (ap (λ (c : Bool). cond c (WrongField (at / 16)) (EndedEarly (at / 16))) (lt-leb (node_size * suc w.node) (length b) h)) ∙ faulty (past_none b at l)
+        sym (ap (λ (c : Bool). cond c (Err (WrongField k)) (Err (EndedEarly k))) (lt-leb (node_size * suc k) (length b) l))
+        ∙ faulty (past_none b (node_size * k) (omega arith))
 
     -- the node there has all its bytes, and these fields
-    module _ (l : at + node_size ≤ length b) (f : Fields) (q : f ≡ fields_at b at) where
-      pub owing_wrong : is_some (head_of f) ≡ false → WrongField (at / 16) ≡ told (transfer_of b)
+    module _ (l : node_size * k + node_size ≤ length b) (f : Fields) (q : f ≡ fields_at b (node_size * k)) where
+      owing_wrong : is_some (head_of f) ≡ false → Err (WrongField k) ≡ told (transfer_of b)
       owing_wrong n =
-          let e = w.place in
-          let h : node_size * suc w.node ≤ length b = omega arith in
-          sym (ap (λ (c : Bool). cond c (WrongField (at / 16)) (EndedEarly (at / 16))) (le-leb (node_size * suc w.node) (length b) h))
-          ∙ faulty (sym (is_there b at f l q) ∙ n)
+          sym (ap (λ (c : Bool). cond c (Err (WrongField k)) (Err (EndedEarly k))) (le-leb (node_size * suc k) (length b) (omega arith)))
+          ∙ faulty (sym (is_there b (node_size * k) f l q) ∙ n)
 
-      pub owing_step : is_some (head_of f) ≡ true → Owing b (at + node_size) (owed - 1 + f.children)
-      unfolding fields_at
+      owing_step : is_some (head_of f) ≡ true → Owing b (k + 1) (owed - 1 + f.children)
+      unfolding Owing fields_at
       owing_step n =
-          let e = w.place in
-          record {
-            node = suc w.node;
-            place = omega arith;
-            inside = l;
-            same = w.same
-                ∙ scan_step b owed w.node f.children z (ap (λ (x : ℕ). is_some (head_at b x)) (sym e) ∙ sym (is_there b at f l q) ∙ n)
-                (ap (λ (g : Fields). g.children) q ∙ ap (λ (x : ℕ). (fields_at b x).children) e);
-          }
+          let e : suc k ≡ k + 1 = omega arith in
+          w
+          ∙ scan_step b owed k f.children z (sym (is_there b (node_size * k) f l q) ∙ n) (ap (λ (g : Fields). g.children) q)
+          ∙ ap (λ (j : ℕ). scanned b (owed - 1 + f.children) j) e
 
 -- the count is of the trees that are owed; or it is not, and both are more than the nodes that are left
-pub record Counted (b : List ℕ) (at count : ℕ) : Type 0 where
+pub record Counted (b : List ℕ) (k count : ℕ) : Type 0 where
   pub owed : ℕ
-  pub owing : Owing b at owed
-  pub close : (count ≡ owed) ⊎ ((length b < at + node_size * count) × (length b < at + node_size * owed))
+  pub owing : Owing b k owed
+  pub close : (count ≡ owed) ⊎ ((length b / 16 < k + count) × (length b / 16 < k + owed))
 
 pub counted_start : (b : List ℕ) → Counted b 0 1
-counted_start b = record { owed = 1; owing = owing_start b; close = inl refl }
+unfolding Owing
+counted_start b = record { owed = 1; owing = scan_start b; close = inl refl }
 
-module _ (b : List ℕ) (at count : ℕ) (s : Counted b at count) where
+module _ (b : List ℕ) (k count : ℕ) (s : Counted b k count) (i : k ≤ length b / 16) where
   -- there is one or more of either, or none of both
-  pub some_owed : (count ≡ 0 → ⊥) → s.owed ≡ 0 → ⊥
-  some_owed n e = ⊎_elim (λ q. n (q ∙ e)) (λ q. let h = q.1 in let i = s.owing.inside in omega arith) s.close
+  some_owed : (count ≡ 0 → ⊥) → s.owed ≡ 0 → ⊥
+  some_owed n e = ⊎_elim (λ q. n (q ∙ e)) (λ q. let h = q.1 in omega arith) s.close
 
-  pub none_owed : count ≡ 0 → s.owed ≡ 0
-  none_owed e = ⊎_elim (λ q. sym q ∙ e) (λ q. absurd (let h = q.0 in let i = s.owing.inside in omega arith)) s.close
+  none_owed : count ≡ 0 → s.owed ≡ 0
+  none_owed e = ⊎_elim (λ q. sym q ∙ e) (λ q. absurd (let h = q.0 in omega arith)) s.close
 
-  -- where no whole node is left
-  end_by : length b < at + node_size → (t : Bool) → eqb count 0 ≡ t
-      → cond t (cond (eqb at (length b)) Whole (LeftOver (at / 16))) (EndedEarly (at / 16)) ≡ told (transfer_of b)
-  end_by l true q = owing_end b at s.owed s.owing (none_owed (eqb-true count 0 q))
-  end_by l false q = owing_early b at s.owed s.owing (some_owed (eqb-false count 0 q)) l
+  pub counted_over : count ≡ 0 → node_size * k < length b → Err (LeftOver k) ≡ told (transfer_of b)
+  counted_over e l =
+      sym (ap (λ (c : Bool). cond c (Ok tt) (Err (LeftOver k))) (ne_eqb (node_size * k) (length b) (λ q. omega arith)))
+      ∙ owing_end b k s.owed s.owing (none_owed e)
 
-  pub counted_end : length b < at + node_size → cond (eqb count 0) (cond (eqb at (length b)) Whole (LeftOver (at / 16))) (EndedEarly (at / 16)) ≡ told (transfer_of b)
-  counted_end l = end_by l (eqb count 0) refl
+  counted_whole : count ≡ 0 → length b ≤ node_size * k → Ok tt ≡ told (transfer_of b)
+  counted_whole e l =
+      sym (ap (λ (c : Bool). cond c (Ok tt) (Err (LeftOver k))) (eq-eqb (node_size * k) (length b) (omega arith)))
+      ∙ owing_end b k s.owed s.owing (none_owed e)
 
-  module _ (l : at + node_size ≤ length b) (f : Fields) (q : f ≡ fields_at b at) (n : is_some (head_of f) ≡ true) (z : count ≡ 0 → ⊥) where
-    next_owing : Owing b (at + node_size) (s.owed - 1 + f.children)
-    next_owing = owing_step b at s.owed s.owing (some_owed z) l f q n
+  -- no node is left
+  module _ (e : length b / 16 ≤ k) where
+    last : length b / 16 ≡ k
+    last = omega arith
 
-    pub counted_on : count ≤ (length b - at) / 16 → Counted b (at + node_size) (count - 1 + f.children)
-    counted_on h =
-        record {
-          owed = s.owed - 1 + f.children;
-          owing = next_owing;
-          close = ⊎_elim (λ e. inl (ap (λ (k : ℕ). k - 1 + f.children) e)) (λ e. absurd (let m = e.0 in omega arith)) s.close;
-        }
+    pub ended_early : 0 < count → Err (EndedEarly (length b / 16)) ≡ told (transfer_of b)
+    ended_early n = ap (λ (j : ℕ). Err (EndedEarly j)) last ∙ owing_early b k s.owed s.owing (some_owed (λ z. omega arith)) (omega arith)
 
-    pub counted_still : (length b - at) / 16 < count → Counted b (at + node_size) count
-    counted_still h =
-        record {
-          owed = s.owed - 1 + f.children;
-          owing = next_owing;
-          close = inr (omega arith, ⊎_elim (λ e. omega arith) (λ e. let m = e.1 in omega arith) s.close);
-        }
+    pub ended_over : count ≡ 0 → node_size * (length b / 16) < length b → Err (LeftOver (length b / 16)) ≡ told (transfer_of b)
+    ended_over z l = ap (λ (j : ℕ). Err (LeftOver j)) last ∙ counted_over z (omega arith)
+
+    pub ended_whole : count ≡ 0 → length b ≤ node_size * (length b / 16) → Ok tt ≡ told (transfer_of b)
+    ended_whole z l = counted_whole z (omega arith)
+
+  -- a node is left, with these fields
+  module _ (j : k < length b / 16) (f : Fields) (q : f ≡ fields_at b (node_size * k)) (z : count ≡ 0 → ⊥) where
+    pub counted_wrong : is_some (head_of f) ≡ false → Err (WrongField k) ≡ told (transfer_of b)
+    counted_wrong n = owing_wrong b k s.owed s.owing (some_owed z) (omega arith) f q n
+
+    module _ (n : is_some (head_of f) ≡ true) where
+      next_owing : Owing b (k + 1) (s.owed - 1 + f.children)
+      next_owing = owing_step b k s.owed s.owing (some_owed z) (omega arith) f q n
+
+      pub counted_on : count ≤ length b / 16 - k → Counted b (k + 1) (count - 1 + f.children)
+      counted_on h =
+          record {
+            owed = s.owed - 1 + f.children;
+            owing = next_owing;
+            close = ⊎_elim (λ e. inl (ap (λ (c : ℕ). c - 1 + f.children) e)) (λ e. absurd (let m = e.0 in omega arith)) s.close;
+          }
+
+      pub counted_still : length b / 16 - k < count → Counted b (k + 1) count
+      counted_still h =
+          record {
+            owed = s.owed - 1 + f.children;
+            owing = next_owing;
+            close = inr (omega arith, ⊎_elim (λ e. omega arith) (λ e. let m = e.1 in omega arith) s.close);
+          }

@@ -5,7 +5,7 @@ use mathlib.Core.List.{List, [], ◌∷◌, ◌++◌, append-nil}
 use mathlib.Core.Option.{Option, none, some}
 use Prim.Native.Nat.{ℕ, zero, suc, ◌+◌, ◌-◌, ◌*◌, ◌/◌, ◌≤◌, ◌<◌}
 use native.Mathlib.Omega.{arith}
-use lib.ListN.{length, take, drop, length-append, length-drop, length-replicate, take-append-drop, get_or-append, get_or-eq_default}
+use lib.ListN.{length, take, drop, length-append, length-drop, length-replicate, take-append-drop, get_or-append}
 use lib.Seq.{get_or-append-add, get_or-take, length-take-le, take-append-le, take_at, take-take}
 use lib.Dec.{eqb, leb}
 use borrow.Author.Tests.{eq-eqb, eqb-false, eqb-true, le-leb, leb-false, leb-true, lt-leb, ne_eqb}
@@ -15,11 +15,14 @@ use Rattle.formula.specs.Node.{Fields, fields_at, fields_of, formula_of, head_at
 use Rattle.formula.specs.Transfer.{Transfer, ended_early, left_over, transfer_of, whole, wrong_field}
 use Rattle.reader.specs.Read.{is_some, told}
 use Rattle.reader.specs.Transfers.{IsFormula, Says, Spoilt, Unfinished, nodes}
-use Rattle.reader.specs.declared.Received.{Received}
-use Rattle.reader.specs.declared.Received.TheVariants.{Whole, EndedEarly, WrongField, LeftOver}
+use Rattle.std.specs.Prelude.{Result, Ok, Err}
+use Rattle.std.specs.Result.{is_ok}
+use Rattle.reader.specs.declared.Malformed.{Malformed}
+use Rattle.reader.specs.declared.Malformed.TheVariants.{EndedEarly, WrongField, LeftOver}
 use Rattle.reader.proofs.Heads.{no_true}
+use Rattle.reader.proofs.Past.{zero_byte}
 use Rattle.reader.proofs.Bytes.{Shows}
-use Rattle.reader.proofs.Scan.{fault_none, formula_in, formula_whole, past_none, scan_bad, scan_end, scan_start, scan_step, scanned, whole_formula, whole_some}
+use Rattle.reader.proofs.Scan.{formula_in, formula_whole, ok_some, past_none, scan_bad, scan_end, scan_start, scan_step, scanned, whole_formula}
 use Rattle.reader.proofs.Encode.{head_shown}
 
 -- ---- sixteen bytes that are alike are the same node
@@ -127,45 +130,45 @@ owed_before b (suc m) o k e h =
 
 -- ---- where the scan ends
 
-abbrev Ended : List ℕ → Received → Type 0
-Ended b Whole = (j : ℕ) × (owed_after b j ≡ some 0) × (node_size * j ≡ length b)
-Ended b (LeftOver k) = (owed_after b k ≡ some 0) × (node_size * k < length b)
-Ended b (EndedEarly k) = (o : ℕ) × (owed_after b k ≡ some (suc o)) × (length b < node_size * suc k)
-Ended b (WrongField k) = (o : ℕ) × (owed_after b k ≡ some (suc o)) × (node_size * suc k ≤ length b) × (is_some (head_at b (node_size * k)) ≡ false)
+abbrev Ended : List ℕ → Result Unit Malformed → Type 0
+Ended b (Ok u) = (j : ℕ) × (owed_after b j ≡ some 0) × (node_size * j ≡ length b)
+Ended b (Err (LeftOver k)) = (owed_after b k ≡ some 0) × (node_size * k < length b)
+Ended b (Err (EndedEarly k)) = (o : ℕ) × (owed_after b k ≡ some (suc o)) × (length b < node_size * suc k)
+Ended b (Err (WrongField k)) = (o : ℕ) × (owed_after b k ≡ some (suc o)) × (node_size * suc k ≤ length b) × (is_some (head_at b (node_size * k)) ≡ false)
 
-ended_is : (b : List ℕ) (r : Received) → Ended b r → told (transfer_of b) ≡ r
-ended_is b Whole e =
-    scan_to b e.0 0 e.1 ∙ scan_end b 0 e.0 refl ∙ ap (λ (t : Bool). cond t Whole (LeftOver e.0)) (eq-eqb (node_size * e.0) (length b) e.2)
-ended_is b (LeftOver k) e =
+ended_is : (b : List ℕ) (r : Result Unit Malformed) → Ended b r → told (transfer_of b) ≡ r
+ended_is b (Ok u) e =
+    scan_to b e.0 0 e.1 ∙ scan_end b 0 e.0 refl ∙ ap (λ (t : Bool). cond t (Ok tt) (Err (LeftOver e.0))) (eq-eqb (node_size * e.0) (length b) e.2)
+ended_is b (Err (LeftOver k)) e =
     scan_to b k 0 e.0
     ∙ scan_end b 0 k refl
-    ∙ ap (λ (t : Bool). cond t Whole (LeftOver k)) (ne_eqb (node_size * k) (length b) (λ q. let h = e.1 in omega arith))
-ended_is b (EndedEarly k) e =
+    ∙ ap (λ (t : Bool). cond t (Ok tt) (Err (LeftOver k))) (ne_eqb (node_size * k) (length b) (λ q. let h = e.1 in omega arith))
+ended_is b (Err (EndedEarly k)) e =
     let h = e.2 in
     scan_to b k (suc e.0) e.1
     ∙ scan_bad b (suc e.0) k (λ z. omega arith) (past_none b (node_size * k) (omega arith))
-    ∙ ap (λ (t : Bool). cond t (WrongField k) (EndedEarly k)) (lt-leb (node_size * suc k) (length b) h)
-ended_is b (WrongField k) e =
+    ∙ ap (λ (t : Bool). cond t (Err (WrongField k)) (Err (EndedEarly k))) (lt-leb (node_size * suc k) (length b) h)
+ended_is b (Err (WrongField k)) e =
     scan_to b k (suc e.0) e.1
     ∙ scan_bad b (suc e.0) k (λ z. omega arith) e.3
-    ∙ ap (λ (t : Bool). cond t (WrongField k) (EndedEarly k)) (le-leb (node_size * suc k) (length b) e.2)
+    ∙ ap (λ (t : Bool). cond t (Err (WrongField k)) (Err (EndedEarly k))) (le-leb (node_size * suc k) (length b) e.2)
 
-nothing_owed : (b : List ℕ) (j : ℕ) → owed_after b j ≡ some 0 → (t : Bool) → eqb (node_size * j) (length b) ≡ t → (r : Received) × Ended b r
-nothing_owed b j e true q = (Whole, (j, e, eqb-true (node_size * j) (length b) q))
-nothing_owed b j e false q = (LeftOver j, (e, let n = eqb-false (node_size * j) (length b) q in let h = nodes_inside b j 0 e in omega arith))
+nothing_owed : (b : List ℕ) (j : ℕ) → owed_after b j ≡ some 0 → (t : Bool) → eqb (node_size * j) (length b) ≡ t → (r : Result Unit Malformed) × Ended b r
+nothing_owed b j e true q = (Ok tt, (j, e, eqb-true (node_size * j) (length b) q))
+nothing_owed b j e false q = (Err (LeftOver j), (e, let n = eqb-false (node_size * j) (length b) q in let h = nodes_inside b j 0 e in omega arith))
 
 next_after : (b : List ℕ) (j o : ℕ) → owed_after b j ≡ some (suc o) → is_some (head_at b (node_size * j)) ≡ true → owed_after b (suc j) ≡ some (o + half_at b (node_size * j + 2))
 next_after b j o e w = ap₂ (λ (t : Bool) (m : Option ℕ). next_owed t (half_at b (node_size * j + 2)) m) w e
 
 one_owed : (b : List ℕ) (j o : ℕ) → owed_after b j ≡ some (suc o)
-    → (owed_after b (suc j) ≡ some (o + half_at b (node_size * j + 2)) → (r : Received) × Ended b r)
-    → (t u : Bool) → leb (node_size * suc j) (length b) ≡ t → is_some (head_at b (node_size * j)) ≡ u → (r : Received) × Ended b r
-one_owed b j o e on false u q w = (EndedEarly j, (o, e, leb-false (node_size * suc j) (length b) q))
-one_owed b j o e on true false q w = (WrongField j, (o, e, leb-true (node_size * suc j) (length b) q, w))
+    → (owed_after b (suc j) ≡ some (o + half_at b (node_size * j + 2)) → (r : Result Unit Malformed) × Ended b r)
+    → (t u : Bool) → leb (node_size * suc j) (length b) ≡ t → is_some (head_at b (node_size * j)) ≡ u → (r : Result Unit Malformed) × Ended b r
+one_owed b j o e on false u q w = (Err (EndedEarly j), (o, e, leb-false (node_size * suc j) (length b) q))
+one_owed b j o e on true false q w = (Err (WrongField j), (o, e, leb-true (node_size * suc j) (length b) q, w))
 one_owed b j o e on true true q w = on (next_after b j o e w)
 
 -- so many steps are enough
-ends_in : (d : ℕ) (b : List ℕ) (j o : ℕ) → owed_after b j ≡ some o → length b < node_size * (j + d) → (r : Received) × Ended b r
+ends_in : (d : ℕ) (b : List ℕ) (j o : ℕ) → owed_after b j ≡ some o → length b < node_size * (j + d) → (r : Result Unit Malformed) × Ended b r
 ends_in zero b j o e l = absurd (let h = nodes_inside b j o e in omega arith)
 ends_in (suc d) b j zero e l = nothing_owed b j e (eqb (node_size * j) (length b)) refl
 ends_in (suc d) b j (suc o) e l =
@@ -174,7 +177,7 @@ ends_in (suc d) b j (suc o) e l =
 ended : (b : List ℕ) → Ended b (told (transfer_of b))
 ended b =
     let x = ends_in (suc (length b)) b 0 1 refl (omega arith) in
-    subst (λ (r : Received). Ended b r) (sym (ended_is b x.0 x.1)) x.1
+    subst (λ (r : Result Unit Malformed). Ended b r) (sym (ended_is b x.0 x.1)) x.1
 
 -- ---- what was told is what is so
 
@@ -186,14 +189,14 @@ none_in : (o : Option Formula) → false ≡ is_some o → o ≡ none
 none_in none e = refl
 none_in (some f) e = absurd (no_true e)
 
-is_whole : (b : List ℕ) → Ended b Whole → IsFormula b
-is_whole b e = whole_in (formula_of b) (whole_some b Whole (sym (ended_is b Whole e)) refl)
+is_whole : (b : List ℕ) → Ended b (Ok tt) → IsFormula b
+is_whole b e = whole_in (formula_of b) (ap is_ok (sym (ended_is b (Ok tt) e)) ∙ ok_some b)
 
-whole_is : (b : List ℕ) (f : Formula) → formula_of b ≡ some f → Ended b Whole
-whole_is b f e = subst (λ (r : Received). Ended b r) (ap told (formula_whole b f e)) (ended b)
+whole_is : (b : List ℕ) (f : Formula) → formula_of b ≡ some f → Ended b (Ok tt)
+whole_is b f e = subst (λ (r : Result Unit Malformed). Ended b r) (ap told (formula_whole b f e)) (ended b)
 
-is_none : (b : List ℕ) (r : Received) → Ended b r → (r ≡ Whole → ⊥) → formula_of b ≡ none
-is_none b r e n = none_in (formula_of b) (fault_none b r (sym (ended_is b r e)) n)
+is_none : (b : List ℕ) (m : Malformed) → Ended b (Err m) → formula_of b ≡ none
+is_none b m e = none_in (formula_of b) (ap is_ok (sym (ended_is b (Err m) e)) ∙ ok_some b)
 
 told_same : (X Y : Transfer) → ((f : Formula) → X ≡ whole f → ⊥) → told Y ≡ told X → Y ≡ X
 told_same (whole f) Y n e = absurd (n f refl)
@@ -224,11 +227,6 @@ owed_taken b more j l =
     owed_alike (nodes j b ++ more) b j (omega (arith, taken_length (node_size * j) b more l)) l (taken_byte (node_size * j) b more l)
 
 -- ---- trees that are owed can be zeros: sixteen are the number 0
-
-zero_byte : (n k : ℕ) → byte_at (zeros n) k ≡ 0
-zero_byte zero k = let h : 0 ≤ k = omega arith in get_or-eq_default [] 0 h
-zero_byte (suc n) zero = refl
-zero_byte (suc n) (suc k) = zero_byte n k
 
 zero_node : (b : List ℕ) (at : ℕ) → at + node_size ≤ length b → ((i : ℕ) → i < node_size → byte_at b (at + i) ≡ 0) → (is_some (head_at b at) ≡ true) × (half_at b (at + 2) ≡ 0)
 unfolding node_bytes fields_at
@@ -277,7 +275,7 @@ spoilt b k o e l n more =
     let same : owed_after c k ≡ owed_after b k = owed_alike c b k (omega arith) (omega arith) (λ i h. byte i (omega arith)) in
     let head : is_some (head_at c x) ≡ is_some (head_at b x) =
     ap (λ (o : Option Head). is_some o) (head_alike c b x x (λ i h. byte (x + i) (omega arith)) (omega arith) (omega arith)) in
-    is_none c (WrongField k) (o, same ∙ e, omega arith, head ∙ n) (λ q. let z : ◌≡◌ {A = ℕ} 0 1 = cc in omega arith)
+    is_none c (WrongField k) (o, same ∙ e, omega arith, head ∙ n)
 
 says_in : (b : List ℕ) (X : Transfer) → transfer_of b ≡ X → Ended b (told X) → Says b X
 says_in b (whole f) q e = whole_formula b f q
@@ -309,7 +307,7 @@ no_formula : {f : Formula} {o : Option Formula} → o ≡ none → o ≡ some f 
 no_formula n e = let z : ◌≡◌ {A = ℕ} 0 1 = cc in omega arith
 
 wrong_by : (b : List ℕ) (k p : ℕ) → owed_after b k ≡ some (suc p) → node_size * suc k ≤ length b → Spoilt (nodes (suc k) b) → (t : Bool) → is_some (head_at b (node_size * k)) ≡ t
-    → Ended b (WrongField k)
+    → Ended b (Err (WrongField k))
 wrong_by b k p e l s false q = (p, e, l, q)
 wrong_by b k p e l s true q =
     let n = p + half_at b (node_size * k + 2) in
@@ -326,16 +324,16 @@ only b (left_over k) s =
     let j : w.0 ≡ k = omega (arith, w.2) in
     let same = owed_alike c b k (omega arith) (omega arith) (λ i m. get_or-take (node_size * k) b i 0 m) in
     told_same (left_over k) (transfer_of b) (λ f q. let z : ◌≡◌ {A = ℕ} 0 1 = cc in omega arith)
-    (ended_is b (LeftOver k) (sym same ∙ ap (λ (i : ℕ). owed_after c i) (sym j) ∙ w.1, h))
+    (ended_is b (Err (LeftOver k)) (sym same ∙ ap (λ (i : ℕ). owed_after c i) (sym j) ∙ w.1, h))
 only b (ended_early k) s =
     let e = s.0 in
     let p = owes_on b k (omega arith) s.1 in
-    told_same (ended_early k) (transfer_of b) (λ f q. let z : ◌≡◌ {A = ℕ} 0 1 = cc in omega arith) (ended_is b (EndedEarly k) (p.0, p.1, omega arith))
+    told_same (ended_early k) (transfer_of b) (λ f q. let z : ◌≡◌ {A = ℕ} 0 1 = cc in omega arith) (ended_is b (Err (EndedEarly k)) (p.0, p.1, omega arith))
 only b (wrong_field k) s =
     let l = s.0 in
     let p = owes_on b k (omega arith) s.1 in
     told_same (wrong_field k) (transfer_of b) (λ f q. let z : ◌≡◌ {A = ℕ} 0 1 = cc in omega arith)
-    (ended_is b (WrongField k) (wrong_by b k p.0 p.1 l s.2 (is_some (head_at b (node_size * k))) refl))
+    (ended_is b (Err (WrongField k)) (wrong_by b k p.0 p.1 l s.2 (is_some (head_at b (node_size * k))) refl))
 
 -- ---- a wrong field and bytes left over are told whatever comes later
 
@@ -399,4 +397,4 @@ module _ (b : List ℕ) (f : Formula) (is : formula_of b ≡ some f) where
       ap (λ (j : ℕ). byte_at c j) q ∙ get_or-append-add (nodes k b) (w ++ rest) i 0 ∙ get_or-append w rest 0 i (omega arith) ∙ ap (λ (j : ℕ). byte_at w j) r in
       let head : is_some (head_at c x) ≡ false = ap (λ (o : Option Head). is_some o) (head_alike c w x 0 byte (omega arith) (omega arith)) ∙ n in
       told_same (wrong_field k) (transfer_of c) (λ f q. let z : ◌≡◌ {A = ℕ} 0 1 = cc in omega arith)
-      (ended_is c (WrongField k) (g.0, owed_taken b (w ++ rest) k (omega arith) ∙ g.1, omega arith, head))
+      (ended_is c (Err (WrongField k)) (g.0, owed_taken b (w ++ rest) k (omega arith) ∙ g.1, omega arith, head))

@@ -1,11 +1,13 @@
 #![tactic(auto)]
 
-ghost use Rattle.std.specs.Prelude.{◌≡◌, true, cond, ◌&&◌, ◌+◌, ◌*◌, ◌/◌, ◌^◌, ◌≤◌, ◌<◌, length, ltb, eqb};
-ghost use Rattle.formula.specs.Text.{byte_at, half_at, word_at, long_at};
+ghost use Rattle.std.specs.Prelude.{◌≡◌, true, ◌&&◌, ◌++◌, ◌+◌, ◌^◌, ◌≤◌, ◌<◌, length, take, drop, ltb, eqb};
+ghost use Rattle.formula.specs.Text.{byte_at, half_at, word_at, long_at, zeros};
 ghost use Rattle.formula.specs.Formula.{well_formed};
 ghost use Rattle.formula.specs.Node.{fields_at, head_of, tree_at, formula_of};
 ghost use Rattle.formula.specs.Transfer.{transfer_of};
-ghost use Rattle.reader.specs.Read.{is_some, written, extent_at, limited, told};
+ghost use Rattle.reader.specs.Read.{is_some, written, end_at, limited, told, refused};
+
+use refusals::Refusal;
 
 // How many bytes a node has.
 pub const NODE_SIZE: usize = 16;
@@ -14,7 +16,15 @@ pub const NODE_SIZE: usize = 16;
 pub fn wide(x: u8) -> usize
     ensures { (result ≡ x) × (result < 256) }
 {
-    x as usize
+    usize::from(x)
+}
+
+// N bytes that are all there.
+fn known_bytes<const N: usize>(b: &[u8], at: usize) -> [u8; N]
+    requires { at + N ≤ length b.now }
+    ensures { result ≡ take N (drop at b.now) }
+{
+    *b[at..].first_chunk::<N>().unwrap()
 }
 
 // The little-endian number of 2, 4 or 8 bytes that are all there.
@@ -22,62 +32,89 @@ pub fn known_half(b: &[u8], at: usize) -> usize
     requires { at + 2 ≤ length b.now }
     ensures { (result ≡ half_at b.now at) × (result < 65536) }
 {
-    wide(b[at]) + 256 * wide(b[at + 1])
+    usize::from(u16::from_le_bytes(known_bytes::<2>(b, at)))
 }
 
 pub fn known_word(b: &[u8], at: usize) -> usize
     requires { at + 4 ≤ length b.now }
     ensures { (result ≡ word_at b.now at) × (result < 2 ^ 32) }
 {
-    known_half(b, at) + 65536 * known_half(b, at + 2)
+    u32::from_le_bytes(known_bytes::<4>(b, at)) as usize
 }
 
 fn known_long(b: &[u8], at: usize) -> u64
     requires { at + 8 ≤ length b.now }
     ensures { result ≡ long_at b.now at }
 {
-    known_word(b, at) as u64 + 4294967296 * (known_word(b, at + 4) as u64)
+    u64::from_le_bytes(known_bytes::<8>(b, at))
 }
 
-// The same of 1, 2, 4 or 8 bytes, where there is 0 past the end. A number of 4 bytes that are all there takes one test.
+// The first N bytes, with 0 for each past the end. Bytes that are all there take one load.
+fn first_bytes<const N: usize>(b: &[u8]) -> [u8; N]
+    ensures { result ≡ take N (b.now ++ zeros N) }
+{
+    if let Some(first) = b.first_chunk::<N>() {
+        return *first;
+    }
+    let mut padded = [0; N];
+    padded[..b.len()].copy_from_slice(b);
+    padded
+}
+
+// N bytes from a place on, which may be past the end.
+fn bytes_from<const N: usize>(b: &[u8], at: usize) -> [u8; N]
+    ensures { result ≡ take N (drop at b.now ++ zeros N) }
+{
+    if at < b.len() {
+        first_bytes(&b[at..])
+    } else {
+        [0; N]
+    }
+}
+
+// The little-endian number of 1, 2, 4 or 8 bytes, with 0 for each past the end.
 pub fn byte(b: &[u8], at: usize) -> u8
     ensures { result ≡ byte_at b.now at }
 {
-    if at < b.len() {
-        return b[at];
-    }
-    0
+    b.get(at).copied().unwrap_or(0)
 }
 
 pub fn half(b: &[u8], at: usize) -> usize
     ensures { (result ≡ half_at b.now at) × (result < 65536) }
 {
-    if at < b.len() {
-        return wide(byte(b, at)) + 256 * wide(byte(b, at + 1));
-    }
-    0
+    usize::from(u16::from_le_bytes(bytes_from::<2>(b, at)))
 }
 
 pub fn word(b: &[u8], at: usize) -> usize
     ensures { (result ≡ word_at b.now at) × (result < 2 ^ 32) }
 {
-    if at < b.len() {
-        if 4 <= b.len() - at {
-            return known_word(b, at);
-        }
-        return half(b, at) + 65536 * half(b, at + 2);
-    }
-    0
+    u32::from_le_bytes(bytes_from::<4>(b, at)) as usize
 }
 
 pub fn long(b: &[u8], at: usize) -> u64
     ensures { result ≡ long_at b.now at }
 {
-    if at < b.len() {
-        return word(b, at) as u64 + 4294967296 * (word(b, at + 4) as u64);
-    }
-    0
+    u64::from_le_bytes(bytes_from::<8>(b, at))
 }
+
+// The kinds of nodes. A node's kind stays a number where it is read: a byte may be no kind, and the definitions tell kinds by their numbers.
+pub const NUMBER: u8 = 0;
+
+pub const TRUTH: u8 = 1;
+
+pub const SYMBOL: u8 = 2;
+
+pub const UNARY: u8 = 3;
+
+pub const BINARY: u8 = 4;
+
+pub const COMPARE: u8 = 5;
+
+pub const BOOLEAN: u8 = 6;
+
+pub const CALL: u8 = 7;
+
+pub const CONDITIONAL: u8 = 8;
 
 // "Byte 0 is the kind, byte 1 the operator, bytes 2-3 the child count, 4-7 the symbol number from 0, 8-15 the value".
 #[derive(Clone, Copy)]
@@ -128,108 +165,88 @@ fn is_inner(f: Fields, operators: u8) -> bool
 fn is_head(f: Fields) -> bool
     ensures { result ≡ is_some (head_of (written f)) }
 {
-    let kind = f.kind;
-    match kind {
-        0 => is_literal(f),
-        1 => is_literal(f) && f.value < 2,
-        2 => is_leaf(f) && f.value == 0,
-        3 => is_inner(f, 3) && f.children == 1,
-        4 => is_inner(f, 6) && f.children == 2,
-        5 => is_inner(f, 6) && f.children == 2,
-        6 => is_inner(f, 2),
-        7 => is_inner(f, 16),
-        8 => is_inner(f, 1) && f.children == 3,
+    match f.kind {
+        NUMBER => is_literal(f),
+        TRUTH => is_literal(f) && f.value < 2,
+        SYMBOL => is_leaf(f) && f.value == 0,
+        UNARY => is_inner(f, 3) && f.children == 1,
+        BINARY => is_inner(f, 6) && f.children == 2,
+        COMPARE => is_inner(f, 6) && f.children == 2,
+        BOOLEAN => is_inner(f, 2),
+        CALL => is_inner(f, 16),
+        CONDITIONAL => is_inner(f, 1) && f.children == 3,
         _ => false,
     }
 }
 
-// What formula bytes are: a formula, or what is wrong with them, at which node from 0.
-#[derive(Clone, Copy)]
-pub enum Received {
-    Whole,
+// What is wrong with bytes that are no formula, at which node from 0.
+#[derive(Clone, Copy, Debug, PartialEq, Eq)]
+pub enum Malformed {
     EndedEarly(usize),
     WrongField(usize),
     LeftOver(usize),
 }
 
-// At the last whole node's end.
-fn ended(at: usize, owed: usize, length: usize) -> Received
-    requires { at ≤ length }
-    ensures { result ≡ cond (eqb owed 0) (cond (eqb at length) Received.Whole (Received.LeftOver (at / 16))) (Received.EndedEarly (at / 16)) }
-{
-    if owed > 0 {
-        return Received::EndedEarly(at / NODE_SIZE);
+impl From<Malformed> for Refusal {
+    ghost from_gives = { λ m r. r ≡ refused m };
+
+    fn from(malformed: Malformed) -> Refusal {
+        match malformed {
+            Malformed::EndedEarly(k) => Refusal::EndedEarly(k),
+            Malformed::WrongField(k) => Refusal::WrongField(k),
+            Malformed::LeftOver(k) => Refusal::LeftOver(k),
+        }
     }
-    if at < length {
-        return Received::LeftOver(at / NODE_SIZE);
-    }
-    Received::Whole
 }
 
 // "Nodes of 16 bytes, each followed by its children, nothing after the root's last", or the first fault in the order of the bytes.
 // Each tree that is owed takes a node or more. Where more are owed than nodes are left the bytes can only end early or have a wrong
 // field, and the count of them need not grow.
-pub fn receive(b: &[u8]) -> Received
+pub fn receive(b: &[u8]) -> Result<(), Malformed>
     ensures { result ≡ told (transfer_of b.now) }
 {
-    let mut at = 0;
+    let nodes = b.len() / NODE_SIZE;
     let mut owed = 1;
-    while NODE_SIZE <= b.len() - at {
+    for k in 0..nodes {
         if owed == 0 {
-            return Received::LeftOver(at / NODE_SIZE);
+            return Err(Malformed::LeftOver(k));
         }
-        let f = node(b, at);
-        let ok = is_head(f);
-        if !ok {
-            return Received::WrongField(at / NODE_SIZE);
+        let fields = node(b, NODE_SIZE * k);
+        if !is_head(fields) {
+            return Err(Malformed::WrongField(k));
         }
-        if owed <= (b.len() - at) / NODE_SIZE {
-            owed = owed - 1 + f.children;
+        if owed <= nodes - k {
+            owed = owed - 1 + fields.children;
         }
-        at += NODE_SIZE;
     }
-    ended(at, owed, b.len())
+    if owed > 0 {
+        return Err(Malformed::EndedEarly(nodes));
+    }
+    if NODE_SIZE * nodes < b.len() {
+        return Err(Malformed::LeftOver(nodes));
+    }
+    Ok(())
 }
 
 // Whether the bytes are a formula.
 pub fn is_formula(b: &[u8]) -> bool
     ensures { result ≡ is_some (formula_of b.now) }
 {
-    let r = receive(b);
-    match r {
-        Received::Whole => true,
-        Received::EndedEarly(k) => false,
-        Received::WrongField(k) => false,
-        Received::LeftOver(k) => false,
-    }
-}
-
-// Where a tree ends, or that it is deeper than it may be.
-#[derive(Drop)]
-enum Extent {
-    To(usize),
-    Deeper,
+    receive(b).is_ok()
 }
 
 // The byte after the tree at a byte, if it has at most so many levels.
-fn extent_of(b: &[u8], at: usize, levels: usize) -> Extent
+fn end_of(b: &[u8], at: usize, levels: usize) -> Option<usize>
     requires { well_formed (tree_at b.now at) ≡ true }
-    ensures { result ≡ extent_at b.now at levels }
+    ensures { result ≡ end_at b.now at levels }
 {
-    if levels == 0 {
-        return Extent::Deeper;
-    }
-    let mut left = half(b, at + 2);
+    let below = levels.checked_sub(1)?;
+    let children = half(b, at + 2);
     let mut end = at + NODE_SIZE;
-    while left > 0 {
-        let child = extent_of(b, end, levels - 1);
-        let Extent::To(next) = child else {
-            return child;
-        };
-        end = next;
-        left -= 1;
+    for child in 0..children {
+        end = end_of(b, end, below)?;
     }
-    Extent::To(end)
+    Some(end)
 }
 
 // Whether a formula has at most so many nodes and levels. The nodes are counted first, so that long bytes are not gone into.
@@ -237,12 +254,5 @@ pub fn is_small(b: &[u8], nodes: usize, levels: usize) -> bool
     requires { is_some (formula_of b.now) ≡ true }
     ensures { result ≡ limited nodes levels (formula_of b.now) }
 {
-    if b.len() / NODE_SIZE > nodes {
-        return false;
-    }
-    let whole = extent_of(b, 0, levels);
-    let Extent::To(_) = whole else {
-        return false;
-    };
-    true
+    b.len() / NODE_SIZE <= nodes && end_of(b, 0, levels).is_some()
 }

@@ -10,7 +10,7 @@
 ghost use Rattle.std.specs.Prelude.{◌≡◌, ◌<◌, ◌≤◌, length};
 
 use cases::{Tally, cut, holds, plus};
-use reader::Received;
+use reader::Malformed;
 use std::io::Stdout;
 use std::{io, num};
 
@@ -139,12 +139,11 @@ fn same_fault(line: &[u8], refusal: u64, node: usize) -> bool {
 
 // Whether bytes are what the line says of them.
 fn same_bytes(line: &[u8], b: &[u8]) -> bool {
-    let r = reader::receive(b);
-    match r {
-        Received::Whole => same_marks(line, judged(b)),
-        Received::EndedEarly(k) => same_fault(line, 12, k),
-        Received::WrongField(k) => same_fault(line, 2, k),
-        Received::LeftOver(k) => same_fault(line, 13, k),
+    match reader::receive(b) {
+        Ok(()) => same_marks(line, judged(b)),
+        Err(Malformed::EndedEarly(k)) => same_fault(line, 12, k),
+        Err(Malformed::WrongField(k)) => same_fault(line, 2, k),
+        Err(Malformed::LeftOver(k)) => same_fault(line, 13, k),
     }
 }
 

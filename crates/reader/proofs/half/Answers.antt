@@ -1,12 +1,7 @@
-use mathlib.Core.Path.{sym}
+use mathlib.Core.Path.{◌∙◌}
 use native.Mathlib.Omega.{arith}
-use Rattle.formula.specs.Text.{half_at}
-use Rattle.reader.proofs.Past.{half_past}
+use Rattle.reader.proofs.Loads.{loaded_padded, half_loaded}
 use Rattle.reader.proofs.half.Goals as goal
 
-pub returns-then-at-b : goal.returns-then-at-b
-unfolding half_at
-returns-then-at-b c = (omega arith, omega arith)
-
 pub returns : goal.returns
-returns c = (sym (half_past c.args.b.now c.args.at c.if-at-b.false), omega arith)
+returns c = let loaded = loaded_padded c.args.b.now c.args.at 2 2 c.bytes_from.result c.bytes_from.ensures in (c.from.ensures ∙ half_loaded _ _ _ _ loaded c.from_le_bytes.ensures, omega arith)

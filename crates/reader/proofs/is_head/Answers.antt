@@ -1,6 +1,7 @@
 use mathlib.Core.Path.{sym, ◌∙◌}
+use native.Mathlib.Omega.{arith}
 use Rattle.reader.specs.Read.{written}
-use Rattle.reader.proofs.Heads.{and_taken, and_left, and_all, number_is, truth_is, symbol_is, unary_is, binary_is, compare_is, boolean_is, call_is, conditional_is, no_kind, other_kind}
+use Rattle.reader.proofs.Heads.{and_taken, and_left, and_all, number_is, truth_is, symbol_is, unary_is, binary_is, compare_is, boolean_is, call_is, conditional_is, no_kind}
 use Rattle.reader.proofs.is_head.Goals as goal
 
 pub returns-in-0 : goal.returns-in-0
@@ -73,9 +74,4 @@ pub returns-else-is_inner-4 : goal.returns-else-is_inner-4
 returns-else-is_inner-4 c = and_left _ _ _ _ c.is_inner-in-8.ensures c.if-is_inner-4.false (conditional_is (written c.args.f) c.in-8.is)
 
 pub returns-in_default : goal.returns-in_default
-returns-in_default c =
-    let args = c.args in
-    sym (no_kind (written args.f)
-    (other_kind args.f.kind c.in_default.in_default-own.rest.0.0.0.0.0.0.0.0.1 c.in_default.in_default-own.rest.0.0.0.0.0.0.0.1 c.in_default.in_default-own.rest.0.0.0.0.0.0.1
-    c.in_default.in_default-own.rest.0.0.0.0.0.1 c.in_default.in_default-own.rest.0.0.0.0.1 c.in_default.in_default-own.rest.0.0.0.1 c.in_default.in_default-own.rest.0.0.1 c.in_default.in_default-own.rest.0.1
-    c.in_default.in_default-own.rest.1))
+returns-in_default c = sym (no_kind (written c.args.f) (omega arith))

@@ -1,12 +1,5 @@
-use mathlib.Core.Path.{sym}
-use native.Mathlib.Omega.{arith}
-use Rattle.formula.specs.Text.{long_at}
-use Rattle.reader.proofs.Past.{long_past}
+use Rattle.reader.proofs.Loads.{loaded_padded, long_loaded}
 use Rattle.reader.proofs.long.Goals as goal
 
-pub returns-then-at-b : goal.returns-then-at-b
-unfolding long_at
-returns-then-at-b c = omega arith
-
 pub returns : goal.returns
-returns c = sym (long_past c.args.b.now c.args.at c.if-at-b.false)
+returns c = let loaded = loaded_padded c.args.b.now c.args.at 8 8 c.bytes_from.result c.bytes_from.ensures in long_loaded _ _ _ _ loaded c.from_le_bytes.ensures

@@ -1,83 +1,47 @@
-use borrow.Author.Tests.{ne_eqb}
+use native.Mathlib.Omega.{arith}
 use mathlib.Core.Path.{sym, ◌∙◌, subst}
 use Prim.Native.Nat.{ℕ, ◌+◌}
-use native.Mathlib.Omega.{arith}
-use lib.ListN.{length}
-use Rattle.formula.specs.Node.{node_size}
 use Rattle.reader.specs.Read.{written}
-use Rattle.reader.proofs.Steps.{Counted, counted_end, counted_on, counted_start, counted_still, none_owed, owing_end, owing_wrong, some_owed}
+use Rattle.reader.proofs.Steps.{Counted, counted_on, counted_over, counted_start, counted_still, counted_wrong, ended_early, ended_over, ended_whole}
 use Rattle.reader.proofs.receive.Goals as goal
-use Rattle.reader.proofs.receive.Goals.{then-owed-b, else-owed-b}
+use Rattle.reader.proofs.receive.Goals.{then-owed-nodes, else-owed-nodes}
 
-pub loop-at-init : goal.loop-at-init
-loop-at-init c = counted_start c.args.b.now
-
-pub overflow_sub-b : goal.overflow_sub-b
-overflow_sub-b c = c.loop-at.invariant.owing.inside
+pub loop-k-init : goal.loop-k-init
+loop-k-init c = counted_start c.args.b.now
 
 pub returns-then-owed-eq0 : goal.returns-then-owed-eq0
 returns-then-owed-eq0 c =
-    let args = c.args in
-    let loop = c.loop-at in
-    sym (rw (ne_eqb loop.at (length args.b.now) (λ e. omega (arith, loop.invariant.owing.inside))))
-    ∙ owing_end args.b.now loop.at loop.invariant.owed loop.invariant.owing
-    (none_owed args.b.now loop.at loop.owed loop.invariant c.if-owed-eq0.true)
+    let loop = c.loop-k in
+    counted_over c.args.b.now loop.k loop.owed loop.invariant (omega arith) c.if-owed-eq0.true (omega (arith, c.loop-k-test.true))
 
-pub node-f-requires : goal.node-f-requires
-node-f-requires c = omega (arith, c.loop-at.invariant.owing.inside)
+pub returns-then-not-is_head : goal.returns-then-not-is_head
+returns-then-not-is_head c =
+    let loop = c.loop-k in
+    counted_wrong c.args.b.now loop.k loop.owed loop.invariant (omega arith) c.loop-k-test.true (written c.node-fields.result) c.node-fields.ensures.0
+    c.if-owed-eq0.false (sym c.is_head.ensures ∙ c.if-not-is_head.true)
 
-pub returns-then-not-ok : goal.returns-then-not-ok
-returns-then-not-ok c =
-    let args = c.args in
-    let loop = c.loop-at in
-    let if1 = c.if-owed-eq0 in
-    let node = c.node-f in
-    let is_head = c.is_head-ok in
-    owing_wrong args.b.now loop.at loop.invariant.owed loop.invariant.owing (some_owed args.b.now loop.at loop.owed loop.invariant if1.false)
-    (omega (arith, loop.invariant.owing.inside)) (written node.result) node.ensures.0
-    (sym is_head.ensures ∙ c.if-not-ok.true)
-
-pub overflow_sub-b-in-loop-at : goal.overflow_sub-b-in-loop-at
-overflow_sub-b-in-loop-at c = c.loop-at.invariant.owing.inside
-
-pub overflow_sub-owed : goal.overflow_sub-owed
-overflow_sub-owed c = omega (arith, c.if-owed-eq0.false)
-
-pub overflow_add-owed : goal.overflow_add-owed
-overflow_add-owed c = omega (arith, c.node-f.ensures.1)
-
-pub overflow_add-at : goal.overflow_add-at
-overflow_add-at c = omega (arith, c.loop-at.invariant.owing.inside)
-
-pub loop-at-smaller : goal.loop-at-smaller
-loop-at-smaller c = omega (arith, c.loop-at.invariant.owing.inside)
-
-pub loop-at-preserved : goal.loop-at-preserved
-loop-at-preserved c =
-    let args = c.args in
-    let loop = c.loop-at in
-    let if1 = c.if-owed-eq0 in
-    let node = c.node-f in
-    let is_head = c.is_head-ok in
-    let if2 = c.if-not-ok in
-    let the_proof = sym is_head.ensures ∙ if2.false in
-    let counted : ℕ → Type 0 = λ k. Counted args.b.now (loop.at + node_size) k in
-    elim c.if-owed-b.branch [
-      | then-owed-b w ↦
+pub loop-k-preserved : goal.loop-k-preserved
+loop-k-preserved c =
+    let loop = c.loop-k in
+    let fields = c.node-fields in
+    let ok = sym c.is_head.ensures ∙ c.if-not-is_head.false in
+    let counted : ℕ → Type 0 = λ n. Counted c.args.b.now (loop.k + 1) n in
+    elim c.if-owed-nodes.branch [
+      | then-owed-nodes w ↦
           subst counted (sym w.owed-is)
-          (counted_on args.b.now loop.at loop.owed loop.invariant (omega (arith, loop.invariant.owing.inside)) (written node.result) node.ensures.0
-          the_proof if1.false w.if-owed-b.true)
-      | else-owed-b w ↦
+          (counted_on c.args.b.now loop.k loop.owed loop.invariant (omega arith) c.loop-k-test.true (written fields.result) fields.ensures.0
+          c.if-owed-eq0.false ok w.if-owed-nodes.true)
+      | else-owed-nodes w ↦
           subst counted (sym w.owed-is)
-          (counted_still args.b.now loop.at loop.owed loop.invariant (omega (arith, loop.invariant.owing.inside)) (written node.result) node.ensures.0
-          the_proof if1.false w.if-owed-b.false)
+          (counted_still c.args.b.now loop.k loop.owed loop.invariant (omega arith) c.loop-k-test.true (written fields.result) fields.ensures.0
+          c.if-owed-eq0.false ok w.if-owed-nodes.false)
     ]
 
-pub ended-requires : goal.ended-requires
-ended-requires c = c.loop-at.invariant.owing.inside
+pub returns-then-owed-gt0 : goal.returns-then-owed-gt0
+returns-then-owed-gt0 c = ended_early c.args.b.now c.loop-k.k c.loop-k.owed c.loop-k.invariant c.loop-k.auto.k-end c.loop-k-test.false c.if-owed-gt0.true
+
+pub returns-then-nodes-b : goal.returns-then-nodes-b
+returns-then-nodes-b c = ended_over c.args.b.now c.loop-k.k c.loop-k.owed c.loop-k.invariant c.loop-k.auto.k-end c.loop-k-test.false (omega (arith, c.if-owed-gt0.false)) c.if-nodes-b.true
 
 pub returns : goal.returns
-returns c =
-    let args = c.args in
-    let loop = c.loop-at in
-    c.ended.ensures ∙ counted_end args.b.now loop.at loop.owed loop.invariant (omega (arith, loop.invariant.owing.inside))
+returns c = ended_whole c.args.b.now c.loop-k.k c.loop-k.owed c.loop-k.invariant c.loop-k.auto.k-end c.loop-k-test.false (omega (arith, c.if-owed-gt0.false)) c.if-nodes-b.false

@@ -1,12 +1,6 @@
 use native.Mathlib.Omega.{arith}
-use mathlib.Core.Path.{sym}
-use Rattle.formula.specs.Text.{word_at}
-use Rattle.reader.proofs.Past.{word_past}
+use Rattle.reader.proofs.Loads.{loaded_padded, word_loaded}
 use Rattle.reader.proofs.word.Goals as goal
 
-pub returns-then-at-b : goal.returns-then-at-b
-unfolding word_at
-returns-then-at-b c = (omega arith, omega arith)
-
 pub returns : goal.returns
-returns c = (sym (word_past c.args.b.now c.args.at c.if-at-b.false), omega arith)
+returns c = let loaded = loaded_padded c.args.b.now c.args.at 4 4 c.bytes_from.result c.bytes_from.ensures in (word_loaded _ _ _ _ loaded c.from_le_bytes.ensures, omega arith)
