@@ -225,18 +225,19 @@ pub fn each_head<F: FnMut(&[u8]) -> io::Result<ControlFlow<()>>>(
     Ok(())
 }
 
-// Counts so many cases that one record holds; `case` says of the next one whether it is as recorded.
+// Counts the cases of a record that begins with their number; `case` says of the next one whether it is as recorded.
 pub fn all_cases<F: FnMut(&mut Record) -> bool>(
     stdout: Stdout,
-    record: &mut Record,
-    count: usize,
+    record: &[u8],
     mut case: F,
 ) -> io::Result<Tally>
     requires { F.IsAlwaysCallable case }
 {
+    let mut record = Record::new(record);
     let mut tally = Tally::default();
-    for _ in 0..count {
-        tally.count(stdout, case(record), 0)?;
+    for _ in 0..record.word() {
+        let right = case(&mut record);
+        tally.count(stdout, right, 0)?;
     }
     Ok(tally)
 }

@@ -6,10 +6,9 @@
 // and program slice; the answer, 0 for a program, else the refusal; the path text's length and the byte after the text; the
 // program's length and the byte after the program; one more than the node of a refusal, 0 without one. Then come the formula, the
 // name line, the text and the program. Numbers have 4 bytes, the least first.
-use cases::{Tally, all, cut, fill, holds, plus, say};
+use cases::{FILL, Record, holds};
 use compile::Answer;
 use std::io;
-use std::io::Stdout;
 
 fn number(a: Answer) -> usize {
     match a {
@@ -24,77 +23,73 @@ fn node(a: Answer) -> usize {
     match a {
         Answer::Program => 0,
         Answer::Refused(n) => 0,
-        Answer::RefusedAt(n, k) => plus(k, 1),
+        Answer::RefusedAt(n, k) => k.wrapping_add(1),
     }
 }
 
-// Whether an answer and the slices are as recorded; the text stands at `from`.
-fn same_case(b: &[u8], at: usize, from: usize, a: Answer, path: &[u8], program: &[u8]) -> bool {
-    let text = reader::word(b, plus(at, 20));
-    let after_text = reader::byte(b, plus(at, 24));
-    let length = reader::word(b, plus(at, 28));
-    let after = reader::byte(b, plus(at, 32));
-    let told = number(a) == reader::word(b, plus(at, 16))
-        && node(a) == reader::word(b, plus(at, 36));
-    told && (holds(path, b, from, text, after_text)
-        && holds(program, b, plus(from, text), length, after))
+#[derive(Clone, Copy)]
+struct Head {
+    formula: usize,
+    names: usize,
+    path: usize,
+    program: usize,
+    answer: usize,
+    text: usize,
+    after_text: usize,
+    code: usize,
+    after_code: usize,
+    node: usize,
 }
 
-// Compiles the formula at `from`, with the name line after it up to `end`.
-fn case_from(b: &[u8], at: usize, from: usize, path: &mut [u8], program: &mut [u8]) -> bool {
-    let middle = plus(from, reader::word(b, at));
-    let end = plus(middle, reader::word(b, plus(at, 4)));
-    if middle < from {
-        return false;
+fn head_of(record: &mut Record) -> Head {
+    Head {
+        formula: record.word(),
+        names: record.word(),
+        path: record.word(),
+        program: record.word(),
+        answer: record.word(),
+        text: record.word(),
+        after_text: record.word(),
+        code: record.word(),
+        after_code: record.word(),
+        node: record.word(),
     }
-    if end < middle {
-        return false;
-    }
-    if b.len() < end {
-        return false;
-    }
-    fill(path);
-    fill(program);
-    let a = compile::compile(&b[from..middle], &b[middle..end], path, program);
-    same_case(b, at, end, a, path, program)
 }
 
-fn case_at(b: &[u8], at: usize) -> bool {
-    let mut path = [0u8; 8200];
-    let mut program = [0u8; 65536];
-    let path_length = reader::word(b, plus(at, 8));
-    let length = reader::word(b, plus(at, 12));
-    let n = cut(path_length, 8200);
-    let m = cut(length, 65536);
-    let same = case_from(b, at, plus(at, 40), &mut path[0..n], &mut program[0..m]);
-    all(all(n == path_length, m == length), same)
+fn byte(word: usize) -> u8 {
+    (word % 256) as u8
 }
 
-// Where the next case begins.
-fn next(b: &[u8], at: usize) -> usize {
-    let names = plus(plus(at, 40), reader::word(b, at));
-    let text = plus(names, reader::word(b, plus(at, 4)));
-    let program = plus(text, reader::word(b, plus(at, 20)));
-    plus(program, reader::word(b, plus(at, 28)))
+// Compiles the next case's formula; whether the answer and the slices are as recorded, and none where the record ends before
+// or asks for longer slices.
+fn compiled(record: &mut Record, path: &mut [u8], program: &mut [u8]) -> Option<bool> {
+    let head = head_of(record);
+    let formula = record.bytes(head.formula)?;
+    let names = record.bytes(head.names)?;
+    let text = record.bytes(head.text)?;
+    let code = record.bytes(head.code)?;
+    let path = path.get_mut(..head.path)?;
+    let program = program.get_mut(..head.program)?;
+    path.fill(FILL);
+    program.fill(FILL);
+    let answer = compile::compile(formula, names, path, program);
+    let told = number(answer) == head.answer && node(answer) == head.node;
+    Some(
+        told && holds(path, text, byte(head.after_text))
+            && holds(program, code, byte(head.after_code)),
+    )
 }
 
-fn all_cases(stdout: Stdout, b: &[u8], count: usize) -> io::Result<Tally> {
-    let mut t = cases::begin();
-    let mut at = 4;
-    let mut i = 0;
-    while i < count {
-        t = cases::counted(stdout, t, case_at(b, at), 0)?;
-        at = next(b, at);
-        i += 1;
-    }
-    Ok(t)
+fn is_right(record: &mut Record) -> bool {
+    let mut path = [0; 8200];
+    let mut program = [0; 65536];
+    compiled(record, &mut path, &mut program).unwrap_or(false)
 }
 
 fn main(rt: HostRuntime) -> io::Result<()> {
     let stdout = rt.stdout();
-    let mut b = [0u8; 327680];
-    cases::read_full(rt.stdin(), &mut b);
-    let t = all_cases(stdout, &b, reader::word(&b, 0))?;
-    say(stdout, t.cases, b" cases, ")?;
-    say(stdout, t.wrong, b" differ\n")
+    let mut room = [0; 327680];
+    let n = cases::read_full(rt.stdin(), &mut room);
+    let tally = cases::all_cases(stdout, &room[0..n], is_right)?;
+    println!(stdout; "{} cases, {} differ", tally.cases, tally.wrong)
 }
