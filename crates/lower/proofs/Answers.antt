@@ -6,6 +6,7 @@ use mathlib.Core.Option.{Option, none, some}
 use Prim.Native.Nat.{ℕ, ◌+◌, ◌-◌}
 use native.Mathlib.Omega.{arith}
 use lib.Dec.{eqb}
+use Rattle.refusals.specs.declared.Refusal.TheVariants.{InvalidInput}
 use Rattle.formula.specs.Path.{Path, Step, ◌▸◌, argument}
 use Rattle.formula.specs.Formula.{all_well_formed}
 use Rattle.formula.specs.Term.{Term, Terms, ◌and◌, literal, miscounted, symbol, term_count, terms, truth}
@@ -20,10 +21,12 @@ use Rattle.lower.specs.Ready.{Ready}
 use Rattle.lower.specs.declared.Layout.{Layout}
 use Rattle.lower.specs.declared.Cursor.{Cursor}
 use Rattle.lower.specs.declared.Site.{Site}
-use Rattle.lower.specs.declared.Low.{Low}
-use Rattle.lower.specs.declared.Low.TheVariants.{Fault as Faulty}
+use Rattle.lower.specs.declared.Chain.{Chain}
+use Rattle.lower.specs.declared.Value.{Value}
+use Rattle.lower.specs.Low.{Low, Faulty}
 use Rattle.lower.proofs.Keeps.{kept_here, kept_then}
 use Rattle.lower.proofs.Says.{here}
+use Rattle.lower.proofs.Choices.{Arms, arms}
 use Rattle.lower.proofs.Compose.{ready_from}
 use Rattle.lower.proofs.Kids.{first_well, one_well}
 use Rattle.lower.proofs.Lowers.{operands_past, operands_split, rest_well_at}
@@ -57,7 +60,7 @@ as_node L C t t' P k n n' m c p p' r e f S =
 
 -- a wrong count of children is refused before they are looked at
 pub miscounted_here : {L : Layout} {p : List ℕ} {s : Site} {c : Cursor} {I Q E : ℕ} (R : Ready L p s c I Q E) (C : Context) (t : Term) (n : ℕ) → t ≡ miscounted
-    → Says (own_piece C t (place L p s) s.path c n) L c p p (Faulty 5 s.path)
+    → Says (own_piece C t (place L p s) s.path c n) L c p p (Faulty InvalidInput s.path)
 miscounted_here {L} {p} {s} {c} {I} {Q} {E} R C t n e = here L p s c I Q E R (own_piece C t (place L p s) s.path c n) 5 (faulty C t n (place L p s) s.path c e)
   where
     faulty : (C : Context) (t : Term) (n : ℕ) (P : Path) (k : ℕ) (c : Cursor) → t ≡ miscounted → (own_piece C t P k c n).fault ≡ some (record { number = 5; place = P })
@@ -84,6 +87,15 @@ pub arm_ready : {L : Layout} {p : List ℕ} {s : Site} {c : Cursor} (b : List �
     → Ready L p s c (instruction_count (arm b d j left x)) (path_count (arm b d j left x)) (entry_count (arm b d j left x))
     → Ready L p s c (instruction_count (arm b d j left y)) (path_count (arm b d j left y)) (entry_count (arm b d j left y))
 arm_ready {L} {p} {s} {c} b d j left x y e R = subst (λ (z : ℕ). Ready L p s c (instruction_count (arm b d j left z)) (path_count (arm b d j left z)) (entry_count (arm b d j left z))) e R
+
+-- the arms of a choice
+abbrev pub arms_of : {L : Layout} {p : List ℕ} {s : Site} {c : Cursor} (C : Context) (g : C.generated ≡ L.generated) (b : List ℕ) (d : ℕ) (y z : Chain) (v : Value)
+    → Ready L p s c (4 + instruction_count (arm b d y.conjunction y.left c.node) + instruction_count (arm b d z.conjunction z.left (past b d y.left c.node)))
+    (path_count (arm b d y.conjunction y.left c.node) + path_count (arm b d z.conjunction z.left (past b d y.left c.node)))
+    (entry_count (arm b d y.conjunction y.left c.node) + entry_count (arm b d z.conjunction z.left (past b d y.left c.node))) → Arms L p s c
+arms_of {L} {p} {s} {c} C g b d y z v R =
+    arms C g (arm b d y.conjunction y.left c.node) (arm b d z.conjunction z.left (past b d y.left c.node)) v (past b d y.left c.node)
+    (past b d z.left (past b d y.left c.node)) R
 
 -- an arm by another name of its cursor
 pub arm_from : (L : Layout) (C : Context) (b : List ℕ) (d : ℕ) (j : Bool) (left : ℕ) (P : Path) (k : ℕ) (p p' : List ℕ) (r : Low) (x y : Cursor) → x ≡ y

@@ -6,6 +6,7 @@ use mathlib.Core.Option.{none, some}
 use Prim.Native.Nat.{ℕ, suc, ◌+◌, ◌-◌, ◌*◌, ◌≤◌}
 use native.Mathlib.Omega.{arith}
 use lib.ListN.{length, length-append}
+use Rattle.refusals.specs.declared.Refusal.{Refusal}
 use Rattle.formula.specs.Operator.{Boolean, Number, ValueKind}
 use Rattle.formula.specs.Path.{Path, ◌▸◌, condition, else_arm, then_arm}
 use Rattle.formula.specs.Term.{Term, branch}
@@ -20,8 +21,7 @@ use Rattle.lower.specs.declared.Layout.{Layout}
 use Rattle.lower.specs.declared.Cursor.{Cursor}
 use Rattle.lower.specs.declared.Site.{Site}
 use Rattle.lower.specs.declared.Value.{Value}
-use Rattle.lower.specs.declared.Low.{Low}
-use Rattle.lower.specs.declared.Low.TheVariants.{Fault as Faulty}
+use Rattle.lower.specs.Low.{Low, Faulty}
 use Rattle.lower.proofs.Laid.{Fits, chunk_path, joined}
 use Rattle.lower.proofs.Says.{Refused, Taken}
 use Rattle.lower.proofs.Compose.{fits_room, kept_written, refused_up, says_then}
@@ -176,7 +176,7 @@ module _ {L : Layout} {p : List ℕ} {s : Site} {c : Cursor} {I Q E : ℕ} (R : 
       A_fault : A.fault ≡ none → fault C t (P ▸ condition) ≡ none
       A_fault x = unfold term_piece in x
 
-  pub condition_refused : (p₁ : List ℕ) (r : Low) (m j : ℕ) → Refused A L c p p₁ m j → r ≡ Faulty m j → Says W L c p p₁ r
+  pub condition_refused : (p₁ : List ℕ) (r : Low) (m : Refusal) (j : ℕ) → Refused A L c p p₁ m j → r ≡ Faulty m j → Says W L c p p₁ r
   condition_refused p₁ r m j F e = refused_up c p r W F F.kept e up
     where
       up : (x : Fault) → A.fault ≡ some x → W.fault ≡ some x

@@ -6,6 +6,8 @@ use mathlib.Core.Option.{none, some}
 use Prim.Native.Nat.{ℕ, ◌+◌, ◌-◌, ◌*◌, ◌≤◌}
 use native.Mathlib.Omega.{arith}
 use lib.ListN.{length, length-append}
+use Rattle.refusals.specs.declared.Refusal.TheVariants.{WrongType, Unsupported}
+use Rattle.refusals.specs.declared.Refusal.{Refusal}
 use Rattle.formula.specs.Operator.{Boolean, Number, ValueKind, same_kind}
 use Rattle.formula.specs.Path.{Path, ◌▸◌, else_arm, then_arm}
 use Rattle.formula.specs.Term.{Term}
@@ -22,8 +24,7 @@ use Rattle.lower.specs.declared.Layout.{Layout}
 use Rattle.lower.specs.declared.Cursor.{Cursor}
 use Rattle.lower.specs.declared.Site.{Site}
 use Rattle.lower.specs.declared.Value.{Value}
-use Rattle.lower.specs.declared.Low.{Low}
-use Rattle.lower.specs.declared.Low.TheVariants.{Done, Fault as Faulty}
+use Rattle.lower.specs.Low.{Low, Done, Faulty}
 use Rattle.lower.proofs.Laid.{laid_length}
 use Rattle.lower.proofs.Frames.{Same, same_below, same_linked, same_then}
 use Rattle.lower.proofs.Says.{Refused, Taken, here, says_done, says_fault}
@@ -105,7 +106,7 @@ module _ {L : Layout} {p : List ℕ} {s : Site} {c : Cursor} (A : Arms L p s c) 
   abbrev W : Piece
   W = branch_piece ks v y z P k c n₂
 
-  pub not_boolean : v.boolean ≡ false → Says W L c p p (Faulty 7 k)
+  pub not_boolean : v.boolean ≡ false → Says W L c p p (Faulty WrongType k)
   unfolding branch_piece
   not_boolean e = here L p s c _ _ _ R W 7 (rw e)
 
@@ -113,7 +114,7 @@ module _ {L : Layout} {p : List ℕ} {s : Site} {c : Cursor} (A : Arms L p s c) 
     eu' : u ≡ not (ks.generated || not v.dynamic)
     eu' = eu ∙ ap (λ (x : Bool). not (x || not v.dynamic)) (sym g)
 
-    pub unsupported_here : u ≡ true → Says W L c p p (Faulty 8 k)
+    pub unsupported_here : u ≡ true → Says W L c p p (Faulty Unsupported k)
     unfolding branch_piece
     unsupported_here t = here L p s c _ _ _ R W 8 (rw (tb, not_true (ks.generated || not v.dynamic) u eu' t))
 
@@ -149,7 +150,7 @@ module _ {L : Layout} {p : List ℕ} {s : Site} {c : Cursor} (A : Arms L p s c) 
     ready_first =
         ready_from R p c₁ _ _ _ (λ i b e. refl) refl (omega arith) (omega arith) (omega arith) (omega arith) (omega (arith, R.registers)) R.sound
 
-    pub first_refused : (p₁ : List ℕ) (r : Low) (m j : ℕ) → Refused Y L c₁ p p₁ m j → r ≡ Faulty m j → Says W L c p p₁ r
+    pub first_refused : (p₁ : List ℕ) (r : Low) (m : Refusal) (j : ℕ) → Refused Y L c₁ p p₁ m j → r ≡ Faulty m j → Says W L c p p₁ r
     first_refused p₁ r m j F e = refused_up c p r W F (kept_then (kept_here L c p) F.kept (omega arith) (omega arith) (omega arith)) e up
       where
         up : (x : Fault) → Y.fault ≡ some x → W.fault ≡ some x
@@ -312,7 +313,7 @@ module _ {L : Layout} {p : List ℕ} {s : Site} {c : Cursor} (A : Arms L p s c) 
         unfolding branch_piece
         second_fault x f = rw (tb, fine, no_fault_y, f)
 
-        pub second_refused : (p₄ : List ℕ) (r : Low) (m j : ℕ) → Refused Z L c₂ p₃ p₄ m j → r ≡ Faulty m j → Says W L c p p₄ r
+        pub second_refused : (p₄ : List ℕ) (r : Low) (m : Refusal) (j : ℕ) → Refused Z L c₂ p₃ p₄ m j → r ≡ Faulty m j → Says W L c p p₄ r
         second_refused p₄ r m j F x =
             refused_up c p r W F (kept_then kept₃ F.kept (omega (arith, is_code)) (omega (arith, is_path)) (omega (arith, is_entry))) x (λ y f. second_fault y (sym Z_fault ∙ f))
 
@@ -410,10 +411,10 @@ module _ {L : Layout} {p : List ℕ} {s : Site} {c : Cursor} (A : Arms L p s c) 
           place₄ : place L p₄ s ≡ P
           place₄ = place_same ready_second p₄ same₄ ∙ same_place
 
-          pub unlike : b ≡ false → Says W L c p p₄ (Faulty 7 k)
+          pub unlike : b ≡ false → Says W L c p p₄ (Faulty WrongType k)
           unfolding branch_piece
           unlike t =
-              says_fault W L c p p₄ (Faulty 7 k) (record { number = 7; place = P }) k (rw (tb, fine, no_fault_y, no_fault_z, sym alike ∙ t)) refl place₄
+              says_fault W L c p p₄ (Faulty WrongType k) (record { number = 7; place = P }) k (rw (tb, fine, no_fault_y, no_fault_z, sym alike ∙ t)) refl place₄
               (λ j l. sound₄ j (omega (arith, z_path, is_path, R.site))) kept₄
 
           pub both_done : (p₅ p₆ : List ℕ) (r : Low) (d : Bool) → b ≡ true → p₅ ≡ over p₄ (32 + 24 * (e.code + 1)) (slot 4 0 (e.reg + 1) 0 0 (h.code + 1) k)
@@ -502,7 +503,7 @@ module _ {L : Layout} {p : List ℕ} {s : Site} {c : Cursor} (A : Arms L p s c) 
           -- both, by whether the arms are of one kind
           module _ (p₆ : List ℕ) (r : Low) where
             arms_joined : (b' : Bool) → b ≡ b'
-                → r ≡ cond b' (Done (record { a = e.reg; b = 0; c = 0; boolean = vy.boolean; dynamic = v.dynamic || vy.dynamic || vz.dynamic }) (record { node = h.node; reg = h.reg; code = h.code + 1; path = h.path; entry = h.entry })) (Faulty 7 k)
+                → r ≡ cond b' (Done (record { a = e.reg; b = 0; c = 0; boolean = vy.boolean; dynamic = v.dynamic || vy.dynamic || vz.dynamic }) (record { node = h.node; reg = h.reg; code = h.code + 1; path = h.path; entry = h.entry })) (Faulty WrongType k)
                 → p₆ ≡ cond b' (over (over p₄ (32 + 24 * (e.code + 1)) (slot 4 0 (e.reg + 1) 0 0 (h.code + 1) k)) (32 + 24 * h.code) (slot 2 0 e.reg vz.a 0 0 k)) p₄
                 → Says W L c p p₆ r
             arms_joined true t er ep = both_done _ p₆ r _ t refl ep refl er

@@ -6,6 +6,8 @@ use mathlib.Core.Option.{Option, none, some}
 use Prim.Native.Nat.{ℕ, suc, ◌+◌, ◌-◌, ◌*◌, ◌≤◌}
 use native.Mathlib.Omega.{arith}
 use lib.ListN.{length, get_or, length-append}
+use Rattle.refusals.specs.declared.Refusal.{Refusal}
+use Rattle.refusals.specs.Refusals.{refusal_of}
 use Rattle.formula.specs.Text.{little_endian, word_at}
 use Rattle.formula.specs.Operator.{ValueKind, same_kind}
 use Rattle.formula.specs.Path.{Path, ◌▸◌, argument}
@@ -18,14 +20,13 @@ use Rattle.writer.specs.Over.{over}
 use Rattle.paths.specs.Table.{Linked, path_in_table}
 use Rattle.writer.proofs.Over.{over_before, over_nil}
 use Rattle.lower.specs.Bytes.{Chunk, laid, written}
-use Rattle.lower.specs.Piece.{without_operands, Kept, Lists, ListsAt, Piece, Sound, is_boolean, kind_if, listed, operands_piece, operands_value, place, term_piece}
+use Rattle.lower.specs.Piece.{Kept, Lists, ListsAt, Piece, Sound, is_boolean, kind_if, listed, operands_piece, operands_value, place, term_piece}
 use Rattle.lower.specs.Ready.{Ready}
 use Rattle.lower.specs.declared.Layout.{Layout}
 use Rattle.lower.specs.declared.Cursor.{Cursor}
 use Rattle.lower.specs.declared.Site.{Site}
 use Rattle.lower.specs.declared.Value.{Value}
-use Rattle.lower.specs.declared.Low.{Low}
-use Rattle.lower.specs.declared.Low.TheVariants.{Done, Fault as Faulty}
+use Rattle.lower.specs.Low.{Low, Done, Faulty}
 use Rattle.lower.proofs.Laid.{Fits, joined, laid_length, laid_then}
 use Rattle.lower.proofs.Frames.{Same, same_above, same_linked}
 use Rattle.lower.proofs.Says.{Refused, Taken}
@@ -40,7 +41,7 @@ pub lists_done : (L : Layout) (b : Bool) (ts : Terms) (i : ℕ) (P : Piece) (c :
 unfolding Lists
 lists_done L b ts i P c p p' r e x y s = subst (λ (o : Option Fault). ListsAt o L b ts i P c p p' r) (sym e) (x, y, s)
 
-pub lists_fault : (L : Layout) (b : Bool) (ts : Terms) (i : ℕ) (P : Piece) (c : Cursor) (p p' : List ℕ) (r : Low) (x : Fault) (k : ℕ) → P.fault ≡ some x → r ≡ Faulty x.number k
+pub lists_fault : (L : Layout) (b : Bool) (ts : Terms) (i : ℕ) (P : Piece) (c : Cursor) (p p' : List ℕ) (r : Low) (x : Fault) (k : ℕ) → P.fault ≡ some x → r ≡ Faulty (refusal_of x.number) k
     → path_in_table p' L.paths k ≡ x.place → Linked p' L.paths k → Kept L c p p' → Lists L b ts i P c p p' r
 unfolding Lists
 lists_fault L b ts i P c p p' r x k e y z s h = subst (λ (o : Option Fault). ListsAt o L b ts i P c p p' r) (sym e) (k, y, z, s, h)
@@ -62,7 +63,7 @@ pub collected : (L : Layout) (b : Bool) (ts : Terms) (i : ℕ) (P : Piece) (c : 
 unfolding Lists
 collected L b ts i P c p p' r v e s d = collected_at P.fault L b ts i P c p p' r v e refl s d
 
-turned_at : (o : Option Fault) (L : Layout) (b : Bool) (ts : Terms) (i : ℕ) (P : Piece) (c : Cursor) (p p' : List ℕ) (r : Low) (n k : ℕ) → P.fault ≡ o → ListsAt o L b ts i P c p p' r
+turned_at : (o : Option Fault) (L : Layout) (b : Bool) (ts : Terms) (i : ℕ) (P : Piece) (c : Cursor) (p p' : List ℕ) (r : Low) (n : Refusal) (k : ℕ) → P.fault ≡ o → ListsAt o L b ts i P c p p' r
     → r ≡ Faulty n k → Refused P L c p p' n k
 turned_at none L b ts i P c p p' r n k f (x, y, s) d = absurd (let z : ◌≡◌ {A = ℕ} 0 1 = cc in omega arith)
 turned_at (some x) L b ts i P c p p' r n k f (j, y, z, s, h) d =
@@ -76,7 +77,7 @@ turned_at (some x) L b ts i P c p p' r n k f (j, y, z, s, h) d =
       kept = h;
     }
 
-pub turned : (L : Layout) (b : Bool) (ts : Terms) (i : ℕ) (P : Piece) (c : Cursor) (p p' : List ℕ) (r : Low) (n k : ℕ) → Lists L b ts i P c p p' r → r ≡ Faulty n k → Refused P L c p p' n k
+pub turned : (L : Layout) (b : Bool) (ts : Terms) (i : ℕ) (P : Piece) (c : Cursor) (p p' : List ℕ) (r : Low) (n : Refusal) (k : ℕ) → Lists L b ts i P c p p' r → r ≡ Faulty n k → Refused P L c p p' n k
 unfolding Lists
 turned L b ts i P c p p' r n k s d = turned_at P.fault L b ts i P c p p' r n k refl s d
 
@@ -122,7 +123,7 @@ module _ (L : Layout) (i : ℕ) (C : Context) (w : Bool) (P : Path) (k n : ℕ) 
       (lists_done L b end i O c p p (Done nothing c) end_fault (ap₂ (λ (x : Value) (y : Cursor). Done x y) end_value end_next) (end_listed b)
       (subst (λ (x : Cursor). Sound L p x.path) end_next s))
 
-  pub none_left : (b : Bool) (ts : Terms) (r : Low) → r ≡ without_operands c → ts ≡ end → Lists L b ts i (operands_piece C w ts P i k c n) c p p r
+  pub none_left : (b : Bool) (ts : Terms) (r : Low) → r ≡ Done (record { a = 0; b = 0; c = 0; boolean = true; dynamic = false }) c → ts ≡ end → Lists L b ts i (operands_piece C w ts P i k c n) c p p r
   none_left b ts r er e = subst (λ (x : Low). Lists L b ts i (operands_piece C w ts P i k c n) c p p x) (sym er) (none_done b ts e)
 
 -- ---- one child, and then the rest
@@ -132,11 +133,6 @@ own b n = cond b n 0
 
 same_true : (κ : ValueKind) (w : Bool) → same_kind (kind_if (is_boolean κ)) (kind_if w) ≡ same_kind κ (kind_if w)
 same_true κ w = rw (kind_back κ)
-
-or_false : (x y : Bool) → (x || y || false) ≡ (x || y)
-or_false true y = refl
-or_false false true = refl
-or_false false false = refl
 
 module _ {L : Layout} {p : List ℕ} {s : Site} {c : Cursor} (b : Bool) (C : Context) (w : Bool) (t : Term) (ts : Terms) (i n₁ n₂ : ℕ)
     (R : Ready L p s c (instruction_counts (t and ts)) (path_counts (t and ts)) (entry_counts (t and ts) + own b (i + term_count (t and ts)))) where
@@ -155,9 +151,9 @@ module _ {L : Layout} {p : List ℕ} {s : Site} {c : Cursor} (b : Bool) (C : Con
   pub ready_child : Ready L p s c (instruction_count t) (path_count t) (entry_count t)
   ready_child = ready_from R p c _ _ _ (λ j x y. refl) refl (omega arith) (omega arith) (omega arith) (omega arith) R.registers R.sound
 
-  pub child_refused : (p₁ : List ℕ) (r : Low) (m j : ℕ) → Refused A L c p p₁ m j → r ≡ Faulty m j → Lists L b (t and ts) i W c p p₁ r
+  pub child_refused : (p₁ : List ℕ) (r : Low) (m : Refusal) (j : ℕ) → Refused A L c p p₁ m j → r ≡ Faulty m j → Lists L b (t and ts) i W c p p₁ r
   child_refused p₁ r m j F e =
-      lists_fault L b (t and ts) i W c p p₁ r F.x j (up F.x F.is_fault) (e ∙ ap (λ (z : ℕ). Faulty z j) F.number) F.place F.linked F.kept
+      lists_fault L b (t and ts) i W c p p₁ r F.x j (up F.x F.is_fault) (e ∙ ap (λ (z : Refusal). Faulty z j) F.number) F.place F.linked F.kept
     where
       up : (x : Fault) → A.fault ≡ some x → W.fault ≡ some x
       up x f = unfold operands_piece term_piece in rw f
@@ -240,9 +236,9 @@ module _ {L : Layout} {p : List ℕ} {s : Site} {c : Cursor} (b : Bool) (C : Con
     unfolding operands_piece
     rest_fault o f = rw (no_fault, f)
 
-    pub rest_refused : (p₂ : List ℕ) (r : Low) (m j : ℕ) → Refused B L e p₁ p₂ m j → r ≡ Faulty m j → Lists L b (t and ts) i W c p p₂ r
+    pub rest_refused : (p₂ : List ℕ) (r : Low) (m : Refusal) (j : ℕ) → Refused B L e p₁ p₂ m j → r ≡ Faulty m j → Lists L b (t and ts) i W c p p₂ r
     rest_refused p₂ r m j F x =
-        lists_fault L b (t and ts) i W c p p₂ r F.x j (rest_fault (some F.x) (sym B_fault ∙ F.is_fault)) (x ∙ ap (λ (z : ℕ). Faulty z j) F.number) F.place F.linked
+        lists_fault L b (t and ts) i W c p p₂ r F.x j (rest_fault (some F.x) (sym B_fault ∙ F.is_fault)) (x ∙ ap (λ (z : Refusal). Faulty z j) F.number) F.place F.linked
         (kept_then kept₁ F.kept (omega (arith, is_code)) (omega (arith, is_path)) (omega (arith, is_entry)))
 
     module _ (p₂ : List ℕ) (u : Value) (g : Cursor) (kept : length p₂ ≡ length p₁) (U : Collected L b ts (i + 1) B e p₁ p₂ u g) where
@@ -297,7 +293,7 @@ module _ {L : Layout} {p : List ℕ} {s : Site} {c : Cursor} (b : Bool) (C : Con
           let e₄ : e.entry + entry_counts ts ≡ c.entry + entry_counts (t and ts) = omega (arith, is_entry) in
           U.next ∙ (λ j. record { node = n₂; reg = e₁ j; code = e₂ j; path = e₃ j; entry = e₄ j })
 
-      value_is : (x d : Bool) → x ≡ (same_kind (kind_if v.boolean) (kind_if w) && u.boolean) → d ≡ (v.dynamic || u.dynamic || false)
+      value_is : (x d : Bool) → x ≡ (same_kind (kind_if v.boolean) (kind_if w) && u.boolean) → d ≡ (v.dynamic || u.dynamic)
           → record { a = v.a; b = u.a; c = u.b; boolean = x; dynamic = d } ≡ W.value
       unfolding operands_piece
       value_is x d ex ed =
@@ -305,7 +301,7 @@ module _ {L : Layout} {p : List ℕ} {s : Site} {c : Cursor} (b : Bool) (C : Con
           let f₂ : u.b ≡ get_or (result_registers ts (c.reg + register_count t)) 1 0 = ap (λ (z : Value). z.b) u_is ∙ ap (λ (z : ℕ). get_or (result_registers ts z) 1 0) is_reg in
           let f₃ : x ≡ (same_kind (kind t) (kind_if w) && all_kind (kind_if w) ts) =
           ex ∙ ap₂ (λ (y z : Bool). same_kind (kind_if y) (kind_if w) && z) v_boolean (ap (λ (z : Value). z.boolean) u_is) ∙ ap (λ (z : Bool). z && all_kind (kind_if w) ts) (same_true (kind t) w) in
-          let f₄ : d ≡ (dynamic C t || any_dynamic C ts) = ed ∙ or_false v.dynamic u.dynamic ∙ ap₂ (λ (y z : Bool). y || z) v_dynamic (ap (λ (z : Value). z.dynamic) u_is) in
+          let f₄ : d ≡ (dynamic C t || any_dynamic C ts) = ed ∙ ap₂ (λ (y z : Bool). y || z) v_dynamic (ap (λ (z : Value). z.dynamic) u_is) in
           λ j. record { a = v_a j; b = f₁ j; c = f₂ j; boolean = f₃ j; dynamic = f₄ j }
 
       chunk_is : W.chunk ≡ joined A.chunk B.chunk
@@ -364,7 +360,7 @@ module _ {L : Layout} {p : List ℕ} {s : Site} {c : Cursor} (b : Bool) (C : Con
       sound₂ = subst (λ (x : Cursor). Sound L p₂ x.path) (sym U.next) U.sound
 
       pub all_collected : (p₃ : List ℕ) (x d : Bool) → p₃ ≡ cond b (over p₂ (L.lists + 4 * (g.entry + i)) (little_endian 4 v.a)) p₂
-          → x ≡ (same_kind (kind_if v.boolean) (kind_if w) && u.boolean) → d ≡ (v.dynamic || u.dynamic || false)
+          → x ≡ (same_kind (kind_if v.boolean) (kind_if w) && u.boolean) → d ≡ (v.dynamic || u.dynamic)
           → Lists L b (t and ts) i W c p p₃ (Done (record { a = v.a; b = u.a; c = u.b; boolean = x; dynamic = d }) g)
       all_collected p₃ x d h ex ed =
           lists_done L b (t and ts) i W c p p₃ (Done (record { a = v.a; b = u.a; c = u.b; boolean = x; dynamic = d }) g) (rest_fault none (sym B_fault ∙ U.faultless))

@@ -5,6 +5,7 @@ use mathlib.Core.Option.{Option, none, some}
 use Prim.Native.Nat.{ℕ, zero, suc, ◌+◌, ◌-◌, ◌*◌, ◌^◌, ◌≤◌, ◌<◌}
 use native.Mathlib.Omega.{arith}
 use lib.ListN.{length, length-append}
+use Rattle.refusals.specs.declared.Refusal.{Refusal}
 use Rattle.formula.specs.Text.{little_endian}
 use Rattle.formula.specs.Path.{Path, ◌▸◌, step_text}
 use Rattle.formula.specs.Term.{Term, Terms, ◌and◌, apply, branch, end, literal, miscounted, symbol, truth}
@@ -24,8 +25,7 @@ use Rattle.lower.specs.declared.Layout.{Layout}
 use Rattle.lower.specs.declared.Cursor.{Cursor}
 use Rattle.lower.specs.declared.Site.{Site}
 use Rattle.lower.specs.declared.Value.{Value}
-use Rattle.lower.specs.declared.Low.{Low}
-use Rattle.lower.specs.declared.Low.TheVariants.{Done, Fault as Faulty}
+use Rattle.lower.specs.Low.{Low, Done, Faulty}
 use Rattle.lower.proofs.Laid.{Fits, joined, laid_then}
 use Rattle.lower.proofs.Frames.{Same, entered_linked, entered_path, entered_record, is_length, same_laid, same_length, same_path}
 use Rattle.lower.proofs.Keeps.{kept_laid, kept_record, kept_then}
@@ -120,10 +120,10 @@ pub says_then : (L : Layout) (c e : Cursor) (p p₁ p₂ : List ℕ) (v : Value)
 unfolding Says
 says_then L c e p p₁ p₂ v r A B W T K S ef ev en ec x y z f = then_at B.fault L c e p p₁ p₂ v r A B W refl T K S ef ev en ec x y z f
 
-pub refused_up : {L : Layout} {e : Cursor} {p₀ p₁ : List ℕ} {n k : ℕ} {A : Piece} (c : Cursor) (p : List ℕ) (r : Low) (W : Piece) → Refused A L e p₀ p₁ n k → Kept L c p p₁ → r ≡ Faulty n k
+pub refused_up : {L : Layout} {e : Cursor} {p₀ p₁ : List ℕ} {n : Refusal} {k : ℕ} {A : Piece} (c : Cursor) (p : List ℕ) (r : Low) (W : Piece) → Refused A L e p₀ p₁ n k → Kept L c p p₁ → r ≡ Faulty n k
     → ((x : Fault) → A.fault ≡ some x → W.fault ≡ some x) → Says W L c p p₁ r
 refused_up {L} {e} {p₀} {p₁} {n} {k} c p r W F K is up =
-    says_fault W L c p p₁ r F.x k (up F.x F.is_fault) (is ∙ ap (λ (m : ℕ). Faulty m k) F.number) F.place F.linked K
+    says_fault W L c p p₁ r F.x k (up F.x F.is_fault) (is ∙ ap (λ (m : Refusal). Faulty m k) F.number) F.place F.linked K
 
 -- ---- a node's own record
 

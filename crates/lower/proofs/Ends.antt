@@ -9,6 +9,7 @@ use lib.ListN.{length, get_or}
 use lib.Dec.{eqb, ltb}
 use borrow.Author.Tests.{eq-eqb, ne_eqb}
 use lib.Ieee.{Float, binary64, of_bits}
+use Rattle.refusals.specs.declared.Refusal.TheVariants.{InvalidInput, UnknownSymbol, WrongType, Unsupported, OutsideDomain}
 use Rattle.arithmetic.specs.Value.{finite}
 use Rattle.arithmetic.specs.Constant as Constant
 use Rattle.formula.specs.Names.{Parameter, varies}
@@ -25,8 +26,7 @@ use Rattle.lower.specs.declared.Layout.{Layout}
 use Rattle.lower.specs.declared.Cursor.{Cursor}
 use Rattle.lower.specs.declared.Site.{Site}
 use Rattle.lower.specs.declared.Value.{Value}
-use Rattle.lower.specs.declared.Low.{Low}
-use Rattle.lower.specs.declared.Low.TheVariants.{Done, Fault as Faulty}
+use Rattle.lower.specs.Low.{Low, Done, Faulty}
 use Rattle.lower.proofs.Says.{here, slot_done}
 
 pub not_true : (b u : Bool) → u ≡ not b → u ≡ true → b ≡ false
@@ -56,12 +56,12 @@ module _ (L : Layout) (p : List ℕ) (s : Site) (c : Cursor) (I : ℕ) (R : Read
     abbrev P : Piece
     P = finish_piece (context_of [] L.generated) f v (place L p s) s.path c
 
-    pub wrong_arity : (a : Bool) → a ≡ arity_at K O f.children → a ≡ false → Says P L c p p (Faulty 5 s.path)
+    pub wrong_arity : (a : Bool) → a ≡ arity_at K O f.children → a ≡ false → Says P L c p p (Faulty InvalidInput s.path)
     unfolding finish_piece
     wrong_arity a e t = here L p s c I 0 0 R P 5 (rw (sym e ∙ t))
 
     module _ (a : Bool) (ea : a ≡ arity_at K O f.children) (ta : a ≡ true) where
-      pub wrong_kind : v.boolean ≡ false → Says P L c p p (Faulty 7 s.path)
+      pub wrong_kind : v.boolean ≡ false → Says P L c p p (Faulty WrongType s.path)
       unfolding finish_piece
       wrong_kind t = here L p s c I 0 0 R P 7 (rw (sym ea ∙ ta, t))
 
@@ -69,7 +69,7 @@ module _ (L : Layout) (p : List ℕ) (s : Site) (c : Cursor) (I : ℕ) (R : Read
         alike : u ≡ not (L.generated || not (stepped_at K O && v.dynamic))
         alike = eu ∙ ap (λ (x : Bool). not (L.generated || not (x && v.dynamic))) ej
 
-        pub wrong_step : u ≡ true → Says P L c p p (Faulty 8 s.path)
+        pub wrong_step : u ≡ true → Says P L c p p (Faulty Unsupported s.path)
         unfolding finish_piece
         wrong_step t = here L p s c I 0 0 R P 8 (rw (sym ea ∙ ta, tb, not_true (L.generated || not (stepped_at K O && v.dynamic)) u alike t))
 
@@ -129,11 +129,11 @@ module _ (L : Layout) (p : List ℕ) (s : Site) (c : Cursor) (I : ℕ) (R : Read
         let y : c.path ≡ c.path + 0 = omega arith in
         cc
 
-    pub number_refused : (x : Float) (g : Bool) → f.kind ≡ 0 → x ≡ of_bits binary64 f.value → g ≡ finite x → g ≡ false → Says T L c p p (Faulty 9 s.path)
+    pub number_refused : (x : Float) (g : Bool) → f.kind ≡ 0 → x ≡ of_bits binary64 f.value → g ≡ finite x → g ≡ false → Says T L c p p (Faulty OutsideDomain s.path)
     unfolding own_piece
     number_refused x g e ex eg t =
         let h : finite (of_bits binary64 f.value) ≡ false = ap finite (sym ex) ∙ sym eg ∙ t in
-        as_leaf (literal f.value) (is_number e) p (Faulty 9 s.path)
+        as_leaf (literal f.value) (is_number e) p (Faulty OutsideDomain s.path)
         (here L p s c I 0 0 R (U (literal f.value) (is_number e)) 9 (rw h))
 
     pub number_made : (x : Float) (g : Bool) (p' : List ℕ) (r : Low) → f.kind ≡ 0 → x ≡ of_bits binary64 f.value → g ≡ finite x → g ≡ true
@@ -180,5 +180,5 @@ module _ (L : Layout) (p : List ℕ) (s : Site) (c : Cursor) (I : ℕ) (R : Read
     symbol_made false p' r m n e (d, x) =
         as_leaf (symbol f.symbol) (is_symbol m n) p' r
         (subst (λ (z : Low). Says (U (symbol f.symbol) (is_symbol m n)) L c p p' z) (sym d)
-        (subst (λ (z : List ℕ). Says (U (symbol f.symbol) (is_symbol m n)) L c p z (Faulty 6 s.path)) (sym x)
+        (subst (λ (z : List ℕ). Says (U (symbol f.symbol) (is_symbol m n)) L c p z (Faulty UnknownSymbol s.path)) (sym x)
         (here L p s c I 0 0 R (U (symbol f.symbol) (is_symbol m n)) 6 (rw (length_kinds kinds, e)))))

@@ -1,6 +1,6 @@
 -- Nodes and children as they stand in the formula's bytes, and the terms that they are.
 use mathlib.Core.Path.{◌≡◌, refl, sym, ap}
-use mathlib.Core.Bool.{Bool, true, false, cond, ◌&&◌}
+use mathlib.Core.Bool.{Bool, true, false, cond, ◌&&◌, ◌||◌}
 use mathlib.Core.List.{List, [], ◌∷◌}
 use mathlib.Core.Option.{Option, none, some}
 use mathlib.Core.Logic.{◌⊎◌, inl, inr}
@@ -189,7 +189,7 @@ module _ (f : Fields) (h : Head) (is : head_of f ≡ some h) where
       eight zero x = cc
       eight (suc o) x = never x
 
-      go : (a c d : Bool) → eqb f.kind 8 ≡ a → eqb f.kind 7 ≡ c → eqb f.operator 14 ≡ d → cond a true (cond c d false) ≡ true → (h ≡ conditional) ⊎ (h ≡ ifelse)
+      go : (a c d : Bool) → eqb f.kind 8 ≡ a → eqb f.kind 7 ≡ c → eqb f.operator 14 ≡ d → (a || (c && d)) ≡ true → (h ≡ conditional) ⊎ (h ≡ ifelse)
       go true c d p q r s = inl (sym (eight f.operator (inner_is (conditional ∷ []) (eqb f.children 3) (at_kind 8 (eqb-true f.kind 8 p))).1))
       go false true true p q r s =
           let x = (inner_is calls true (at_kind 7 (eqb-true f.kind 7 q))).1 in

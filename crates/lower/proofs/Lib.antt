@@ -1,4 +1,4 @@
-pub mod Cells
+pub mod Results
 pub mod Laid
 pub mod Slots
 pub mod Leaves

@@ -1,11 +1,12 @@
 -- The members of the cycle: what each asks of the others, and what it answers.
 use mathlib.Core.Path.{◌≡◌, refl, sym, ap, ap₂, ◌∙◌, subst}
-use mathlib.Core.Bool.{Bool, true, false, cond}
+use mathlib.Core.Bool.{Bool, true, false, cond, not}
 use mathlib.Core.List.{List, [], ◌++◌}
 use mathlib.Core.Option.{none}
 use Prim.Native.Nat.{ℕ, ◌+◌, ◌-◌, ◌*◌, ◌≤◌, ◌<◌}
 use native.Mathlib.Omega.{arith}
 use lib.ListN.{length, length-append}
+use Rattle.refusals.specs.declared.Refusal.{Refusal}
 use Rattle.formula.specs.Text.{little_endian}
 use Rattle.formula.specs.Path.{Path, ◌▸◌, condition, step_text}
 use Rattle.formula.specs.Formula.{all_well_formed, size}
@@ -24,14 +25,17 @@ use Rattle.lower.specs.declared.Layout.{Layout}
 use Rattle.lower.specs.declared.Cursor.{Cursor}
 use Rattle.lower.specs.declared.Site.{Site}
 use Rattle.lower.specs.declared.Value.{Value}
-use Rattle.lower.specs.declared.Low.{Low}
-use Rattle.lower.specs.declared.Low.TheVariants.{Done, Fault as Faulty}
+use Rattle.lower.specs.Low.{Low, Done, Faulty}
 use Rattle.lower.proofs.Laid.{laid_length}
 use Rattle.lower.proofs.Frames.{Same}
 use Rattle.lower.proofs.Says.{Refused, Taken, slot_done}
 use Rattle.lower.proofs.Kids.{arm_and, arm_none, arm_one, arm_or, kids_step, past_none, past_one, past_step, rest_well}
 use Rattle.lower.proofs.Compose.{fewer_registers, fits_room, inner_is, place_same, ready_entered, ready_from, same_written, with_record}
 use Rattle.lower.proofs.Branches.{condition_refused, whole_branch}
+
+ends_is : (j : Bool) → ends (junction_of j) ≡ not j
+ends_is true = refl
+ends_is false = refl
 
 -- ---- a part with its own record
 
@@ -111,12 +115,12 @@ module _ {L : Layout} {p : List ℕ} {s : Site} {c : Cursor} (b : List ℕ) (d :
 
     pub none_done : left ≡ 0 → (p₂ : List ℕ) (r : Low)
         → r ≡ Done (record { a = c.reg; b = 0; c = 0; boolean = true; dynamic = false }) (record { node = c.node; reg = c.reg + 1; code = c.code + 1; path = c.path + 1; entry = c.entry })
-        → p₂ ≡ over p₁ (32 + 24 * c.code) (constant_slot (truth_bits v) c.reg site.path) → Says W L c p p₂ r
-    none_done e p₂ r er ep₂ =
+        → (x : ℕ) → x ≡ truth_bits (not j) → p₂ ≡ over p₁ (32 + 24 * c.code) (constant_slot x c.reg site.path) → Says W L c p p₂ r
+    none_done e p₂ r er x ex ep₂ =
         own_done p₂ r
         (subst (λ (x : Term). Says (own_piece C x (place L p₁ site) site.path c₁ (past b d left c.node)) L c₁ p₁ p₂ r) (sym (arm_none b d left c.node j e))
         (slot_done L p₁ site c₁ (instruction_count T) (inner_count T) (entry_count T) ready_own (constant_slot (truth_bits v) c.reg site.path) refl
-        (omega (arith, instruction_count_pos T)) p₂ ep₂ O r truth_fault truth_chunk (er ∙ ap₂ (λ (x : Value) (y : Cursor). Done x y) truth_value (truth_next e)) truth_path))
+        (omega (arith, instruction_count_pos T)) p₂ (ep₂ ∙ ap (λ (y : ℕ). over p₁ (32 + 24 * c.code) (constant_slot y c.reg site.path)) (ex ∙ ap truth_bits (sym (ends_is j)))) O r truth_fault truth_chunk (er ∙ ap₂ (λ (x : Value) (y : Cursor). Done x y) truth_value (truth_next e)) truth_path))
 
 -- ---- a conditional: its condition, and then its arms
 
@@ -131,7 +135,7 @@ module _ {L : Layout} {p : List ℕ} {s : Site} {c : Cursor} (C : Context) (t y 
   pub ready_condition : Ready L p s c (instruction_count t) (path_count t) (entry_count t)
   ready_condition = ready_from R p c _ _ _ (λ i x w. refl) refl (omega arith) (omega arith) (omega arith) (omega arith) R.registers R.sound
 
-  pub condition_fault : (p₁ : List ℕ) (r : Low) (m k : ℕ) → Refused A L c p p₁ m k → r ≡ Faulty m k → Says X L c p p₁ r
+  pub condition_fault : (p₁ : List ℕ) (r : Low) (m : Refusal) (k : ℕ) → Refused A L c p p₁ m k → r ≡ Faulty m k → Says X L c p p₁ r
   condition_fault p₁ r m k F e = condition_refused R C t y z (place L p s) n₁ n₂ (omega arith) (omega arith) (omega arith) p₁ r m k F e
 
   module _ (p₁ : List ℕ) (v : Value) (e : Cursor) (T : Taken A L c p p₁ v e) where
@@ -253,7 +257,7 @@ module _ {L : Layout} {p : List ℕ} {s : Site} {c : Cursor} (b : List ℕ) (d :
   pub split_first : Ready L p s c (instruction_count T₁) (path_count T₁) (entry_count T₁)
   split_first = ready_condition C T₁ Y Z at₁ (past b d n₀ (past b d y₀ at₁)) R'
 
-  pub split_refused : (p₁ : List ℕ) (r : Low) (i k : ℕ) → Refused A₁ L c p p₁ i k → r ≡ Faulty i k → Says U L c p p₁ r
+  pub split_refused : (p₁ : List ℕ) (r : Low) (i : Refusal) (k : ℕ) → Refused A₁ L c p p₁ i k → r ≡ Faulty i k → Says U L c p p₁ r
   split_refused p₁ r i k F e = as_split p₁ r (condition_fault C T₁ Y Z at₁ (past b d n₀ (past b d y₀ at₁)) R' p₁ r i k F e)
 
   module _ (p₁ : List ℕ) (v : Value) (e : Cursor) (K : Taken A₁ L c p p₁ v e) where

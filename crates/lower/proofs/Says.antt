@@ -5,6 +5,8 @@ use mathlib.Core.Option.{Option, none, some}
 use Prim.Native.Nat.{ℕ, ◌+◌, ◌*◌, ◌≤◌}
 use native.Mathlib.Omega.{arith}
 use lib.ListN.{length}
+use Rattle.refusals.specs.declared.Refusal.{Refusal}
+use Rattle.refusals.specs.Refusals.{refusal_of}
 use Rattle.machine.specs.Check.{Fault}
 use Rattle.writer.specs.Over.{over}
 use Rattle.paths.specs.Table.{Linked, linked, path_in_table}
@@ -16,8 +18,7 @@ use Rattle.lower.specs.declared.Layout.{Layout}
 use Rattle.lower.specs.declared.Cursor.{Cursor}
 use Rattle.lower.specs.declared.Site.{Site}
 use Rattle.lower.specs.declared.Value.{Value}
-use Rattle.lower.specs.declared.Low.{Low}
-use Rattle.lower.specs.declared.Low.TheVariants.{Done, Fault as Faulty}
+use Rattle.lower.specs.Low.{Low, Done, Faulty}
 use Rattle.lower.proofs.Frames.{Same, same_below, same_linked}
 use Rattle.lower.proofs.Keeps.{kept_here}
 
@@ -26,7 +27,7 @@ pub says_done : (P : Piece) (L : Layout) (c : Cursor) (p p' : List ℕ) (r : Low
 unfolding Says
 says_done P L c p p' r e a b s = subst (λ (o : Option Fault). SaysAt o P L c p p' r) (sym e) (a, b, s)
 
-pub says_fault : (P : Piece) (L : Layout) (c : Cursor) (p p' : List ℕ) (r : Low) (x : Fault) (k : ℕ) → P.fault ≡ some x → r ≡ Faulty x.number k
+pub says_fault : (P : Piece) (L : Layout) (c : Cursor) (p p' : List ℕ) (r : Low) (x : Fault) (k : ℕ) → P.fault ≡ some x → r ≡ Faulty (refusal_of x.number) k
     → path_in_table p' L.paths k ≡ x.place → Linked p' L.paths k → Kept L c p p' → Says P L c p p' r
 unfolding Says
 says_fault P L c p p' r x k e a b s h = subst (λ (o : Option Fault). SaysAt o P L c p p' r) (sym e) (k, a, b, s, h)
@@ -39,10 +40,10 @@ pub record Taken (P : Piece) (L : Layout) (c : Cursor) (p p' : List ℕ) (v : Va
   pub bytes : p' ≡ written L c p P.chunk
   pub sound : Sound L p' P.next.path
 
-pub record Refused (P : Piece) (L : Layout) (c : Cursor) (p p' : List ℕ) (n k : ℕ) : Type 0 where
+pub record Refused (P : Piece) (L : Layout) (c : Cursor) (p p' : List ℕ) (n : Refusal) (k : ℕ) : Type 0 where
   pub x : Fault
   pub is_fault : P.fault ≡ some x
-  pub number : n ≡ x.number
+  pub number : n ≡ refusal_of x.number
   pub place : path_in_table p' L.paths k ≡ x.place
   pub linked : Linked p' L.paths k
   pub kept : Kept L c p p'
@@ -56,7 +57,7 @@ pub taken : (P : Piece) (L : Layout) (c : Cursor) (p p' : List ℕ) (r : Low) (v
 unfolding Says
 taken P L c p p' r v e s d = taken_at P.fault P L c p p' r v e refl s d
 
-refused_at : (o : Option Fault) (P : Piece) (L : Layout) (c : Cursor) (p p' : List ℕ) (r : Low) (n k : ℕ) → P.fault ≡ o → SaysAt o P L c p p' r → r ≡ Faulty n k
+refused_at : (o : Option Fault) (P : Piece) (L : Layout) (c : Cursor) (p p' : List ℕ) (r : Low) (n : Refusal) (k : ℕ) → P.fault ≡ o → SaysAt o P L c p p' r → r ≡ Faulty n k
     → Refused P L c p p' n k
 refused_at none P L c p p' r n k f (a, b, s) d = absurd (let z : ◌≡◌ {A = ℕ} 0 1 = cc in omega arith)
 refused_at (some x) P L c p p' r n k f (j, a, b, s, h) d =
@@ -70,7 +71,7 @@ refused_at (some x) P L c p p' r n k f (j, a, b, s, h) d =
       kept = h;
     }
 
-pub refused : (P : Piece) (L : Layout) (c : Cursor) (p p' : List ℕ) (r : Low) (n k : ℕ) → Says P L c p p' r → r ≡ Faulty n k → Refused P L c p p' n k
+pub refused : (P : Piece) (L : Layout) (c : Cursor) (p p' : List ℕ) (r : Low) (n : Refusal) (k : ℕ) → Says P L c p p' r → r ≡ Faulty n k → Refused P L c p p' n k
 unfolding Says
 refused P L c p p' r n k s d = refused_at P.fault P L c p p' r n k refl s d
 
@@ -78,9 +79,9 @@ refused P L c p p' r n k s d = refused_at P.fault P L c p p' r n k refl s d
 
 module _ (L : Layout) (p : List ℕ) (s : Site) (c : Cursor) (I Q E : ℕ) (R : Ready L p s c I Q E) where
   -- a refusal at the site
-  pub here : (P : Piece) (n : ℕ) → P.fault ≡ some (record { number = n; place = place L p s }) → Says P L c p p (Faulty n s.path)
+  pub here : (P : Piece) (n : ℕ) → P.fault ≡ some (record { number = n; place = place L p s }) → Says P L c p p (Faulty (refusal_of n) s.path)
   here P n e =
-      says_fault P L c p p (Faulty n s.path) _ s.path e refl refl (λ j l. R.sound j (omega (arith, R.site))) (kept_here L c p)
+      says_fault P L c p p (Faulty (refusal_of n) s.path) _ s.path e refl refl (λ j l. R.sound j (omega (arith, R.site))) (kept_here L c p)
 
   -- an instruction
   module _ (slot : List ℕ) (len : length slot ≡ 24) (one : 1 ≤ I) (p' : List ℕ) (stored : p' ≡ over p (32 + 24 * c.code) slot) where

@@ -9,6 +9,7 @@ use native.Mathlib.Omega.{arith}
 use lib.ListN.{length, get_or, length-append}
 use lib.Dec.{eqb}
 use borrow.Author.Tests.{eq-eqb, ne_eqb}
+use Rattle.refusals.specs.declared.Refusal.{Refusal}
 use Rattle.formula.specs.Operator.{Junction, Operation, ValueKind, argument_kind, arity, result_kind, stepped}
 use Rattle.formula.specs.Path.{Path}
 use Rattle.formula.specs.Formula.{Formula, Formulas, Head, conditional, ifelse, last, next, number, size, sizes, well_formed}
@@ -33,8 +34,7 @@ use Rattle.lower.specs.declared.Layout.{Layout}
 use Rattle.lower.specs.declared.Cursor.{Cursor}
 use Rattle.lower.specs.declared.Site.{Site}
 use Rattle.lower.specs.declared.Value.{Value}
-use Rattle.lower.specs.declared.Low.{Low}
-use Rattle.lower.specs.declared.Low.TheVariants.{Done, Fault as Faulty}
+use Rattle.lower.specs.Low.{Low, Done, Faulty}
 use Rattle.lower.proofs.Laid.{Fits, laid_after}
 use Rattle.lower.proofs.Frames.{Same}
 use Rattle.lower.proofs.Keeps.{kept_laid, kept_then}
@@ -223,7 +223,7 @@ module _ {L : Layout} {p : List ℕ} {s : Site} {c : Cursor} (C : Context) (g : 
       ap₂ (λ (x : Bool) (y : ℕ). cond x y 0) (sym lists_is) (cnt ∙ (let z : f.children ≡ 0 + f.children = omega arith in z)) in
       ready_from R p c _ _ _ (λ j x y. refl) refl (omega arith) (omega arith) (omega arith) (omega (arith, e)) R.registers R.sound
 
-  pub operands_refused : (p₁ : List ℕ) (r : Low) (m j : ℕ) → Refused A L c p p₁ m j → r ≡ Faulty m j → Says W L c p p₁ r
+  pub operands_refused : (p₁ : List ℕ) (r : Low) (m : Refusal) (j : ℕ) → Refused A L c p p₁ m j → r ≡ Faulty m j → Says W L c p p₁ r
   operands_refused p₁ r m j F e = refused_up c p r W F F.kept e up
     where
       up : (x : Fault) → A.fault ≡ some x → W.fault ≡ some x

@@ -1,12 +1,11 @@
 -- What a symbol's lowering answers.
 use Rattle.std.specs.Prelude.{◌≡◌, Bool, true, false, not, List, ℕ, ◌+◌, ◌*◌, get_or, eqb}
-use Rattle.refusals.specs.Numbers.{unknown_symbol}
+use Rattle.refusals.specs.declared.Refusal.TheVariants.{UnknownSymbol}
 use Rattle.layout.specs.Image.{slot}
 use Rattle.writer.specs.Over.{over}
 use Rattle.lower.specs.declared.Cursor.{Cursor}
 use Rattle.lower.specs.declared.Site.{Site}
-use Rattle.lower.specs.declared.Low.{Low}
-use Rattle.lower.specs.declared.Low.TheVariants.{Done, Fault}
+use Rattle.lower.specs.Low.{Low, Done, Faulty}
 
 -- the symbol is in the table, or it is refused
 abbrev pub Loads : Bool → List ℕ → Site → ℕ → Cursor → List ℕ → List ℕ → Low → Type 0
@@ -15,4 +14,4 @@ Loads true kinds s i c p p' r =
     ≡ Done (record { a = c.reg; b = 0; c = 0; boolean = false; dynamic = not (eqb (get_or kinds i 0) 0) })
     (record { node = c.node; reg = c.reg + 1; code = c.code + 1; path = c.path; entry = c.entry }))
     × (p' ≡ over p (32 + 24 * c.code) (slot 1 0 c.reg i 0 0 s.path))
-Loads false kinds s i c p p' r = (r ≡ Fault unknown_symbol s.path) × (p' ≡ p)
+Loads false kinds s i c p p' r = (r ≡ Faulty UnknownSymbol s.path) × (p' ≡ p)

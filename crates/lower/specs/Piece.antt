@@ -1,4 +1,6 @@
 -- What lowering a part comes to: its first fault, or the bytes, the value and what is next free.
+use Rattle.refusals.specs.Refusals.{refusal_of}
+use Rattle.refusals.specs.declared.Refusal.TheVariants.{WrongType}
 use Rattle.std.specs.Prelude.{◌≡◌, Bool, true, false, cond, ◌&&◌, ◌||◌, List, [], ◌++◌, map, ℕ, ◌+◌, ◌*◌, ◌≤◌, ◌<◌, get_or, length, eqb}
 use Rattle.std.proofs.Math.Option.{Option, none, some}
 use Rattle.refusals.specs.Numbers.{invalid_input, unsupported, wrong_type}
@@ -20,8 +22,7 @@ use Rattle.lower.specs.declared.Site.{Site}
 use Rattle.lower.specs.declared.Layout.{Layout}
 use Rattle.lower.specs.declared.Cursor.{Cursor}
 use Rattle.lower.specs.declared.Value.{Value}
-use Rattle.lower.specs.declared.Low.{Low}
-use Rattle.lower.specs.declared.Low.TheVariants.{Done, Fault as Faulty}
+use Rattle.lower.specs.Low.{Low, Done, Faulty}
 
 -- ---- the context: a symbol's kind is 0 parameter, 1 state, 2 time, 3 input
 abbrev pub kind_of : ℕ → SymbolKind
@@ -61,7 +62,7 @@ pub record Kept (L : Layout) (c : Cursor) (p p' : List ℕ) : Type 0 where
 abbrev pub SaysAt : Option Fault → Piece → Layout → Cursor → List ℕ → List ℕ → Low → Type 0
 SaysAt none P L c p p' r = (r ≡ Done P.value P.next) × (p' ≡ written L c p P.chunk) × Sound L p' P.next.path
 SaysAt (some x) P L c p p' r =
-    (k : ℕ) × (r ≡ Faulty x.number k) × (path_in_table p' L.paths k ≡ x.place) × Linked p' L.paths k × Kept L c p p'
+    (k : ℕ) × (r ≡ Faulty (refusal_of x.number) k) × (path_in_table p' L.paths k ≡ x.place) × Linked p' L.paths k × Kept L c p p'
 
 unfoldable pub Says : Piece → Layout → Cursor → List ℕ → List ℕ → Low → Type 0
 Says P L c p p' r = SaysAt P.fault P L c p p' r
@@ -179,7 +180,7 @@ arms_answer k v y z e g =
     cond (same_kind (kind_if y.boolean) (kind_if z.boolean))
     (Done (record { a = e.reg; b = 0; c = 0; boolean = y.boolean; dynamic = v.dynamic || y.dynamic || z.dynamic })
     (record { node = g.node; reg = g.reg; code = g.code + 1; path = g.path; entry = g.entry }))
-    (Faulty wrong_type k)
+    (Faulty WrongType k)
 
 -- a jump after the first arm's copy, to behind the second's
 abbrev pub arms_bytes : ℕ → Value → Value → Cursor → Cursor → List ℕ → List ℕ
@@ -187,10 +188,6 @@ arms_bytes k y z e g p =
     cond (same_kind (kind_if y.boolean) (kind_if z.boolean))
     (over (over p (32 + 24 * (e.code + 1)) (slot 4 0 (e.reg + 1) 0 0 (g.code + 1) k)) (32 + 24 * g.code) (slot 2 0 e.reg z.a 0 0 k))
     p
-
--- no child left
-abbrev pub without_operands : Cursor → Low
-without_operands c = Done (record { a = 0; b = 0; c = 0; boolean = true; dynamic = false }) c
 
 -- ---- the children of an operation, from the i-th on; the entries of its list stand after those of the children
 abbrev pub operands_value : Context → Bool → Terms → ℕ → Value
@@ -229,7 +226,7 @@ ListsAt none L listing ts i P c p p' r =
     (r ≡ Done P.value P.next) × (p' ≡ listed L listing i P.next.entry (result_registers ts c.reg) (written L c p P.chunk))
     × Sound L p' P.next.path
 ListsAt (some x) L listing ts i P c p p' r =
-    (k : ℕ) × (r ≡ Faulty x.number k) × (path_in_table p' L.paths k ≡ x.place) × Linked p' L.paths k × Kept L c p p'
+    (k : ℕ) × (r ≡ Faulty (refusal_of x.number) k) × (path_in_table p' L.paths k ≡ x.place) × Linked p' L.paths k × Kept L c p p'
 
 unfoldable pub Lists : Layout → Bool → Terms → ℕ → Piece → Cursor → List ℕ → List ℕ → Low → Type 0
 Lists L listing ts i P c p p' r = ListsAt P.fault L listing ts i P c p p' r

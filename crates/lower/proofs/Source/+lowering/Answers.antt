@@ -1,0 +1,1074 @@
+use mathlib.Core.Bool.{Bool, cond, true, ◌&&◌}
+use mathlib.Core.Path.{◌≡◌, ap, refl, subst, sym, ◌∙◌}
+use native.Mathlib.Omega.{arith}
+use Rattle.std.proofs.lemmas.Result.{err_from_is_err_and}
+use Prim.Native.Nat.{ℕ, ◌+◌, ◌-◌, ◌*◌}
+use Rattle.formula.specs.Formula.{all_well_formed, size}
+use Rattle.formula.specs.Node.{node_size, tree_in}
+use Rattle.formula.specs.Term.{apply, term, terms}
+use Rattle.machine.proofs.Laws.{instruction_count_pos}
+use lib.Dec.{eqb}
+use Rattle.lower.specs.Low.{low_of}
+use Rattle.lower.specs.Piece.{arm, context_of, further, kids, leaf, past}
+use Rattle.lower.proofs.Answers.{arm_at, arm_from, arm_ready, arms_of, as_node, at_argument, leaf_ready, lists_as, miscounted_here, operands_as, operands_asked, operands_ready, ready_moved, ready_term, ready_to, rest_as, rest_ready, three_past, three_well, two_well, well_to}
+use Rattle.lower.proofs.Choices as choices
+use Rattle.lower.proofs.Collects as collects
+use Rattle.lower.proofs.Compose.{enter_room, fewer_registers, path_one}
+use Rattle.lower.proofs.Ends.{not_false, not_true}
+use Rattle.lower.proofs.Kids.{first_well, kids_none, none_well, one_well, past_none, stands}
+use Rattle.lower.proofs.Lowers.{link_past, link_splits, no_of, none_done, one_done, own_done, ready_one, ready_own, rest_well_at, rest_well_past, split_arms, split_done, split_first, split_node, split_refused, yes_of}
+use Rattle.lower.proofs.Results.{as_done, as_faulty, done_as, fault_as, handed_up, lists_as_is, same_as, says_as}
+use Rattle.lower.proofs.Says.{refused, taken}
+use Rattle.lower.proofs.Wholes as wholes
+use Rattle.lower.proofs.Source.+lowering.Goals as goal
+
+pub branch-returns-then-not-v : goal.branch-returns-then-not-v
+branch-returns-then-not-v t c =
+    let args = c.args in
+    let pre = c.requires in
+    let source = args.self.now in
+    let b = source.bytes.now in
+    let here = args.c.now in
+    let context = context_of source.kinds.now source.layout.generated in
+    let yes = args.arms.yes in
+    let no = args.arms.no in
+    let arms = arms_of context refl b args.levels yes no args.v pre.ready in
+    says_as _ _ _ _ _ (fault_as c.fault.ensures) (choices.not_boolean arms (not_true _ _ refl c.if-not-v.true))
+
+pub branch-returns-then-unsupported : goal.branch-returns-then-unsupported
+branch-returns-then-unsupported t c =
+    let args = c.args in
+    let pre = c.requires in
+    let source = args.self.now in
+    let b = source.bytes.now in
+    let here = args.c.now in
+    let context = context_of source.kinds.now source.layout.generated in
+    let yes = args.arms.yes in
+    let no = args.arms.no in
+    let arms = arms_of context refl b args.levels yes no args.v pre.ready in
+    says_as _ _ _ _ _ (fault_as c.fault-then-unsupported.ensures)
+    (choices.unsupported_here arms (not_false _ _ refl c.if-not-v.false) c.unsupported.result c.unsupported.ensures c.if-unsupported.true)
+
+pub branch-returns-in_err-y : goal.branch-returns-in_err-y
+branch-returns-in_err-y t c =
+    let args = c.args in
+    let pre = c.requires in
+    let source = args.self.now in
+    let b = source.bytes.now in
+    let here = args.c.now in
+    let context = context_of source.kinds.now source.layout.generated in
+    let yes = args.arms.yes in
+    let no = args.arms.no in
+    let arms = arms_of context refl b args.levels yes no args.v pre.ready in
+    let begun = choices.begun arms (not_false _ _ refl c.if-not-v.false) c.unsupported.result c.unsupported.ensures c.if-unsupported.false in
+    let said = arm_from _ _ b args.levels yes.conjunction yes.left _ _ _ _ _ _ (further here 1) c.advance.ensures c.lower.ensures in
+    let was = as_faulty c.lower.new.c c.in_err-y.was in
+    let up = err_from_is_err_and c.from_residual.result c.from_residual.ensures.1 in
+    says_as _ _ _ _ _ (handed_up c.lower.new.c c.in_err-y.was up.1 up.2) (choices.first_refused arms begun c.lower.new.p _ _ _ (refused _ _ _ _ _ _ _ _ said was) was)
+
+pub branch-overflow_add-target : goal.branch-overflow_add-target
+branch-overflow_add-target t c =
+    let args = c.args in
+    let pre = c.requires in
+    let source = args.self.now in
+    let b = source.bytes.now in
+    let here = args.c.now in
+    let context = context_of source.kinds.now source.layout.generated in
+    let yes = args.arms.yes in
+    let no = args.arms.no in
+    let arms = arms_of context refl b args.levels yes no args.v pre.ready in
+    let begun = choices.begun arms (not_false _ _ refl c.if-not-v.false) c.unsupported.result c.unsupported.ensures c.if-unsupported.false in
+    let said = arm_from _ _ b args.levels yes.conjunction yes.left _ _ _ _ _ _ (further here 1) c.advance.ensures c.lower.ensures in
+    let e = c.lower.new.c in
+    let first = choices.first arms begun c.lower.new.p c.in_ok-y.y e (taken _ _ _ _ _ _ c.in_ok-y.y e said (as_done e c.in_ok-y.was)) in
+    omega (arith, choices.is_code arms begun first, c.well_formed.1.0.0, pre.ready.code, pre.ready.records, pre.ready.lists)
+
+pub branch-put_slot-requires-2 : goal.branch-put_slot-requires-2
+branch-put_slot-requires-2 t c =
+    let args = c.args in
+    let pre = c.requires in
+    let source = args.self.now in
+    let b = source.bytes.now in
+    let here = args.c.now in
+    let context = context_of source.kinds.now source.layout.generated in
+    let yes = args.arms.yes in
+    let no = args.arms.no in
+    let arms = arms_of context refl b args.levels yes no args.v pre.ready in
+    let begun = choices.begun arms (not_false _ _ refl c.if-not-v.false) c.unsupported.result c.unsupported.ensures c.if-unsupported.false in
+    let said = arm_from _ _ b args.levels yes.conjunction yes.left _ _ _ _ _ _ (further here 1) c.advance.ensures c.lower.ensures in
+    let e = c.lower.new.c in
+    let first = choices.first arms begun c.lower.new.p c.in_ok-y.y e (taken _ _ _ _ _ _ c.in_ok-y.y e said (as_done e c.in_ok-y.was)) in (
+      omega (arith, c.put_slot.auto.p, choices.n₁' arms begun first, choices.is_code arms begun first, pre.ready.code, pre.ready.records, pre.ready.lists),
+      omega arith,
+    )
+
+pub branch-advance-requires-2 : goal.branch-advance-requires-2
+branch-advance-requires-2 t c =
+    let args = c.args in
+    let pre = c.requires in
+    let source = args.self.now in
+    let b = source.bytes.now in
+    let here = args.c.now in
+    let context = context_of source.kinds.now source.layout.generated in
+    let yes = args.arms.yes in
+    let no = args.arms.no in
+    let arms = arms_of context refl b args.levels yes no args.v pre.ready in
+    let begun = choices.begun arms (not_false _ _ refl c.if-not-v.false) c.unsupported.result c.unsupported.ensures c.if-unsupported.false in
+    let said = arm_from _ _ b args.levels yes.conjunction yes.left _ _ _ _ _ _ (further here 1) c.advance.ensures c.lower.ensures in
+    let e = c.lower.new.c in
+    let first = choices.first arms begun c.lower.new.p c.in_ok-y.y e (taken _ _ _ _ _ _ c.in_ok-y.y e said (as_done e c.in_ok-y.was)) in
+    let ready = pre.ready in
+    let fewer = fewer_registers (arm b args.levels yes.conjunction yes.left here.node) in (
+      omega (arith, choices.is_code arms begun first, choices.is_reg arms begun first, fewer, ready.registers, c.well_formed.1.0.0, ready.code, ready.records, ready.lists),
+      omega (arith, choices.is_code arms begun first, choices.is_reg arms begun first, fewer, ready.registers, c.well_formed.1.0.0, ready.code, ready.records, ready.lists),
+    )
+
+pub branch-lower-requires-2 : goal.branch-lower-requires-2
+branch-lower-requires-2 t c =
+    let args = c.args in
+    let pre = c.requires in
+    let source = args.self.now in
+    let b = source.bytes.now in
+    let here = args.c.now in
+    let context = context_of source.kinds.now source.layout.generated in
+    let yes = args.arms.yes in
+    let no = args.arms.no in
+    let arms = arms_of context refl b args.levels yes no args.v pre.ready in
+    let begun = choices.begun arms (not_false _ _ refl c.if-not-v.false) c.unsupported.result c.unsupported.ensures c.if-unsupported.false in
+    let said = arm_from _ _ b args.levels yes.conjunction yes.left _ _ _ _ _ _ (further here 1) c.advance.ensures c.lower.ensures in
+    let e = c.lower.new.c in
+    let first = choices.first arms begun c.lower.new.p c.in_ok-y.y e (taken _ _ _ _ _ _ c.in_ok-y.y e said (as_done e c.in_ok-y.was)) in
+    let copied = choices.copied arms begun first c.put_slot.new.p c.put_slot-2.new.p c.put_slot.ensures c.put_slot-2.ensures in
+    let there = sym (choices.is_node arms begun first) in (
+      omega arith,
+      (
+        ready_to b args.levels no.conjunction no.left _ (further e 2) c.advance-2.ensures
+            (arm_ready b args.levels no.conjunction no.left _ _ there (choices.ready_arm arms begun first copied)),
+        (
+          well_to b args.levels no.left _ (further e 2) c.advance-2.ensures
+              (subst (λ (x : ℕ). all_well_formed (kids b args.levels no.left x) ≡ true) there pre.formed.1),
+          omega arith,
+          pre.formed.3,
+        ),
+      ),
+    )
+
+pub branch-returns-in_err-z : goal.branch-returns-in_err-z
+branch-returns-in_err-z t c =
+    let args = c.args in
+    let pre = c.requires in
+    let source = args.self.now in
+    let b = source.bytes.now in
+    let here = args.c.now in
+    let context = context_of source.kinds.now source.layout.generated in
+    let yes = args.arms.yes in
+    let no = args.arms.no in
+    let arms = arms_of context refl b args.levels yes no args.v pre.ready in
+    let begun = choices.begun arms (not_false _ _ refl c.if-not-v.false) c.unsupported.result c.unsupported.ensures c.if-unsupported.false in
+    let said = arm_from _ _ b args.levels yes.conjunction yes.left _ _ _ _ _ _ (further here 1) c.advance.ensures c.lower.ensures in
+    let e = c.lower.new.c in
+    let first = choices.first arms begun c.lower.new.p c.in_ok-y.y e (taken _ _ _ _ _ _ c.in_ok-y.y e said (as_done e c.in_ok-y.was)) in
+    let copied = choices.copied arms begun first c.put_slot.new.p c.put_slot-2.new.p c.put_slot.ensures c.put_slot-2.ensures in
+    let said2 = arm_at _ _ b args.levels no.conjunction no.left _ _ _ _ _ _ e.node (past b args.levels yes.left here.node) (choices.is_node arms begun first)
+    (arm_from _ _ b args.levels no.conjunction no.left _ _ _ _ _ _ (further e 2) c.advance-2.ensures c.lower-2.ensures) in
+    let was = as_faulty c.lower-2.new.c c.in_err-z.was in
+    let up = err_from_is_err_and c.from_residual-in_err-z.result c.from_residual-in_err-z.ensures.1 in
+    says_as _ _ _ _ _ (handed_up c.lower-2.new.c c.in_err-z.was up.1 up.2) (choices.second_refused arms begun first copied c.lower-2.new.p _ _ _ (refused _ _ _ _ _ _ _ _ said2 was) was)
+
+pub branch-join-requires : goal.branch-join-requires
+branch-join-requires t c =
+    let args = c.args in
+    let pre = c.requires in
+    let source = args.self.now in
+    let b = source.bytes.now in
+    let here = args.c.now in
+    let context = context_of source.kinds.now source.layout.generated in
+    let yes = args.arms.yes in
+    let no = args.arms.no in
+    let arms = arms_of context refl b args.levels yes no args.v pre.ready in
+    let begun = choices.begun arms (not_false _ _ refl c.if-not-v.false) c.unsupported.result c.unsupported.ensures c.if-unsupported.false in
+    let said = arm_from _ _ b args.levels yes.conjunction yes.left _ _ _ _ _ _ (further here 1) c.advance.ensures c.lower.ensures in
+    let e = c.lower.new.c in
+    let first = choices.first arms begun c.lower.new.p c.in_ok-y.y e (taken _ _ _ _ _ _ c.in_ok-y.y e said (as_done e c.in_ok-y.was)) in
+    let copied = choices.copied arms begun first c.put_slot.new.p c.put_slot-2.new.p c.put_slot.ensures c.put_slot-2.ensures in
+    let said2 = arm_at _ _ b args.levels no.conjunction no.left _ _ _ _ _ _ e.node (past b args.levels yes.left here.node) (choices.is_node arms begun first)
+    (arm_from _ _ b args.levels no.conjunction no.left _ _ _ _ _ _ (further e 2) c.advance-2.ensures c.lower-2.ensures) in
+    let h = c.lower-2.new.c in
+    let second = choices.second arms begun first copied c.lower-2.new.p c.in_ok-z.z h (taken _ _ _ _ _ _ c.in_ok-z.z h said2 (as_done h c.in_ok-z.was)) in
+    let ready = pre.ready in (
+      omega (arith, choices.n₄' arms begun first copied second, choices.is_code arms begun first, ready.code, ready.records, ready.lists),
+      omega (arith, choices.n₄' arms begun first copied second, choices.z_code arms begun first copied second, choices.is_code arms begun first, ready.code, ready.records, ready.lists),
+      omega (
+        arith,
+        choices.is_code arms begun first,
+        choices.is_reg arms begun first,
+        fewer_registers (arm b args.levels yes.conjunction yes.left here.node),
+        ready.registers,
+        c.well_formed.1.0.0,
+        ready.code,
+        ready.records,
+        ready.lists,
+      ),
+    )
+
+pub branch-returns : goal.branch-returns
+branch-returns t c =
+    let args = c.args in
+    let pre = c.requires in
+    let source = args.self.now in
+    let b = source.bytes.now in
+    let here = args.c.now in
+    let context = context_of source.kinds.now source.layout.generated in
+    let yes = args.arms.yes in
+    let no = args.arms.no in
+    let arms = arms_of context refl b args.levels yes no args.v pre.ready in
+    let begun = choices.begun arms (not_false _ _ refl c.if-not-v.false) c.unsupported.result c.unsupported.ensures c.if-unsupported.false in
+    let said = arm_from _ _ b args.levels yes.conjunction yes.left _ _ _ _ _ _ (further here 1) c.advance.ensures c.lower.ensures in
+    let e = c.lower.new.c in
+    let first = choices.first arms begun c.lower.new.p c.in_ok-y.y e (taken _ _ _ _ _ _ c.in_ok-y.y e said (as_done e c.in_ok-y.was)) in
+    let copied = choices.copied arms begun first c.put_slot.new.p c.put_slot-2.new.p c.put_slot.ensures c.put_slot-2.ensures in
+    let said2 = arm_at _ _ b args.levels no.conjunction no.left _ _ _ _ _ _ e.node (past b args.levels yes.left here.node) (choices.is_node arms begun first)
+    (arm_from _ _ b args.levels no.conjunction no.left _ _ _ _ _ _ (further e 2) c.advance-2.ensures c.lower-2.ensures) in
+    let h = c.lower-2.new.c in
+    let second = choices.second arms begun first copied c.lower-2.new.p c.in_ok-z.z h (taken _ _ _ _ _ _ c.in_ok-z.z h said2 (as_done h c.in_ok-z.was)) in
+    choices.both_joined arms begun first copied second c.join.new.p _ c.join.ensures.0 c.join.ensures.1
+
+pub link-lower-requires : goal.link-lower-requires
+link-lower-requires t c =
+    let args = c.args in
+    let pre = c.requires in
+    let source = args.self.now in
+    let b = source.bytes.now in
+    let here = args.c.now in
+    let context = context_of source.kinds.now source.layout.generated in
+    let j = args.chain.conjunction in
+    let left = args.chain.left in
+    let node = here.node in
+    let yes = yes_of j left in
+    let no = no_of j left in
+    let whole = arm b args.levels j left node in
+    let after = past b args.levels left node in
+    let splits = link_splits b args.levels left node j pre.formed.1 in
+    let ends = link_past b args.levels left node j pre.formed.1 in
+    let some_left : left ≡ 0 → ⊥ = λ z. omega (arith, pre.formed.1) in (
+      omega (arith, pre.formed.1),
+      (
+        split_first b args.levels j yes no whole after splits ends pre.ready context,
+        (one_well b args.levels 1 node refl (first_well b args.levels left node some_left pre.formed.0), omega arith, omega arith),
+      ),
+    )
+
+pub link-returns-in_err-first : goal.link-returns-in_err-first
+link-returns-in_err-first t c =
+    let args = c.args in
+    let pre = c.requires in
+    let source = args.self.now in
+    let b = source.bytes.now in
+    let here = args.c.now in
+    let context = context_of source.kinds.now source.layout.generated in
+    let j = args.chain.conjunction in
+    let left = args.chain.left in
+    let node = here.node in
+    let yes = yes_of j left in
+    let no = no_of j left in
+    let whole = arm b args.levels j left node in
+    let after = past b args.levels left node in
+    let splits = link_splits b args.levels left node j pre.formed.1 in
+    let ends = link_past b args.levels left node j pre.formed.1 in
+    let some_left : left ≡ 0 → ⊥ = λ z. omega (arith, pre.formed.1) in
+    let was = as_faulty c.lower.new.c c.in_err-first.was in
+    let up = err_from_is_err_and c.from_residual.result c.from_residual.ensures.1 in
+    says_as _ _ _ _ _ (handed_up c.lower.new.c c.in_err-first.was up.1 up.2) (split_refused b args.levels j yes no whole after splits ends pre.ready context c.lower.new.p _ _ _ (refused _ _ _ _ _ _ _ _ c.lower.ensures was) was)
+
+pub link-branch-self-requires : goal.link-branch-self-requires
+link-branch-self-requires t c =
+    let args = c.args in
+    let pre = c.requires in
+    let source = args.self.now in
+    let b = source.bytes.now in
+    let here = args.c.now in
+    let context = context_of source.kinds.now source.layout.generated in
+    let j = args.chain.conjunction in
+    let left = args.chain.left in
+    let node = here.node in
+    let yes = yes_of j left in
+    let no = no_of j left in
+    let whole = arm b args.levels j left node in
+    let after = past b args.levels left node in
+    let splits = link_splits b args.levels left node j pre.formed.1 in
+    let ends = link_past b args.levels left node j pre.formed.1 in
+    let some_left : left ≡ 0 → ⊥ = λ z. omega (arith, pre.formed.1) in
+    let e = c.lower.new.c in
+    let first = taken _ _ _ _ _ _ c.in_ok-first.first e c.lower.ensures (as_done e c.in_ok-first.was) in
+    let rest = left - 1 in
+    let is = sym c.if-chain.true in (
+      omega (arith, pre.formed.1),
+      (
+        split_arms b args.levels j yes no whole after splits ends pre.ready context c.lower.new.p c.in_ok-first.first e first rest 0
+            (ap (λ (x : Bool). cond x rest 0) is) (ap (λ (x : Bool). cond x 0 rest) is),
+        (
+          rest_well_at b args.levels left node e.node some_left pre.formed.0
+              (split_node b args.levels j yes no whole after splits ends pre.ready context c.lower.new.p c.in_ok-first.first e first),
+          none_well b args.levels 0 (past b args.levels rest e.node) refl,
+          omega (arith, pre.formed.2),
+          omega arith,
+        ),
+      ),
+    )
+
+pub link-returns-then-chain : goal.link-returns-then-chain
+link-returns-then-chain t c =
+    let args = c.args in
+    let pre = c.requires in
+    let source = args.self.now in
+    let b = source.bytes.now in
+    let here = args.c.now in
+    let context = context_of source.kinds.now source.layout.generated in
+    let j = args.chain.conjunction in
+    let left = args.chain.left in
+    let node = here.node in
+    let yes = yes_of j left in
+    let no = no_of j left in
+    let whole = arm b args.levels j left node in
+    let after = past b args.levels left node in
+    let splits = link_splits b args.levels left node j pre.formed.1 in
+    let ends = link_past b args.levels left node j pre.formed.1 in
+    let some_left : left ≡ 0 → ⊥ = λ z. omega (arith, pre.formed.1) in
+    let e = c.lower.new.c in
+    let first = taken _ _ _ _ _ _ c.in_ok-first.first e c.lower.ensures (as_done e c.in_ok-first.was) in
+    let rest = left - 1 in
+    let is = sym c.if-chain.true in
+    split_done b args.levels j yes no whole after splits ends pre.ready context c.lower.new.p c.in_ok-first.first e first rest 0
+    (ap (λ (x : Bool). cond x rest 0) is) (ap (λ (x : Bool). cond x 0 rest) is) c.branch-self.new.p _ c.branch-self.ensures
+
+pub link-branch-self-requires-2 : goal.link-branch-self-requires-2
+link-branch-self-requires-2 t c =
+    let args = c.args in
+    let pre = c.requires in
+    let source = args.self.now in
+    let b = source.bytes.now in
+    let here = args.c.now in
+    let context = context_of source.kinds.now source.layout.generated in
+    let j = args.chain.conjunction in
+    let left = args.chain.left in
+    let node = here.node in
+    let yes = yes_of j left in
+    let no = no_of j left in
+    let whole = arm b args.levels j left node in
+    let after = past b args.levels left node in
+    let splits = link_splits b args.levels left node j pre.formed.1 in
+    let ends = link_past b args.levels left node j pre.formed.1 in
+    let some_left : left ≡ 0 → ⊥ = λ z. omega (arith, pre.formed.1) in
+    let e = c.lower.new.c in
+    let first = taken _ _ _ _ _ _ c.in_ok-first.first e c.lower.ensures (as_done e c.in_ok-first.was) in
+    let rest = left - 1 in
+    let is = sym c.if-chain.false in (
+      omega (arith, pre.formed.1),
+      (
+        split_arms b args.levels j yes no whole after splits ends pre.ready context c.lower.new.p c.in_ok-first.first e first 0 rest
+            (ap (λ (x : Bool). cond x rest 0) is) (ap (λ (x : Bool). cond x 0 rest) is),
+        (
+          none_well b args.levels 0 e.node refl,
+          rest_well_past b args.levels left node e.node some_left pre.formed.0
+              (split_node b args.levels j yes no whole after splits ends pre.ready context c.lower.new.p c.in_ok-first.first e first),
+          omega arith,
+          omega (arith, pre.formed.2),
+        ),
+      ),
+    )
+
+pub link-returns : goal.link-returns
+link-returns t c =
+    let args = c.args in
+    let pre = c.requires in
+    let source = args.self.now in
+    let b = source.bytes.now in
+    let here = args.c.now in
+    let context = context_of source.kinds.now source.layout.generated in
+    let j = args.chain.conjunction in
+    let left = args.chain.left in
+    let node = here.node in
+    let yes = yes_of j left in
+    let no = no_of j left in
+    let whole = arm b args.levels j left node in
+    let after = past b args.levels left node in
+    let splits = link_splits b args.levels left node j pre.formed.1 in
+    let ends = link_past b args.levels left node j pre.formed.1 in
+    let some_left : left ≡ 0 → ⊥ = λ z. omega (arith, pre.formed.1) in
+    let e = c.lower.new.c in
+    let first = taken _ _ _ _ _ _ c.in_ok-first.first e c.lower.ensures (as_done e c.in_ok-first.was) in
+    let rest = left - 1 in
+    let is = sym c.if-chain.false in
+    split_done b args.levels j yes no whole after splits ends pre.ready context c.lower.new.p c.in_ok-first.first e first 0 rest
+    (ap (λ (x : Bool). cond x rest 0) is) (ap (λ (x : Bool). cond x 0 rest) is) c.branch-self-2.new.p _ c.branch-self-2.ensures
+
+pub lower-enter-site-requires : goal.lower-enter-site-requires
+lower-enter-site-requires t c =
+    let args = c.args in
+    let pre = c.requires in
+    let source = args.self.now in
+    let b = source.bytes.now in
+    let here = args.c.now in
+    let context = context_of source.kinds.now source.layout.generated in
+    let j = args.chain.conjunction in
+    let left = args.chain.left in
+    enter_room pre.ready (path_one (arm b args.levels j left here.node)) args.step pre.formed.1
+
+pub lower-constant-requires : goal.lower-constant-requires
+lower-constant-requires t c =
+    let args = c.args in
+    let pre = c.requires in
+    let source = args.self.now in
+    let b = source.bytes.now in
+    let here = args.c.now in
+    let context = context_of source.kinds.now source.layout.generated in
+    let j = args.chain.conjunction in
+    let left = args.chain.left in
+    let enter = c.enter-site in (
+      omega (arith, pre.ready.code, pre.ready.records, pre.ready.lists, enter.auto.p, instruction_count_pos (arm b args.levels j left here.node)),
+      pre.ready.registers,
+    )
+
+pub lower-returns-then-chain-eq0 : goal.lower-returns-then-chain-eq0
+lower-returns-then-chain-eq0 t c =
+    let args = c.args in
+    let pre = c.requires in
+    let source = args.self.now in
+    let b = source.bytes.now in
+    let here = args.c.now in
+    let context = context_of source.kinds.now source.layout.generated in
+    let j = args.chain.conjunction in
+    let left = args.chain.left in
+    let enter = c.enter-site in
+    none_done b args.levels j left pre.ready args.step pre.formed.1 enter.result enter.new.p enter.ensures.0 enter.ensures.1 context c.if-chain-eq0.true
+    c.constant.new.p _ (done_as c.constant.ensures.0 c.constant.ensures.1) c.truth.result c.truth.ensures c.constant.ensures.2
+
+pub lower-node-requires : goal.lower-node-requires
+lower-node-requires t c =
+    let args = c.args in
+    let pre = c.requires in
+    let source = args.self.now in
+    let b = source.bytes.now in
+    let here = args.c.now in
+    let context = context_of source.kinds.now source.layout.generated in
+    let j = args.chain.conjunction in
+    let left = args.chain.left in
+    let enter = c.enter-site in (
+      omega arith,
+      (
+        ready_one b args.levels j left pre.ready args.step pre.formed.1 enter.result enter.new.p enter.ensures.0 enter.ensures.1 c.if-chain-eq1.true,
+        first_well b args.levels left here.node (λ z. omega (arith, c.if-chain-eq1.true)) pre.formed.0,
+      ),
+    )
+
+pub lower-returns-then-chain-eq1 : goal.lower-returns-then-chain-eq1
+lower-returns-then-chain-eq1 t c =
+    let args = c.args in
+    let pre = c.requires in
+    let source = args.self.now in
+    let b = source.bytes.now in
+    let here = args.c.now in
+    let context = context_of source.kinds.now source.layout.generated in
+    let j = args.chain.conjunction in
+    let left = args.chain.left in
+    let enter = c.enter-site in
+    one_done b args.levels j left pre.ready args.step pre.formed.1 enter.result enter.new.p enter.ensures.0 enter.ensures.1 context c.if-chain-eq1.true
+    c.node.new.p _ c.node.ensures
+
+pub lower-link-requires : goal.lower-link-requires
+lower-link-requires t c =
+    let args = c.args in
+    let pre = c.requires in
+    let source = args.self.now in
+    let b = source.bytes.now in
+    let here = args.c.now in
+    let context = context_of source.kinds.now source.layout.generated in
+    let j = args.chain.conjunction in
+    let left = args.chain.left in
+    let enter = c.enter-site in (
+      omega arith,
+      (
+        ready_own b args.levels j left pre.ready args.step pre.formed.1 enter.result enter.new.p enter.ensures.0 enter.ensures.1,
+        (pre.formed.0, omega (arith, c.if-chain-eq0.false, c.if-chain-eq1.false), pre.formed.2),
+      ),
+    )
+
+pub lower-returns : goal.lower-returns
+lower-returns t c =
+    let args = c.args in
+    let pre = c.requires in
+    let source = args.self.now in
+    let b = source.bytes.now in
+    let here = args.c.now in
+    let context = context_of source.kinds.now source.layout.generated in
+    let j = args.chain.conjunction in
+    let left = args.chain.left in
+    let enter = c.enter-site in
+    own_done b args.levels j left pre.ready args.step pre.formed.1 enter.result enter.new.p enter.ensures.0 enter.ensures.1 context c.link.new.p _ c.link.ensures
+
+pub node-node-f-requires : goal.node-node-f-requires
+node-node-f-requires t c =
+    (stands c.args.self.now.bytes.now c.args.levels c.args.c.now.node c.requires.formed).inside
+
+pub node-overflow_add-c : goal.node-overflow_add-c
+node-overflow_add-c t c =
+    let args = c.args in
+    let pre = c.requires in
+    let source = args.self.now in
+    let b = source.bytes.now in
+    let here = args.c.now in
+    let context = context_of source.kinds.now source.layout.generated in
+    let node = c.node-f in
+    let f = node.result in
+    let at = here.node in
+    let next = at + node_size in
+    let whole = term (tree_in args.levels b at) in
+    omega (arith, wholes.node_inside b args.levels at f node.ensures.0 pre.formed)
+
+pub node-returns-then-f-lt3 : goal.node-returns-then-f-lt3
+node-returns-then-f-lt3 t c =
+    let args = c.args in
+    let pre = c.requires in
+    let source = args.self.now in
+    let b = source.bytes.now in
+    let here = args.c.now in
+    let context = context_of source.kinds.now source.layout.generated in
+    let node = c.node-f in
+    let f = node.result in
+    let at = here.node in
+    let next = at + node_size in
+    let whole = term (tree_in args.levels b at) in
+    as_node _ _ whole (leaf f) _ _ next _ next here _ _ _ (wholes.leaf_term_is b args.levels at f node.ensures.0 pre.formed c.if-f-lt3.true)
+    (wholes.leaf_size b args.levels at f node.ensures.0 pre.formed c.if-f-lt3.true) c.leaf.ensures
+
+pub node-leaf-requires : goal.node-leaf-requires
+node-leaf-requires t c =
+    let args = c.args in
+    let pre = c.requires in
+    let source = args.self.now in
+    let b = source.bytes.now in
+    let here = args.c.now in
+    let context = context_of source.kinds.now source.layout.generated in
+    let node = c.node-f in
+    let f = node.result in
+    let at = here.node in
+    let next = at + node_size in
+    let whole = term (tree_in args.levels b at) in
+    ready_moved (leaf_ready f (ready_term whole (leaf f) (wholes.leaf_term_is b args.levels at f node.ensures.0 pre.formed c.if-f-lt3.true) pre.ready at)) next
+
+pub node-overflow_sub-below : goal.node-overflow_sub-below
+node-overflow_sub-below t c =
+    let args = c.args in
+    let pre = c.requires in
+    let source = args.self.now in
+    let b = source.bytes.now in
+    let here = args.c.now in
+    let context = context_of source.kinds.now source.layout.generated in
+    let node = c.node-f in
+    let f = node.result in
+    let at = here.node in
+    let next = at + node_size in
+    let whole = term (tree_in args.levels b at) in
+    omega (arith, wholes.node_deep b args.levels at f node.ensures.0 pre.formed)
+
+pub node-returns-then-f-lt2 : goal.node-returns-then-f-lt2
+node-returns-then-f-lt2 t c =
+    let args = c.args in
+    let pre = c.requires in
+    let source = args.self.now in
+    let b = source.bytes.now in
+    let here = args.c.now in
+    let context = context_of source.kinds.now source.layout.generated in
+    let node = c.node-f in
+    let f = node.result in
+    let at = here.node in
+    let next = at + node_size in
+    let whole = term (tree_in args.levels b at) in
+    says_as _ _ _ _ _ (fault_as c.fault.ensures)
+    (miscounted_here pre.ready _ whole _ (wholes.few_is b args.levels at f node.ensures.0 pre.formed c.if-f-eq6.true c.if-f-lt2.true))
+
+pub node-link-requires : goal.node-link-requires
+node-link-requires t c =
+    let args = c.args in
+    let pre = c.requires in
+    let source = args.self.now in
+    let b = source.bytes.now in
+    let here = args.c.now in
+    let context = context_of source.kinds.now source.layout.generated in
+    let node = c.node-f in
+    let f = node.result in
+    let at = here.node in
+    let next = at + node_size in
+    let whole = term (tree_in args.levels b at) in (
+      omega (arith, node.ensures.1, wholes.node_deep b args.levels at f node.ensures.0 pre.formed),
+      (
+        ready_term whole (arm b (args.levels - 1) (eqb f.operator 0) f.children next)
+            (wholes.link_is b args.levels at f node.ensures.0 pre.formed c.if-f-eq6.true (omega (arith, c.if-f-lt2.false))) pre.ready next,
+        (wholes.kids_well b args.levels at f node.ensures.0 pre.formed, omega (arith, c.if-f-lt2.false), node.ensures.1),
+      ),
+    )
+
+pub node-returns-then-f-eq6 : goal.node-returns-then-f-eq6
+node-returns-then-f-eq6 t c =
+    let args = c.args in
+    let pre = c.requires in
+    let source = args.self.now in
+    let b = source.bytes.now in
+    let here = args.c.now in
+    let context = context_of source.kinds.now source.layout.generated in
+    let node = c.node-f in
+    let f = node.result in
+    let at = here.node in
+    let next = at + node_size in
+    let whole = term (tree_in args.levels b at) in
+    as_node _ _ whole (arm b (args.levels - 1) (eqb f.operator 0) f.children next) _ _ _ _ next here _ _ _
+    (wholes.link_is b args.levels at f node.ensures.0 pre.formed c.if-f-eq6.true (omega (arith, c.if-f-lt2.false)))
+    (wholes.past_is b args.levels at f node.ensures.0 pre.formed) c.link.ensures
+
+pub node-returns-then-f-ne3 : goal.node-returns-then-f-ne3
+node-returns-then-f-ne3 t c =
+    let args = c.args in
+    let pre = c.requires in
+    let source = args.self.now in
+    let b = source.bytes.now in
+    let here = args.c.now in
+    let context = context_of source.kinds.now source.layout.generated in
+    let node = c.node-f in
+    let f = node.result in
+    let at = here.node in
+    let next = at + node_size in
+    let whole = term (tree_in args.levels b at) in
+    let below = args.levels - 1 in
+    let chosen = sym c.chooses.ensures ∙ c.if-chooses.true in
+    says_as _ _ _ _ _ (fault_as c.fault-then-f-ne3.ensures)
+    (miscounted_here pre.ready _ whole _ (wholes.wrong_is b args.levels at f node.ensures.0 pre.formed chosen c.if-f-ne3.true))
+
+pub node-lower-requires : goal.node-lower-requires
+node-lower-requires t c =
+    let args = c.args in
+    let pre = c.requires in
+    let source = args.self.now in
+    let b = source.bytes.now in
+    let here = args.c.now in
+    let context = context_of source.kinds.now source.layout.generated in
+    let node = c.node-f in
+    let f = node.result in
+    let at = here.node in
+    let next = at + node_size in
+    let whole = term (tree_in args.levels b at) in
+    let below = args.levels - 1 in
+    let chosen = sym c.chooses.ensures ∙ c.if-chooses.true in
+    let three = c.if-f-ne3.false in
+    let splits = wholes.branch_is b args.levels at f node.ensures.0 pre.formed chosen three in
+    let after = at + node_size * size (tree_in args.levels b at) in
+    let ends = three_past b below next ∙ (ap (λ (x : ℕ). past b below x next) (sym three) ∙ wholes.past_is b args.levels at f node.ensures.0 pre.formed) in
+    let moved = ready_moved pre.ready next in
+    let well = wholes.kids_well b args.levels at f node.ensures.0 pre.formed in (
+      omega (arith, wholes.node_deep b args.levels at f node.ensures.0 pre.formed),
+      (
+        split_first b below true 1 1 whole after splits ends moved context,
+        (one_well b below 1 next refl (first_well b below f.children next (λ z. omega (arith, three)) well), omega arith, omega arith),
+      ),
+    )
+
+pub node-returns-in_err-condition : goal.node-returns-in_err-condition
+node-returns-in_err-condition t c =
+    let args = c.args in
+    let pre = c.requires in
+    let source = args.self.now in
+    let b = source.bytes.now in
+    let here = args.c.now in
+    let context = context_of source.kinds.now source.layout.generated in
+    let node = c.node-f in
+    let f = node.result in
+    let at = here.node in
+    let next = at + node_size in
+    let whole = term (tree_in args.levels b at) in
+    let below = args.levels - 1 in
+    let chosen = sym c.chooses.ensures ∙ c.if-chooses.true in
+    let three = c.if-f-ne3.false in
+    let splits = wholes.branch_is b args.levels at f node.ensures.0 pre.formed chosen three in
+    let after = at + node_size * size (tree_in args.levels b at) in
+    let ends = three_past b below next ∙ (ap (λ (x : ℕ). past b below x next) (sym three) ∙ wholes.past_is b args.levels at f node.ensures.0 pre.formed) in
+    let moved = ready_moved pre.ready next in
+    let well = wholes.kids_well b args.levels at f node.ensures.0 pre.formed in
+    let was = as_faulty c.lower.new.c c.in_err-condition.was in
+    let up = err_from_is_err_and c.from_residual.result c.from_residual.ensures.1 in
+    says_as _ _ _ _ _ (handed_up c.lower.new.c c.in_err-condition.was up.1 up.2) (as_node _ _ whole whole _ _ _ _ next here _ _ _ refl refl
+    (split_refused b below true 1 1 whole after splits ends moved context c.lower.new.p _ _ _ (refused _ _ _ _ _ _ _ _ c.lower.ensures was) was))
+
+pub node-branch-self-requires : goal.node-branch-self-requires
+node-branch-self-requires t c =
+    let args = c.args in
+    let pre = c.requires in
+    let source = args.self.now in
+    let b = source.bytes.now in
+    let here = args.c.now in
+    let context = context_of source.kinds.now source.layout.generated in
+    let node = c.node-f in
+    let f = node.result in
+    let at = here.node in
+    let next = at + node_size in
+    let whole = term (tree_in args.levels b at) in
+    let below = args.levels - 1 in
+    let chosen = sym c.chooses.ensures ∙ c.if-chooses.true in
+    let three = c.if-f-ne3.false in
+    let splits = wholes.branch_is b args.levels at f node.ensures.0 pre.formed chosen three in
+    let after = at + node_size * size (tree_in args.levels b at) in
+    let ends = three_past b below next ∙ (ap (λ (x : ℕ). past b below x next) (sym three) ∙ wholes.past_is b args.levels at f node.ensures.0 pre.formed) in
+    let moved = ready_moved pre.ready next in
+    let well = wholes.kids_well b args.levels at f node.ensures.0 pre.formed in
+    let e = c.lower.new.c in
+    let v = c.in_ok-condition.condition in
+    let first = taken _ _ _ _ _ _ v e c.lower.ensures (as_done e c.in_ok-condition.was) in
+    let there = split_node b below true 1 1 whole after splits ends moved context c.lower.new.p v e first in (
+      omega (arith, wholes.node_deep b args.levels at f node.ensures.0 pre.formed),
+      (
+        split_arms b below true 1 1 whole after splits ends moved context c.lower.new.p v e first 1 1 refl refl,
+        (two_well b below next e.node f.children three well there, three_well b below next e.node f.children three well there, omega arith, omega arith),
+      ),
+    )
+
+pub node-returns-then-chooses : goal.node-returns-then-chooses
+node-returns-then-chooses t c =
+    let args = c.args in
+    let pre = c.requires in
+    let source = args.self.now in
+    let b = source.bytes.now in
+    let here = args.c.now in
+    let context = context_of source.kinds.now source.layout.generated in
+    let node = c.node-f in
+    let f = node.result in
+    let at = here.node in
+    let next = at + node_size in
+    let whole = term (tree_in args.levels b at) in
+    let below = args.levels - 1 in
+    let chosen = sym c.chooses.ensures ∙ c.if-chooses.true in
+    let three = c.if-f-ne3.false in
+    let splits = wholes.branch_is b args.levels at f node.ensures.0 pre.formed chosen three in
+    let after = at + node_size * size (tree_in args.levels b at) in
+    let ends = three_past b below next ∙ (ap (λ (x : ℕ). past b below x next) (sym three) ∙ wholes.past_is b args.levels at f node.ensures.0 pre.formed) in
+    let moved = ready_moved pre.ready next in
+    let well = wholes.kids_well b args.levels at f node.ensures.0 pre.formed in
+    let e = c.lower.new.c in
+    let v = c.in_ok-condition.condition in
+    let first = taken _ _ _ _ _ _ v e c.lower.ensures (as_done e c.in_ok-condition.was) in
+    as_node _ _ whole whole _ _ _ _ next here _ _ _ refl refl
+    (split_done b below true 1 1 whole after splits ends moved context c.lower.new.p v e first 1 1 refl refl c.branch-self.new.p _ c.branch-self.ensures)
+
+pub node-operands-requires : goal.node-operands-requires
+node-operands-requires t c =
+    let args = c.args in
+    let pre = c.requires in
+    let source = args.self.now in
+    let b = source.bytes.now in
+    let here = args.c.now in
+    let context = context_of source.kinds.now source.layout.generated in
+    let node = c.node-f in
+    let f = node.result in
+    let at = here.node in
+    let next = at + node_size in
+    let whole = term (tree_in args.levels b at) in
+    let below = args.levels - 1 in
+    let unchosen = sym c.chooses.ensures ∙ c.if-chooses.false in
+    let knows = wholes.knows b args.levels at f node.ensures.0 pre.formed (omega (arith, c.if-f-lt3.false)) c.if-f-eq6.false unchosen in
+    let op = knows.op in
+    let parts = terms (kids b below f.children next) in
+    let after = past b below f.children next in
+    let count = wholes.count_kids b below f.children next in
+    let is = wholes.apply_is b args.levels at f node.ensures.0 pre.formed (omega (arith, c.if-f-lt3.false)) c.if-f-eq6.false unchosen in
+    let moved = ready_term whole (apply op parts) is pre.ready next in (
+      omega (arith, node.ensures.1, wholes.node_deep b args.levels at f node.ensures.0 pre.formed),
+      (
+        operands_asked parts f.children c.listing.result _ c.listing.ensures (wholes.ready_operands context refl op parts f _ after knows refl count moved),
+        (wholes.kids_well b args.levels at f node.ensures.0 pre.formed, omega (arith, node.ensures.1)),
+      ),
+    )
+
+pub node-returns-in_err-v : goal.node-returns-in_err-v
+node-returns-in_err-v t c =
+    let args = c.args in
+    let pre = c.requires in
+    let source = args.self.now in
+    let b = source.bytes.now in
+    let here = args.c.now in
+    let context = context_of source.kinds.now source.layout.generated in
+    let node = c.node-f in
+    let f = node.result in
+    let at = here.node in
+    let next = at + node_size in
+    let whole = term (tree_in args.levels b at) in
+    let below = args.levels - 1 in
+    let unchosen = sym c.chooses.ensures ∙ c.if-chooses.false in
+    let knows = wholes.knows b args.levels at f node.ensures.0 pre.formed (omega (arith, c.if-f-lt3.false)) c.if-f-eq6.false unchosen in
+    let op = knows.op in
+    let parts = terms (kids b below f.children next) in
+    let after = past b below f.children next in
+    let count = wholes.count_kids b below f.children next in
+    let is = wholes.apply_is b args.levels at f node.ensures.0 pre.formed (omega (arith, c.if-f-lt3.false)) c.if-f-eq6.false unchosen in
+    let moved = ready_term whole (apply op parts) is pre.ready next in
+    let said = lists_as _ _ _ _ _ _ _ _ _ _ _ _ _ _ c.takes.ensures c.listing.ensures c.operands.ensures in
+    let was = as_faulty c.operands.new.c c.in_err-v.was in
+    let up = err_from_is_err_and c.from_residual-in_err-v.result c.from_residual-in_err-v.ensures.1 in
+    says_as _ _ _ _ _ (handed_up c.operands.new.c c.in_err-v.was up.1 up.2) (as_node _ _ whole (apply op parts) _ _ _ _ next here _ _ _ is (wholes.past_is b args.levels at f node.ensures.0 pre.formed)
+    (wholes.operands_refused context refl op parts f _ after knows refl count moved c.operands.new.p _ _ _ (collects.turned _ _ _ _ _ _ _ _ _ _ _ said was) was))
+
+pub node-operation-requires : goal.node-operation-requires
+node-operation-requires t c =
+    let args = c.args in
+    let pre = c.requires in
+    let source = args.self.now in
+    let b = source.bytes.now in
+    let here = args.c.now in
+    let context = context_of source.kinds.now source.layout.generated in
+    let node = c.node-f in
+    let f = node.result in
+    let at = here.node in
+    let next = at + node_size in
+    let whole = term (tree_in args.levels b at) in
+    let below = args.levels - 1 in
+    let unchosen = sym c.chooses.ensures ∙ c.if-chooses.false in
+    let knows = wholes.knows b args.levels at f node.ensures.0 pre.formed (omega (arith, c.if-f-lt3.false)) c.if-f-eq6.false unchosen in
+    let op = knows.op in
+    let parts = terms (kids b below f.children next) in
+    let after = past b below f.children next in
+    let count = wholes.count_kids b below f.children next in
+    let is = wholes.apply_is b args.levels at f node.ensures.0 pre.formed (omega (arith, c.if-f-lt3.false)) c.if-f-eq6.false unchosen in
+    let moved = ready_term whole (apply op parts) is pre.ready next in
+    let said = lists_as _ _ _ _ _ _ _ _ _ _ _ _ _ _ c.takes.ensures c.listing.ensures c.operands.ensures in
+    let e = c.operands.new.c in
+    let v = c.in_ok-v.v in
+    let collected = collects.collected _ _ _ _ _ _ _ _ _ v e said (as_done e c.in_ok-v.was) in (
+      wholes.ready_finish context refl op parts f _ after knows refl count moved c.operands.new.p v e c.operands.auto.p collected,
+      knows.small,
+      omega (
+        arith,
+        node.ensures.1,
+        (wholes.ready_operands context refl op parts f _ after knows refl count moved).lists,
+        wholes.e_entry context refl op parts f _ after knows refl count moved c.operands.new.p v e c.operands.auto.p collected,
+        c.well_formed.1.0.0,
+      ),
+    )
+
+pub node-returns : goal.node-returns
+node-returns t c =
+    let args = c.args in
+    let pre = c.requires in
+    let source = args.self.now in
+    let b = source.bytes.now in
+    let here = args.c.now in
+    let context = context_of source.kinds.now source.layout.generated in
+    let node = c.node-f in
+    let f = node.result in
+    let at = here.node in
+    let next = at + node_size in
+    let whole = term (tree_in args.levels b at) in
+    let below = args.levels - 1 in
+    let unchosen = sym c.chooses.ensures ∙ c.if-chooses.false in
+    let knows = wholes.knows b args.levels at f node.ensures.0 pre.formed (omega (arith, c.if-f-lt3.false)) c.if-f-eq6.false unchosen in
+    let op = knows.op in
+    let parts = terms (kids b below f.children next) in
+    let after = past b below f.children next in
+    let count = wholes.count_kids b below f.children next in
+    let is = wholes.apply_is b args.levels at f node.ensures.0 pre.formed (omega (arith, c.if-f-lt3.false)) c.if-f-eq6.false unchosen in
+    let moved = ready_term whole (apply op parts) is pre.ready next in
+    let said = lists_as _ _ _ _ _ _ _ _ _ _ _ _ _ _ c.takes.ensures c.listing.ensures c.operands.ensures in
+    let e = c.operands.new.c in
+    let v = c.in_ok-v.v in
+    let collected = collects.collected _ _ _ _ _ _ _ _ _ v e said (as_done e c.in_ok-v.was) in
+    as_node _ _ whole (apply op parts) _ _ _ _ next here _ _ _ is (wholes.past_is b args.levels at f node.ensures.0 pre.formed)
+    (wholes.finished context refl op parts f _ after knows refl count moved c.operands.new.p v e c.operands.auto.p collected c.operation.new.p _ c.operation.ensures)
+
+pub operands-returns-then-o-eq0 : goal.operands-returns-then-o-eq0
+operands-returns-then-o-eq0 t c =
+    let args = c.args in
+    let pre = c.requires in
+    let source = args.self.now in
+    let b = source.bytes.now in
+    let here = args.c.now in
+    let context = context_of source.kinds.now source.layout.generated in
+    collects.none_left _ args.o.first _ args.o.boolean _ _ _ here args.p.now (past_none b args.levels args.o.left here.node c.if-o-eq0.true) pre.ready.sound
+    args.o.lists _ _ refl (ap terms (kids_none b args.levels here.node args.o.left c.if-o-eq0.true))
+
+pub operands-lower-requires : goal.operands-lower-requires
+operands-lower-requires t c =
+    let args = c.args in
+    let pre = c.requires in
+    let source = args.self.now in
+    let b = source.bytes.now in
+    let here = args.c.now in
+    let context = context_of source.kinds.now source.layout.generated in
+    let o = args.o in
+    let node = here.node in
+    let second = past b args.levels 1 node in
+    let after = past b args.levels o.left node in
+    let child = arm b args.levels true 1 node in
+    let others = terms (kids b args.levels (o.left - 1) second) in
+    let ready = operands_ready b args.levels o.left node o.lists o.first c.if-o-eq0.false pre.ready in (
+      omega (arith, c.if-o-eq0.false),
+      (
+        collects.ready_child o.lists context o.boolean child others o.first second after ready,
+        (one_well b args.levels 1 node refl (first_well b args.levels o.left node c.if-o-eq0.false pre.formed.0), omega (arith, pre.formed.1), omega arith),
+      ),
+    )
+
+pub operands-returns-in_err-v : goal.operands-returns-in_err-v
+operands-returns-in_err-v t c =
+    let args = c.args in
+    let pre = c.requires in
+    let source = args.self.now in
+    let b = source.bytes.now in
+    let here = args.c.now in
+    let context = context_of source.kinds.now source.layout.generated in
+    let o = args.o in
+    let node = here.node in
+    let second = past b args.levels 1 node in
+    let after = past b args.levels o.left node in
+    let child = arm b args.levels true 1 node in
+    let others = terms (kids b args.levels (o.left - 1) second) in
+    let ready = operands_ready b args.levels o.left node o.lists o.first c.if-o-eq0.false pre.ready in
+    let said = at_argument _ _ _ _ o.first _ _ _ _ _ _ c.lower.ensures in
+    let was = as_faulty c.lower.new.c c.in_err-v.was in
+    let up = err_from_is_err_and c.from_residual.result c.from_residual.ensures.1 in
+    lists_as_is _ _ _ _ _ _ _ _ (handed_up c.lower.new.c c.in_err-v.was up.1 up.2) (operands_as _ _ _ _ _ _ _ _ _ _ _ _ b args.levels o.left node c.if-o-eq0.false
+    (collects.child_refused o.lists context o.boolean child others o.first second after ready c.lower.new.p _ _ _ (refused _ _ _ _ _ _ _ _ said was) was))
+
+pub operands-operands-requires : goal.operands-operands-requires
+operands-operands-requires t c =
+    let args = c.args in
+    let pre = c.requires in
+    let source = args.self.now in
+    let b = source.bytes.now in
+    let here = args.c.now in
+    let context = context_of source.kinds.now source.layout.generated in
+    let o = args.o in
+    let node = here.node in
+    let second = past b args.levels 1 node in
+    let after = past b args.levels o.left node in
+    let child = arm b args.levels true 1 node in
+    let others = terms (kids b args.levels (o.left - 1) second) in
+    let ready = operands_ready b args.levels o.left node o.lists o.first c.if-o-eq0.false pre.ready in
+    let said = at_argument _ _ _ _ o.first _ _ _ _ _ _ c.lower.ensures in
+    let e = c.lower.new.c in
+    let v = c.in_ok-v.v in
+    let first = taken _ _ _ _ _ _ v e said (as_done e c.in_ok-v.was) in
+    let there = collects.is_node o.lists context o.boolean child others o.first second after ready c.lower.new.p v e first in (
+      omega (arith, c.if-o-eq0.false),
+      (
+        rest_ready b args.levels (o.left - 1) _ _ (sym there) o.lists o.first
+            (collects.ready_rest o.lists context o.boolean child others o.first second after ready c.lower.new.p v e first),
+        (rest_well_at b args.levels o.left node e.node c.if-o-eq0.false pre.formed.0 there, omega (arith, pre.formed.1, c.if-o-eq0.false)),
+      ),
+    )
+
+pub operands-returns-in_err-w : goal.operands-returns-in_err-w
+operands-returns-in_err-w t c =
+    let args = c.args in
+    let pre = c.requires in
+    let source = args.self.now in
+    let b = source.bytes.now in
+    let here = args.c.now in
+    let context = context_of source.kinds.now source.layout.generated in
+    let o = args.o in
+    let node = here.node in
+    let second = past b args.levels 1 node in
+    let after = past b args.levels o.left node in
+    let child = arm b args.levels true 1 node in
+    let others = terms (kids b args.levels (o.left - 1) second) in
+    let ready = operands_ready b args.levels o.left node o.lists o.first c.if-o-eq0.false pre.ready in
+    let said = at_argument _ _ _ _ o.first _ _ _ _ _ _ c.lower.ensures in
+    let e = c.lower.new.c in
+    let v = c.in_ok-v.v in
+    let first = taken _ _ _ _ _ _ v e said (as_done e c.in_ok-v.was) in
+    let there = collects.is_node o.lists context o.boolean child others o.first second after ready c.lower.new.p v e first in
+    let said2 = rest_as _ _ _ _ _ _ _ _ _ _ _ b args.levels o.left node e.node there c.if-o-eq0.false c.operands.ensures in
+    let was = as_faulty c.operands.new.c c.in_err-w.was in
+    let up = err_from_is_err_and c.from_residual-in_err-w.result c.from_residual-in_err-w.ensures.1 in
+    lists_as_is _ _ _ _ _ _ _ _ (handed_up c.operands.new.c c.in_err-w.was up.1 up.2) (operands_as _ _ _ _ _ _ _ _ _ _ _ _ b args.levels o.left node c.if-o-eq0.false
+    (collects.rest_refused o.lists context o.boolean child others o.first second after ready c.lower.new.p v e first c.operands.new.p _ _ _
+    (collects.turned _ _ _ _ _ _ _ _ _ _ _ said2 was) was))
+
+pub operands-overflow_add-entry : goal.operands-overflow_add-entry
+operands-overflow_add-entry t c =
+    let args = c.args in
+    let pre = c.requires in
+    let source = args.self.now in
+    let b = source.bytes.now in
+    let here = args.c.now in
+    let context = context_of source.kinds.now source.layout.generated in
+    let o = args.o in
+    let node = here.node in
+    let second = past b args.levels 1 node in
+    let after = past b args.levels o.left node in
+    let child = arm b args.levels true 1 node in
+    let others = terms (kids b args.levels (o.left - 1) second) in
+    let ready = operands_ready b args.levels o.left node o.lists o.first c.if-o-eq0.false pre.ready in
+    let said = at_argument _ _ _ _ o.first _ _ _ _ _ _ c.lower.ensures in
+    let e = c.lower.new.c in
+    let v = c.in_ok-v.v in
+    let first = taken _ _ _ _ _ _ v e said (as_done e c.in_ok-v.was) in
+    let there = collects.is_node o.lists context o.boolean child others o.first second after ready c.lower.new.p v e first in
+    let said2 = rest_as _ _ _ _ _ _ _ _ _ _ _ b args.levels o.left node e.node there c.if-o-eq0.false c.operands.ensures in
+    let h = c.operands.new.c in
+    let w = c.in_ok-w.w in
+    let collected = collects.collected _ _ _ _ _ _ _ _ _ w h said2 (as_done h c.in_ok-w.was) in
+    omega (
+      arith,
+      collects.entry_small o.lists context o.boolean child others o.first second after ready c.lower.new.p v e first c.operands.new.p w h c.operands.auto.p collected,
+      pre.formed.1,
+      c.well_formed.1.0.0,
+    )
+
+pub operands-list_entry-requires : goal.operands-list_entry-requires
+operands-list_entry-requires t c =
+    let args = c.args in
+    let pre = c.requires in
+    let source = args.self.now in
+    let b = source.bytes.now in
+    let here = args.c.now in
+    let context = context_of source.kinds.now source.layout.generated in
+    let o = args.o in
+    let node = here.node in
+    let second = past b args.levels 1 node in
+    let after = past b args.levels o.left node in
+    let child = arm b args.levels true 1 node in
+    let others = terms (kids b args.levels (o.left - 1) second) in
+    let ready = operands_ready b args.levels o.left node o.lists o.first c.if-o-eq0.false pre.ready in
+    let said = at_argument _ _ _ _ o.first _ _ _ _ _ _ c.lower.ensures in
+    let e = c.lower.new.c in
+    let v = c.in_ok-v.v in
+    let first = taken _ _ _ _ _ _ v e said (as_done e c.in_ok-v.was) in
+    let there = collects.is_node o.lists context o.boolean child others o.first second after ready c.lower.new.p v e first in
+    let said2 = rest_as _ _ _ _ _ _ _ _ _ _ _ b args.levels o.left node e.node there c.if-o-eq0.false c.operands.ensures in
+    let h = c.operands.new.c in
+    let w = c.in_ok-w.w in
+    let collected = collects.collected _ _ _ _ _ _ _ _ _ w h said2 (as_done h c.in_ok-w.was) in
+    collects.entry_room o.lists context o.boolean child others o.first second after ready c.lower.new.p v e first c.operands.new.p w h c.operands.auto.p collected
+
+pub operands-returns : goal.operands-returns
+operands-returns t c =
+    let args = c.args in
+    let pre = c.requires in
+    let source = args.self.now in
+    let b = source.bytes.now in
+    let here = args.c.now in
+    let context = context_of source.kinds.now source.layout.generated in
+    let o = args.o in
+    let node = here.node in
+    let second = past b args.levels 1 node in
+    let after = past b args.levels o.left node in
+    let child = arm b args.levels true 1 node in
+    let others = terms (kids b args.levels (o.left - 1) second) in
+    let ready = operands_ready b args.levels o.left node o.lists o.first c.if-o-eq0.false pre.ready in
+    let said = at_argument _ _ _ _ o.first _ _ _ _ _ _ c.lower.ensures in
+    let e = c.lower.new.c in
+    let v = c.in_ok-v.v in
+    let first = taken _ _ _ _ _ _ v e said (as_done e c.in_ok-v.was) in
+    let there = collects.is_node o.lists context o.boolean child others o.first second after ready c.lower.new.p v e first in
+    let said2 = rest_as _ _ _ _ _ _ _ _ _ _ _ b args.levels o.left node e.node there c.if-o-eq0.false c.operands.ensures in
+    let h = c.operands.new.c in
+    let w = c.in_ok-w.w in
+    let collected = collects.collected _ _ _ _ _ _ _ _ _ w h said2 (as_done h c.in_ok-w.was) in
+    operands_as _ _ _ _ _ _ _ _ _ _ _ _ b args.levels o.left node c.if-o-eq0.false
+    (collects.all_collected o.lists context o.boolean child others o.first second after ready c.lower.new.p v e first c.operands.new.p w h c.operands.auto.p collected
+    c.list_entry.new.p _ _ c.list_entry.ensures (ap (λ (x : Bool). x && w.boolean) (same_as v.boolean o.boolean)) refl)
