@@ -4,7 +4,7 @@ use mathlib.Core.Option.{Option, some}
 use lib.Bits.{bit_and, and_block, and_le_r, and_mask, and_zero_r}
 use Rattle.formula.specs.Text.{all_some, byte_at, half_at, joined, little_endian, long_at, word_at}
 use Rattle.names.specs.Lines.{cap, part, place}
-use Rattle.values.specs.declared.words.Digits.TheVariants.{Number}
+use Rattle.std.specs.Prelude.{Some}
 use Rattle.values.specs.Eights.{AllBelow, Numbers, digit_byte}
 use Rattle.names.proofs.Digits.{digit_is}
 use Rattle.names.proofs.Splits.{and_first, and_second}
@@ -225,7 +225,7 @@ module _ (x : ℕ) where
   pub own_below : AllBelow 16 (little_endian 8 (nibbles_of x))
   own_below = subst (λ (xs : List ℕ). AllBelow 16 xs) (sym own_nibbles) (nibbles_below 8 x)
 
-  pub eight_digits : (w s : ℕ) → little_endian 8 s ≡ map digit_byte (little_endian 8 (nibbles_of x)) → w ≡ s → Numbers 8 (little_endian 8 w) (Number (number_of (nibbles_of x)))
+  pub eight_digits : (w s : ℕ) → little_endian 8 s ≡ map digit_byte (little_endian 8 (nibbles_of x)) → w ≡ s → Numbers 8 (little_endian 8 w) (Some (number_of (nibbles_of x)))
   unfolding cap
   eight_digits w s spelled e =
       let ds = nibbles 8 x in

@@ -1,20 +1,18 @@
 -- A part of the input, one more byte at a time.
-use Rattle.std.proofs.Common.{◌≡◌, ℕ, suc, ◌+◌, ◌-◌, ◌*◌, ◌%◌, ◌<◌, ◌≤◌, true, not, eqb, List, [], ◌∷◌, ◌++◌, map, length, get_or, take, drop, set, sym, refl, ap, ◌∙◌, subst, ap₂, append_assoc, append-nil, arith, length-drop, length-take-le, get_or-drop, take-suc, drop-drop, take-add, ne_eqb}
+use Rattle.std.proofs.Common.{◌≡◌, ℕ, suc, ◌+◌, ◌-◌, ◌*◌, ◌<◌, ◌≤◌, true, not, eqb, List, [], ◌∷◌, ◌++◌, map, length, get_or, take, drop, set, sym, refl, ap, ◌∙◌, subst, ap₂, append_assoc, append-nil, arith, length-drop, length-take-le, get_or-drop, take-suc, drop-drop, take-add, ne_eqb}
 use mathlib.Core.Option.{Option, none, some}
 use lib.Ieee.{Float, binary64, of_bits}
 use Rattle.formula.specs.Text.{all_some, little_endian, long_at}
 use Rattle.formula.specs.Values.{digit_of, numbered, of_digits}
 use Rattle.names.specs.Lines.{cap, free, part}
 use Rattle.names.proofs.Splits.{and_both, and_first, and_second, free_append}
-use Rattle.values.specs.declared.words.Digits.{Digits}
-use Rattle.values.specs.declared.words.Digits.TheVariants.{Number}
-use Rattle.values.specs.declared.Part.{Part}
-use Rattle.values.specs.declared.Reading.{Reading}
-use Rattle.values.specs.Reading.{Reads, ReadsOn, counted}
+use Rattle.std.specs.Prelude.{Some, None}
+use Rattle.values.specs.declared.Partial.{Partial}
+use Rattle.values.specs.Reading.{Good, Reading, Reads, ReadsDigit, ReadsOn, counted}
 use Rattle.values.specs.Eights.{Numbers}
 use Rattle.values.proofs.Eights.{long_again}
 use Rattle.values.proofs.Pieces.{digits_append, digits_free, digits_length, numbered_some, of_digits_append, of_digits_eight}
-use Rattle.values.proofs.Readings.{between_values, comma_after, digit_after, value_after}
+use Rattle.values.proofs.Readings.{bad_on_all, between_values, byte_after, comma_after, value_after}
 
 pub part_none : (l : List ℕ) (a : ℕ) → part l a a ≡ []
 unfolding part
@@ -103,48 +101,40 @@ reading_run input from s values end t w g end' u x l p r =
       read = subst (λ (xs : List ℕ). ReadsOn s values xs u x) j (on_more s t u values w x (part input from end) (part input end end') g.read r);
     }
 
+pub reading_end : (input : List ℕ) (from : ℕ) (s : Reading) (values : List Float) (end : ℕ) (t : Reading) (w : List Float) → ReadingOn input from s values end t w
+    → length input ≤ end → ReadingOn input from s values (length input) t w
+reading_end input from s values end t w g h =
+    let e : end ≡ length input = omega (arith, g.inside) in
+    subst (λ (n : ℕ). ReadingOn input from s values n t w) e g
+
 -- digits, whatever the values before
-abbrev pub DigitsOn : List ℕ → ℕ → Reading → ℕ → Reading → Type 0
-DigitsOn input from s end t = (values : List Float) → ReadingOn input from s values end t values
+abbrev pub DigitsOn : List ℕ → ℕ → Partial → ℕ → Partial → Type 0
+DigitsOn input from s end t = (values : List Float) → ReadingOn input from (Some s) values end (Some t) values
 
 no_digit : (b d : ℕ) → digit_of b ≡ some d → b ≡ 10 → ⊥
 no_digit b d e h = let z : ◌≡◌ {A = Option ℕ} none (some d) = ap digit_of (sym h) ∙ e in let w : ◌≡◌ {A = ℕ} 0 1 = cc in omega arith
 
-pub digits_step : (input : List ℕ) (from : ℕ) (s : Reading) (end : ℕ) (t : Reading) (d : ℕ) → DigitsOn input from s end t → end < length input
-    → digit_of (get_or input end 0) ≡ some d → d < 16 → t.digits < 16
-    → DigitsOn input from s (end + 1) (record { good = t.good; count = t.count; digits = t.digits + 1; bits = 16 * (t.bits % 1152921504606846976) + d })
-digits_step input from s end t d g h e l k values =
-    reading_step input from s values end t values (g values) h (no_digit (get_or input end 0) d e) _ values refl
-    (λ seen r. digit_after seen t values (get_or input end 0) d e l k r)
+not_comma : (b d : ℕ) → digit_of b ≡ some d → b ≡ 44 → ⊥
+not_comma b d e h = let z : ◌≡◌ {A = Option ℕ} none (some d) = ap digit_of (sym h) ∙ e in let w : ◌≡◌ {A = ℕ} 0 1 = cc in omega arith
 
--- what is told of the part read
-abbrev pub Told : List ℕ → ℕ → Reading → List Float → Part → List Float → Type 0
-Told input from s values r w =
-    ((from ≤ r.end) × (r.end ≤ length input) × (free 10 (part input from r.end) ≡ true)) × ReadsOn s values (part input from r.end) r.reading w
+pub digit_run : (input : List ℕ) (from : ℕ) (s : Partial) (end : ℕ) (t : Partial) → DigitsOn input from s end t → end < length input
+    → (u : Partial) → ReadsDigit t (get_or input end 0) (Some u) → DigitsOn input from s (end + 1) u
+digit_run input from s end t g h u r values =
+    reading_step input from (Some s) values end (Some t) values (g values) h (no_digit (get_or input end 0) r.0 r.1) (Some u) values refl
+    (λ seen k. byte_after seen t values (get_or input end 0) (Some u) (not_comma (get_or input end 0) r.0 r.1) r k)
 
-pub read_end : (input : List ℕ) (from : ℕ) (s : Reading) (values : List Float) (end : ℕ) (t : Reading) (w : List Float) → ReadingOn input from s values end t w
-    → (r : Part) → r ≡ record { reading = t; end = end } → Told input from s values r w
-read_end input from s values end t w g r e =
-    subst (λ (x : Part). Told input from s values x w) (sym e) ((g.start, g.inside, g.no_newline), g.read)
-
-pub digits_end : (input : List ℕ) (from : ℕ) (s : Reading) (end : ℕ) (t : Reading) (r : Part) → r ≡ record { reading = t; end = end } → DigitsOn input from s end t
-    → ((from ≤ r.end) × (r.end ≤ length input) × (free 10 (part input from r.end) ≡ true)) × ((values : List Float) → ReadsOn s values (part input from r.end) r.reading values)
-digits_end input from s end t r e g = ((read_end input from s [] end t [] (g []) r e).0, λ values. (read_end input from s values end t values (g values) r e).1)
+-- a malformed line, to its end
+pub malformed_run : (input : List ℕ) (from : ℕ) (s : Reading) (values : List Float) (end : ℕ) (w : List Float) → ReadingOn input from s values end None w
+    → (end' : ℕ) → (end ≤ end') × (end' ≤ length input) × (free 10 (part input end end') ≡ true) → ReadingOn input from s values end' None w
+malformed_run input from s values end w g end' p =
+    reading_run input from s values end None w g end' None w refl p (λ seen r. bad_on_all seen (part input end end') r)
 
 -- ---- whole values
 
--- what a match of an answer shows
-pub number_told : (k : ℕ) (xs ys : List ℕ) → xs ≡ ys → (r : Digits) (n : ℕ) → r ≡ Number n → Numbers k xs r → Numbers k ys (Number n)
-number_told k xs ys e r n q v = subst (λ (us : List ℕ). Numbers k us (Number n)) e (subst (λ (d : Digits). Numbers k xs d) q v)
-
-pub eight_below : (xs : List ℕ) (r : Digits) (n : ℕ) → r ≡ Number n → Numbers 8 xs r → n < 4294967296
-unfolding cap
-eight_below xs r n q v = (number_told 8 xs xs refl r n q v).1
-
 -- two words of eight digits
 pub two_words : (input : List ℕ) → ((i : ℕ) → get_or input i 0 < 256) → (at : ℕ) → at + 16 ≤ length input → (high low : ℕ)
-    → Numbers 8 (little_endian 8 (long_at input at)) (Number high) → Numbers 8 (little_endian 8 (long_at input (at + 8))) (Number low)
-    → Numbers 16 (part input at (at + 16)) (Number (4294967296 * high + low))
+    → Numbers 8 (little_endian 8 (long_at input at)) (Some high) → Numbers 8 (little_endian 8 (long_at input (at + 8))) (Some low)
+    → Numbers 16 (part input at (at + 16)) (Some (4294967296 * high + low))
 unfolding cap
 two_words input bytes at inside high low p q =
     let xs = little_endian 8 (long_at input at) in
@@ -165,11 +155,11 @@ two_words input bytes at inside high low p q =
       omega (arith, p.1, q.1),
     )
 
-module _ (input : List ℕ) (from : ℕ) (s : Reading) (values : List Float) where
+module _ (input : List ℕ) (from : ℕ) (s : Partial) (values : List Float) where
   -- before a value
-  pub between_start : from ≤ length input → s.digits ≡ 0 → ReadingOn input from s values from (record { good = s.good; count = s.count; digits = 0; bits = 0 }) values
+  pub between_start : from ≤ length input → s.digits ≡ 0 → ReadingOn input from (Some s) values from (Some (record { count = s.count; digits = 0; bits = 0 })) values
   between_start h d =
-      let g = reading_start input from s values h in
+      let g = reading_start input from (Some s) values h in
       record {
         start = g.start;
         inside = g.inside;
@@ -179,44 +169,34 @@ module _ (input : List ℕ) (from : ℕ) (s : Reading) (values : List Float) whe
       }
 
   -- then digits one by one
-  pub each_run : (at : ℕ) (t : Reading) (w : List Float) → ReadingOn input from s values at t w → (b : Reading) → b ≡ t → (r : Part)
-      → ((at ≤ r.end) × (r.end ≤ length input) × (free 10 (part input at r.end) ≡ true)) × ((values : List Float) → ReadsOn b values (part input at r.end) r.reading values)
-      → Told input from s values r w
-  each_run at t w g b e r p =
-      read_end input from s values r.end r.reading w
-      (reading_run input from s values at t w g r.end r.reading w refl p.0 (subst (λ (x : Reading). ReadsOn x w (part input at r.end) r.reading w) e (p.1 w)))
-      r refl
+  pub each_run : (at : ℕ) (t : Partial) (w : List Float) → ReadingOn input from (Some s) values at (Some t) w → (end : ℕ) (u : Reading)
+      → (at ≤ end) × (end ≤ length input) × (free 10 (part input at end) ≡ true) → ((values : List Float) → ReadsOn (Some t) values (part input at end) u values)
+      → ReadingOn input from (Some s) values end u w
+  each_run at t w g end u p q = reading_run input from (Some s) values at (Some t) w g end u w refl p (q w)
 
-  module _ (at : ℕ) (t : Reading) (w : List Float) (g : ReadingOn input from s values at t w) (d : t.digits ≡ 0) (inside : at + 16 ≤ length input) (n : ℕ)
-      (v : Numbers 16 (part input at (at + 16)) (Number n)) where
+  module _ (at : ℕ) (t : Partial) (w : List Float) (g : ReadingOn input from (Some s) values at (Some t) w) (d : t.digits ≡ 0) (inside : at + 16 ≤ length input) (n : ℕ)
+      (v : Numbers 16 (part input at (at + 16)) (Some n)) where
     -- its digits
-    pub value_run : ReadingOn input from s values (at + 16) (record { good = t.good; count = t.count; digits = 16; bits = n }) w
+    pub value_run : ReadingOn input from (Some s) values (at + 16) (Some (record { count = t.count; digits = 16; bits = n })) w
     unfolding cap
     value_run =
         let xs = part input at (at + 16) in
         let h = numbered_some (all_some (map digit_of xs)) n v.0 in
         let bits = h.1.1 in
         let l : length xs ≡ 16 = length_part input at (at + 16) inside ∙ omega arith in
-        reading_run input from s values at t w g (at + 16) (record { good = t.good; count = t.count; digits = 16; bits = n }) w refl
+        reading_run input from (Some s) values at (Some t) w g (at + 16) (Some (record { count = t.count; digits = 16; bits = n })) w refl
         (omega arith, inside, digits_free 10 refl xs h.0 h.1.0)
         (λ seen r.
-        subst (λ (b : ℕ). Reads (seen ++ xs) (record { good = t.good; count = t.count; digits = 16; bits = b }) w) bits
+        subst (λ (b : ℕ). Good (seen ++ xs) (record { count = t.count; digits = 16; bits = b }) w) bits
         (value_after seen t w xs h.0 h.1.0 l d (subst (λ (b : ℕ). b < 18446744073709551616) (sym bits) v.1) r))
-
-    -- and another byte
-    pub value_end : (b : Reading) → b ≡ t → (r : Part) → r ≡ record { reading = record { good = b.good; count = b.count; digits = 16; bits = n }; end = at + 16 }
-        → Told input from s values r w
-    value_end b e r q =
-        read_end input from s values (at + 16) (record { good = t.good; count = t.count; digits = 16; bits = n }) w value_run r
-        (subst (λ (x : Reading). r ≡ record { reading = record { good = x.good; count = x.count; digits = 16; bits = n }; end = at + 16 }) e q)
 
     -- and its comma
     pub comma_run : at + 17 ≤ length input → get_or input (at + 16) 0 ≡ 44 → (count : ℕ) → count ≡ counted (length w) t.count
         → (x : List Float) → x ≡ set w t.count (of_bits binary64 n) → length x ≡ length w
-        → ReadingOn input from s values (at + 17) (record { good = t.good; count = count; digits = 0; bits = 0 }) x
+        → ReadingOn input from (Some s) values (at + 17) (Some (record { count = count; digits = 0; bits = 0 })) x
     comma_run room comma count c x e l =
         let z : at + 16 + 1 ≡ at + 17 = omega arith in
-        let u : Reading = record { good = t.good; count = t.count; digits = 16; bits = n } in
-        subst (λ (end : ℕ). ReadingOn input from s values end (record { good = t.good; count = count; digits = 0; bits = 0 }) x) z
-        (reading_step input from s values (at + 16) u w value_run (omega arith) (λ q. omega arith) _ x l
-        (λ seen r. comma_after seen u w (get_or input (at + 16) 0) comma refl count c x e r))
+        let u : Partial = record { count = t.count; digits = 16; bits = n } in
+        subst (λ (end : ℕ). ReadingOn input from (Some s) values end (Some (record { count = count; digits = 0; bits = 0 })) x) z
+        (reading_step input from (Some s) values (at + 16) (Some u) w value_run (omega arith) (λ q. omega arith) _ x l
+        (λ seen r. rw (comma, c, e) (comma_after seen u w refl r)))

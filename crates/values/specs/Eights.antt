@@ -1,16 +1,14 @@
 -- Digits in words.
-use Rattle.std.specs.Prelude.{◌≡◌, ℕ, ◌<◌, List, [], ◌∷◌, map, slice_index}
+use Rattle.std.specs.Prelude.{◌≡◌, ℕ, ◌<◌, List, [], ◌∷◌, map, slice_index, Option, Some, None}
 use Rattle.std.proofs.Math.Option.{some}
 use Rattle.formula.specs.Text.{all_some}
 use Rattle.formula.specs.Values.{digit_of, hex_digits, numbered}
 use Rattle.names.specs.Lines.{cap}
-use Rattle.values.specs.declared.words.Digits.{Digits}
-use Rattle.values.specs.declared.words.Digits.TheVariants.{Number, Other}
 
 -- k bytes that are digits, and their number
-abbrev pub Numbers : ℕ → List ℕ → Digits → Type 0
-Numbers k xs (Number n) = (numbered (all_some (map digit_of xs)) ≡ some n) × (n < cap k)
-Numbers k xs Other = Unit {0}
+abbrev pub Numbers : ℕ → List ℕ → Option ℕ → Type 0
+Numbers k xs (Some n) = (numbered (all_some (map digit_of xs)) ≡ some n) × (n < cap k)
+Numbers k xs None = Unit {0}
 
 abbrev pub AllBelow : ℕ → List ℕ → Type 0
 AllBelow n [] = Unit {0}

@@ -1,13 +1,11 @@
 -- A line of values as far as it was read, beside what `values_of` says of the line.
-use Rattle.std.specs.Prelude.{◌≡◌, ℕ, ◌+◌, ◌<◌, ◌≤◌, min, Bool, true, false, cond, List, [], ◌++◌, map, length, take, ◌≢◌, from_bits, nat_lt, Float}
+use Rattle.std.specs.Prelude.{Option as Maybe, Some, None, ◌≡◌, ℕ, ◌+◌, ◌*◌, ◌%◌, ◌<◌, ◌≤◌, min, Bool, true, false, cond, List, [], ◌++◌, map, length, take, ◌≢◌, ◌⊎◌, from_bits, nat_lt, Float}
 use Rattle.std.proofs.Math.Option.{Option, none, some}
 use Rattle.std.specs.Float.{binary64}
 use Rattle.formula.specs.Text.{all_some, split}
 use Rattle.formula.specs.Values.{digit_of, of_digits, value_of, values_of}
 use Rattle.names.specs.Lines.{cap, prefixed}
-use Rattle.values.specs.declared.Reading.{Reading}
-use Rattle.values.specs.declared.Found.{Found}
-use Rattle.values.specs.declared.Found.TheVariants.{Malformed, Values}
+use Rattle.values.specs.declared.Partial.{Partial}
 
 -- the values of the pieces between commas
 unfoldable pub values_in : List ℕ → Option (List ℕ)
@@ -26,7 +24,7 @@ pub record Kept (vs : List ℕ) (count : ℕ) (values : List Float) : Type 0 whe
   pub stand : length vs ≤ length values → take (length vs) values ≡ floats vs
 
 -- A line as said so far: the values vs, each with its comma, then the digits ds.
-pub record Good (seen : List ℕ) (s : Reading) (values : List Float) : Type 0 where
+pub record Good (seen : List ℕ) (s : Partial) (values : List Float) : Type 0 where
   pub vs : List ℕ
   pub ds : List ℕ
   pub numbers : List ℕ
@@ -45,20 +43,20 @@ pub record Bad (seen : List ℕ) : Type 0 where
   pub rest : (more : List ℕ) → values_in (seen ++ more) ≡ none
   pub later : seen ≡ [] → ⊥
 
-abbrev pub ReadsBy : Bool → List ℕ → Reading → List Float → Type 0
-ReadsBy true seen s values = Good seen s values
-ReadsBy false seen s values = Bad seen
+abbrev pub Reading : Type 0
+Reading = Maybe Partial
 
 -- what was read of a line whose bytes so far are `seen`
 abbrev pub Reads : List ℕ → Reading → List Float → Type 0
-Reads seen s values = ReadsBy s.good seen s values
+Reads seen (Some s) values = Good seen s values
+Reads seen None values = Bad seen
 
 -- a whole line's values: as many as there are, or one more than there are places; and the values, where they have places
-abbrev pub Finds : Option (List ℕ) → Found → List Float → Type 0
-Finds none Malformed values = Unit {0}
-Finds none (Values n) values = ⊥
-Finds (some vs) Malformed values = ⊥
-Finds (some vs) (Values n) values = Kept vs n values
+abbrev pub Finds : Option (List ℕ) → Maybe ℕ → List Float → Type 0
+Finds none None values = Unit {0}
+Finds none (Some n) values = ⊥
+Finds (some vs) None values = ⊥
+Finds (some vs) (Some n) values = Kept vs n values
 
 -- ---- what the functions say
 
@@ -70,8 +68,15 @@ Starts s = (values : List Float) → Reads [] s values
 abbrev pub ReadsOn : Reading → List Float → List ℕ → Reading → List Float → Type 0
 ReadsOn s values bytes s' values' = (seen : List ℕ) → Reads seen s values → Reads (seen ++ bytes) s' values'
 
+-- one more byte, which is a digit, or ends the value or the line
+abbrev pub ReadsDigit : Partial → ℕ → Reading → Type 0
+ReadsDigit s b (Some t) =
+    (d : ℕ) × (digit_of b ≡ some d) × (d < 16) × (s.digits < 16)
+    × (t ≡ record { count = s.count; digits = s.digits + 1; bits = 16 * (s.bits % 1152921504606846976) + d })
+ReadsDigit s b None = (digit_of b ≡ none) ⊎ (16 ≤ s.digits)
+
 -- the line ends here
-abbrev pub EndsAs : Reading → List Float → Found → List Float → Type 0
+abbrev pub EndsAs : Reading → List Float → Maybe ℕ → List Float → Type 0
 EndsAs s values r values' = (seen : List ℕ) → Reads seen s values → Finds (values_of seen) r values'
 
 abbrev pub TellsEmpty : Reading → Bool → Type 0

@@ -3,46 +3,59 @@
 // commas". The memory is a slice for the values and four numbers, however long the line is.
 pub mod words;
 
-ghost use Rattle.std.specs.Prelude.{◌≡◌, ◌+◌, ◌<◌, ◌≤◌, true, false, List, [], ◌∷◌, length, from_bits, slice_index, slice_set, Float};
+ghost use Rattle.std.specs.Prelude.{◌≡◌, ◌+◌, ◌<◌, ◌≤◌, true, List, [], ◌∷◌, length, from_bits, slice_index, slice_set, Float};
 ghost use Rattle.std.specs.Float.{binary64};
 ghost use Rattle.names.specs.Lines.{free, part};
-ghost use Rattle.values.specs.Reading.{EndsAs, ReadsOn, Starts, TellsEmpty, counted};
+ghost use Rattle.values.specs.Reading.{EndsAs, ReadsDigit, ReadsOn, Starts, TellsEmpty, counted};
 ghost use Rattle.values.specs.Eights.{Numbers};
 
-use crate::words::{Digits, read_eight};
+use crate::words::read_eight;
 
-// What was read of a line: whether it is as said so far, how many values stand before its last comma, how many digits
-// follow it and their number. A count above the places of the slice is kept as one more than these.
+// A line as it is said to be, as far as it was read: how many values stand before its last comma, how many digits follow it
+// and their number. A count above the places of the slice is kept as one more than these.
 #[derive(Clone, Copy)]
-pub struct Reading {
-    pub good: bool,
+pub struct Partial {
     pub count: usize,
     pub digits: usize,
     pub bits: u64,
+}
+
+// What was read of a line; none of a line that is not as said, whatever follows.
+pub type Reading = Option<Partial>;
+
+impl Partial {
+    // Before the first digit of a value, with so many values before it.
+    fn after(count: usize) -> Partial
+        ensures { result ≡ record { count = count; digits = 0; bits = 0 } }
+    {
+        Partial {
+            count,
+            digits: 0,
+            bits: 0,
+        }
+    }
+
+    // With one more byte, where it is a digit and less than sixteen stand before it.
+    fn with_digit(self, b: u8) -> Reading
+        ensures { ReadsDigit self b result }
+    {
+        let digit = names::digit(b);
+        if digit == 16 || self.digits >= 16 {
+            return None;
+        }
+        Some(Partial {
+            digits: self.digits + 1,
+            bits: 16 * (self.bits % 0x1000_0000_0000_0000) + digit,
+            ..self
+        })
+    }
 }
 
 // Nothing was read yet.
 pub fn fresh() -> Reading
     ensures { Starts result }
 {
-    Reading {
-        good: true,
-        count: 0,
-        digits: 0,
-        bits: 0,
-    }
-}
-
-// A line that is not as said, whatever follows.
-fn malformed() -> Reading
-    ensures { result ≡ record { good = false; count = 0; digits = 0; bits = 0 } }
-{
-    Reading {
-        good: false,
-        count: 0,
-        digits: 0,
-        bits: 0,
-    }
+    Some(Partial::after(0))
 }
 
 // Stores a value where there is a place for it, and says how many there are then.
@@ -60,33 +73,14 @@ fn keep(values: &mut [f64], count: usize, bits: u64) -> usize
 pub fn read_byte(s: Reading, b: u8, values: &mut [f64]) -> Reading
     ensures { ReadsOn s values.old (b ∷ []) result values.new }
 {
-    let digits = s.digits;
-    let bits = s.bits;
-    if b == b',' {
-        if digits == 16 {
-            let count = keep(values, s.count, bits);
-            return Reading {
-                good: s.good,
-                count: count,
-                digits: 0,
-                bits: 0,
-            };
-        }
-        return malformed();
+    let line = s?;
+    if b != b',' {
+        return line.with_digit(b);
     }
-    let d = names::digit(b);
-    if d == 16 {
-        return malformed();
+    if line.digits != 16 {
+        return None;
     }
-    if digits < 16 {
-        return Reading {
-            good: s.good,
-            count: s.count,
-            digits: digits + 1,
-            bits: 16 * (bits % 0x1000_0000_0000_0000) + d,
-        };
-    }
-    malformed()
+    Some(Partial::after(keep(values, line.count, line.bits)))
 }
 
 // What was read up to a byte of the input.
@@ -96,100 +90,83 @@ pub struct Part {
     pub end: usize,
 }
 
-fn part_to(s: Reading, digits: usize, bits: u64, end: usize) -> Part
-    ensures { result ≡ record { reading = record { good = s.good; count = s.count; digits = digits; bits = bits }; end = end } }
-{
-    let reading = Reading {
-        good: s.good,
-        count: s.count,
-        digits: digits,
-        bits: bits,
-    };
-    Part {
-        reading: reading,
-        end: end,
-    }
-}
-
 // Reads the digits from a byte of the input on, one by one.
-fn read_each(input: &[u8], from: usize, s: Reading) -> Part
+fn read_each(input: &[u8], from: usize, s: Partial) -> Part
     requires { from ≤ length input.now }
     ensures place { (from ≤ result.end) × (result.end ≤ length input.now) × (free 10 (part input.now from result.end) ≡ true) }
-    ensures read { (values : List Float) → ReadsOn s values (part input.now from result.end) result.reading values }
+    ensures read { (values : List Float) → ReadsOn (Some s) values (part input.now from result.end) result.reading values }
 {
-    let mut end = from;
-    let mut digits = s.digits;
-    let mut bits = s.bits;
-    while end < input.len() {
-        let d = names::digit(input[end]);
-        if d == 16 {
-            return part_to(s, digits, bits, end);
-        }
-        if digits >= 16 {
-            return part_to(s, digits, bits, end);
-        }
-        bits = 16 * (bits % 0x1000_0000_0000_0000) + d;
-        digits += 1;
-        end += 1;
+    let mut line = s;
+    for end in from..input.len() {
+        let Some(longer) = line.with_digit(input[end]) else {
+            return Part {
+                reading: Some(line),
+                end,
+            };
+        };
+        line = longer;
     }
-    part_to(s, digits, bits, end)
+    Part {
+        reading: Some(line),
+        end: input.len(),
+    }
 }
 
 // The sixteen digits of a value, from a byte of the input on. Both words are read first, so that one test is enough for both.
-fn sixteen(input: &[u8], at: usize) -> Digits
+fn sixteen(input: &[u8], at: usize) -> Option<u64>
     requires { at + 16 ≤ length input.now }
     ensures { Numbers 16 (part input.now at (at + 16)) result }
 {
     let a = reader::long(input, at);
     let b = reader::long(input, at + 8);
-    let first = read_eight(a);
-    let Digits::Number(high) = first else {
-        return Digits::Other;
-    };
-    let second = read_eight(b);
-    let Digits::Number(low) = second else {
-        return Digits::Other;
-    };
-    Digits::Number(4294967296 * high + low)
+    let high = read_eight(a)?;
+    let low = read_eight(b)?;
+    Some(4294967296 * high + low)
 }
 
-// After a comma, with so many values before it.
-fn between(s: Reading, count: usize) -> Reading
-    ensures { result ≡ record { good = s.good; count = count; digits = 0; bits = 0 } }
-{
-    Reading {
-        good: s.good,
-        count: count,
-        digits: 0,
-        bits: 0,
-    }
-}
-
-// Reads values from a byte of the input on, each with its comma, as far as they stand whole there, and then digits one by one.
-fn read_values(input: &[u8], from: usize, s: Reading, values: &mut [f64]) -> Part
+// Reads values from a byte of the input on, each with its comma, as far as they stand whole there, and then digits one by one. The
+// loop counts for itself, and not by `chunks_exact(17)`, since the reading goes on from where the values end.
+fn read_values(input: &[u8], from: usize, s: Partial, values: &mut [f64]) -> Part
     requires { from ≤ length input.now }
     ensures place { (from ≤ result.end) × (result.end ≤ length input.now) × (free 10 (part input.now from result.end) ≡ true) }
-    ensures read { ReadsOn s values.old (part input.now from result.end) result.reading values.new }
+    ensures read { ReadsOn (Some s) values.old (part input.now from result.end) result.reading values.new }
 {
-    let digits = s.digits;
-    if digits > 0 {
+    if s.digits > 0 {
         return read_each(input, from, s);
     }
     let mut at = from;
     let mut count = s.count;
     while 17 <= input.len() - at {
-        let value = sixteen(input, at);
-        let Digits::Number(bits) = value else {
-            return read_each(input, at, between(s, count));
+        let Some(bits) = sixteen(input, at) else {
+            break;
         };
-        if input[at + 16] == b',' {
-            count = keep(values, count, bits);
-            at += 17;
-        } else {
-            return part_to(between(s, count), 16, bits, at + 16);
+        if input[at + 16] != b',' {
+            return Part {
+                reading: Some(Partial {
+                    count,
+                    digits: 16,
+                    bits,
+                }),
+                end: at + 16,
+            };
+        }
+        count = keep(values, count, bits);
+        at += 17;
+    }
+    read_each(input, at, Partial::after(count))
+}
+
+// The end of a line from a byte of the input on: its newline or the end of the input.
+fn line_end(input: &[u8], from: usize) -> usize
+    requires { from ≤ length input.now }
+    ensures { (from ≤ result) × (result ≤ length input.now) × (free 10 (part input.now from result) ≡ true) × (result < length input.now → slice_index input.now result ≡ 10) }
+{
+    for end in from..input.len() {
+        if input[end] == b'\n' {
+            return end;
         }
     }
-    read_each(input, at, between(s, count))
+    input.len()
 }
 
 // Reads a line on from a byte of the input, to its newline or to the end of the input.
@@ -200,66 +177,42 @@ pub fn read_part(input: &[u8], from: usize, s: Reading, values: &mut [f64]) -> P
 {
     let mut at = from;
     let mut reading = s;
-    while at < input.len() {
-        let read = read_values(input, at, reading, values);
+    while let Some(line) = reading {
+        let read = read_values(input, at, line, values);
         let end = read.end;
-        let t = read.reading;
-        if end == input.len() {
-            return Part {
-                reading: t,
-                end: end,
-            };
+        if end == input.len() || input[end] == b'\n' {
+            return read;
         }
-        let b = input[end];
-        if b == 10 {
-            return Part {
-                reading: t,
-                end: end,
-            };
-        }
-        reading = read_byte(t, b, values);
+        reading = read_byte(read.reading, input[end], values);
         at = end + 1;
     }
     Part {
-        reading: reading,
-        end: at,
+        reading: None,
+        end: line_end(input, at),
     }
-}
-
-// What a whole line is found to be: not as said, or so many values; one more than the slice has places stands for any
-// number above that.
-#[derive(Clone, Copy)]
-pub enum Found {
-    Malformed,
-    Values(usize),
-}
-
-// A line that ends here.
-pub fn finish(s: Reading, values: &mut [f64]) -> Found
-    ensures { EndsAs s values.old result values.new }
-{
-    let good = s.good;
-    let digits = s.digits;
-    let count = s.count;
-    if good {
-        if digits == 16 {
-            let n = keep(values, count, s.bits);
-            return Found::Values(n);
-        }
-        if digits == 0 {
-            if count == 0 {
-                return Found::Values(0);
-            }
-            return Found::Malformed;
-        }
-        return Found::Malformed;
-    }
-    Found::Malformed
 }
 
 // Whether no byte of the line was read.
 pub fn is_empty(s: Reading) -> bool
     ensures { TellsEmpty s result }
 {
-    s.good && (s.digits == 0 && s.count == 0)
+    match s {
+        Some(line) => line.digits == 0 && line.count == 0,
+        None => false,
+    }
+}
+
+// What a line that ends here is found to be: so many values, where one more than the slice has places stands for any number
+// above that; or none, where it is not as said.
+pub fn finish(s: Reading, values: &mut [f64]) -> Option<usize>
+    ensures { EndsAs s values.old result values.new }
+{
+    if is_empty(s) {
+        return Some(0);
+    }
+    let line = s?;
+    if line.digits != 16 {
+        return None;
+    }
+    Some(keep(values, line.count, line.bits))
 }

@@ -6,13 +6,6 @@ ghost use Rattle.values.specs.Eights.{AllBelow, Numbers, digit_byte};
 
 use std::num::wrapping_add_u64;
 
-// What bytes are found to be: digits with this number, or not.
-#[derive(Clone, Copy)]
-pub enum Digits {
-    Number(u64),
-    Other,
-}
-
 // The bytes of eight digits, each in a byte of the word: 48 more, and 87 more from ten on.
 fn spelled(digits: u64) -> u64
     requires { AllBelow 16 (little_endian 8 digits) }
@@ -22,9 +15,9 @@ fn spelled(digits: u64) -> u64
     digits + 0x3030_3030_3030_3030 + 39 * tens
 }
 
-// Eight digits and their number. A digit is the last four bits of its byte, and nine more for a letter; where the bytes are not
+// The number of eight digits. A digit is the last four bits of its byte, and nine more for a letter; where the bytes are not
 // what these digits are spelled as, there are other bytes among them.
-pub fn read_eight(w: u64) -> Digits
+pub fn read_eight(w: u64) -> Option<u64>
     ensures { Numbers 8 (little_endian 8 w) result }
 {
     let letters = (w & 0x4040_4040_4040_4040) / 64;
@@ -32,9 +25,9 @@ pub fn read_eight(w: u64) -> Digits
     if w == spelled(digits) {
         let pairs = (16 * digits + digits / 256) & 0x00ff_00ff_00ff_00ff;
         let fours = (256 * pairs + pairs / 65536) & 0x0000_ffff_0000_ffff;
-        return Digits::Number((65536 * fours + fours / 4294967296) % 4294967296);
+        return Some((65536 * fours + fours / 4294967296) % 4294967296);
     }
-    Digits::Other
+    None
 }
 
 // The last eight digits of a number: it is parted into fours, pairs and digits.

@@ -1,23 +1,18 @@
-use Rattle.values.proofs.Readings.{ends_bad, ends_comma, ends_empty, ends_value, ends_within}
+use Rattle.values.proofs.Readings.{ends_bad, ends_empty, ends_value, ends_within}
 use Rattle.values.proofs.finish.Goals as goal
 
-pub returns-then-digits-eq16 : goal.returns-then-digits-eq16
-returns-then-digits-eq16 c =
-    let args = c.args in
-    let if1 = c.if-good in
-    let if2 = c.if-digits-eq16 in
-    let keep = c.keep-n in
-    λ seen r.
-    ends_value seen args.s args.values.now if1.true r if2.true keep.result keep.ensures.0 keep.new.values keep.ensures.1
+pub returns-then-is_empty : goal.returns-then-is_empty
+returns-then-is_empty c = λ seen r. ends_empty seen c.args.values.now ((c.is_empty.ensures seen c.args.values.now r).0 c.if-is_empty.true)
 
-pub returns-then-count-eq0 : goal.returns-then-count-eq0
-returns-then-count-eq0 c = λ seen r. ends_empty seen c.args.s c.args.values.now c.if-good.true r c.if-digits-eq0.true c.if-count-eq0.true
+pub returns-in_err-line : goal.returns-in_err-line
+returns-in_err-line c = λ seen r. rw c.from_residual.ensures (ends_bad seen c.args.values.now (rw c.in_err-line.was at r))
 
-pub returns-then-digits-eq0 : goal.returns-then-digits-eq0
-returns-then-digits-eq0 c = λ seen r. ends_comma seen c.args.s c.args.values.now c.if-good.true r c.if-digits-eq0.true c.if-count-eq0.false
-
-pub returns-then-good : goal.returns-then-good
-returns-then-good c = λ seen r. ends_within seen c.args.s c.args.values.now c.if-good.true r c.if-digits-eq16.false c.if-digits-eq0.false
+pub returns-then-line-ne16 : goal.returns-then-line-ne16
+returns-then-line-ne16 c =
+    λ seen r. ends_within seen c.in_ok-line.line c.args.values.now (rw c.in_ok-line.was at r) c.if-line-ne16.true
+    ((c.is_empty.ensures seen c.args.values.now r).1 c.if-is_empty.false)
 
 pub returns : goal.returns
-returns c = λ seen r. ends_bad seen c.args.s c.args.values.now c.if-good.false r
+returns c =
+    λ seen r. rw (c.keep.ensures.0, c.keep.ensures.1)
+    (ends_value seen c.in_ok-line.line c.args.values.now (rw c.in_ok-line.was at r) c.if-line-ne16.false)
