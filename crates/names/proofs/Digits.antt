@@ -1,5 +1,5 @@
 -- Hexadecimal digits.
-use mathlib.Core.Path.{◌≡◌, refl, sym, ap, ◌∙◌}
+use mathlib.Core.Path.{◌≡◌, refl, sym, ap, ◌∙◌, subst}
 use mathlib.Core.Bool.{Bool, true, false, cond}
 use mathlib.Core.List.{List, [], ◌∷◌, ◌++◌, map, append_assoc, append-nil}
 use mathlib.Core.Option.{Option, none, some}
@@ -12,7 +12,9 @@ use borrow.Author.Tests.{eqb-true, ne_eqb}
 use Rattle.formula.specs.Text.{all_some}
 use Rattle.formula.specs.Names.{between}
 use Rattle.formula.specs.Values.{hex_digits, found, place_in, digit_of, numbered, value_of, digits_in, hex}
-use Rattle.names.specs.Lines.{place}
+use Rattle.std.specs.Prelude.{Some}
+use Rattle.names.specs.Lines.{option_of}
+use Rattle.names.proofs.Options.{option_some}
 use Rattle.formula.proofs.Tests.{no_true, passes}
 
 -- ---- a digit and its place
@@ -29,19 +31,8 @@ place_below (x ∷ ds) i b n d h e =
 pub digit_below : (b d : ℕ) → digit_of b ≡ some d → d < 16
 digit_below b d e = place_below hex_digits 0 b 16 d (omega arith) e
 
-place_is : (o : Option ℕ) (r : ℕ) → ((d : ℕ) → o ≡ some d → d < 16) → r ≡ place o → (r ≡ 16 → ⊥) → (o ≡ some r) × (r < 16)
-place_is none r k e h = absurd (h e)
-place_is (some d) r k e h = (ap (λ x. some x) (sym e), let l = k d refl in omega arith)
-
-place_no : (o : Option ℕ) (r : ℕ) → ((d : ℕ) → o ≡ some d → d < 16) → r ≡ place o → r ≡ 16 → o ≡ none
-place_no none r k e h = refl
-place_no (some d) r k e h = let l = k d refl in absurd (omega arith)
-
-pub digit_is : (b r : ℕ) → r ≡ place (digit_of b) → (r ≡ 16 → ⊥) → (digit_of b ≡ some r) × (r < 16)
-digit_is b r e h = place_is (digit_of b) r (digit_below b) e h
-
-pub digit_no : (b r : ℕ) → r ≡ place (digit_of b) → r ≡ 16 → digit_of b ≡ none
-digit_no b r e h = place_no (digit_of b) r (digit_below b) e h
+pub digit_is : (b d : ℕ) → Some d ≡ option_of (digit_of b) → (digit_of b ≡ some d) × (d < 16)
+digit_is b d e = let q = option_some (digit_of b) d e in (q, digit_below b d q)
 
 -- ---- "the digit worked out by its formula: 48 more than the value below ten, 87 more from ten."
 
@@ -102,27 +93,28 @@ digits_step (suc i) rest h =
     let z : i ≡ suc i - 1 = omega arith in
     ap (λ (j : ℕ). digits_in j (rest / 16) ++ (get_or hex_digits (rest % 16) 0 ∷ [])) z
 
-pub writing_more : (n rest i d : ℕ) (out : List ℕ) → Writing n rest i out → (i ≡ 0 → ⊥) → d ≡ get_or hex_digits (rest % 16) 0
-    → Writing n (rest / 16) (i - 1) (set out (i - 1) d)
-writing_more n rest i d out g h e =
-    let j = i - 1 in
+pub writing_more : (n rest i j k d : ℕ) (out : List ℕ) → Writing n rest i out → suc j ≡ i → k ≡ j → d ≡ get_or hex_digits (rest % 16) 0
+    → Writing n (rest / 16) k (set out j d)
+writing_more n rest i j k d out g z q e =
     let l : j < length out = omega (arith, g.all, g.below) in
-    let z : suc j ≡ i = omega arith in
+    let y : i - 1 ≡ j = omega arith in
     let c : drop j (set out j d) ≡ d ∷ drop i out =
     drop-cons (set out j d) j 0 (omega (arith, length-set out j d))
     ∙ ap (λ (x : ℕ). x ∷ drop (suc j) (set out j d)) (get_or-set_same out j d 0 l)
     ∙ ap (λ (ys : List ℕ). d ∷ ys) (drop-set-lt (suc j) out j d (omega arith))
-    ∙ ap (λ (k : ℕ). d ∷ drop k out) z in
-    record {
+    ∙ ap (λ (x : ℕ). d ∷ drop x out) z in
+    subst (λ (x : ℕ). Writing n (rest / 16) x (set out j d)) (sym q)
+    (record {
       below = omega (arith, g.below);
       all = length-set out j d ∙ g.all;
       same =
           g.same
-          ∙ ap (λ (ys : List ℕ). ys ++ drop i out) (digits_step i rest h)
+          ∙ ap (λ (ys : List ℕ). ys ++ drop i out) (digits_step i rest (λ h. omega arith))
+          ∙ ap (λ (x : ℕ). (digits_in x (rest / 16) ++ (get_or hex_digits (rest % 16) 0 ∷ [])) ++ drop i out) y
           ∙ ap (λ (x : ℕ). (digits_in j (rest / 16) ++ (x ∷ [])) ++ drop i out) (sym e)
           ∙ append_assoc (digits_in j (rest / 16)) (d ∷ []) (drop i out)
           ∙ ap (λ (ys : List ℕ). digits_in j (rest / 16) ++ ys) (sym c);
-    }
+    })
 
 pub writing_end : (n rest i : ℕ) (out : List ℕ) → Writing n rest i out → i ≡ 0 → out ≡ hex n
 writing_end n rest i out g e = sym (g.same ∙ ap (λ (j : ℕ). digits_in j rest ++ drop j out) e)

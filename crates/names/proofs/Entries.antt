@@ -11,7 +11,10 @@ use lib.Dec.{eqb, leb, ltb}
 use borrow.Author.Tests.{eqb-true, eqb-false, ne_eqb, leb-true, le-leb, ltb-true, ltb-false}
 use Rattle.formula.specs.Text.{parted, split, all}
 use Rattle.formula.specs.Names.{SymbolKind, Symbol, is_letter, is_digit, is_name, kind_of, named, symbol_of}
-use Rattle.names.specs.Lines.{Ends, Letters, Tells, first_piece, free, kind_number, kind_place, part, symbol_place}
+use Rattle.names.specs.Lines.{Ends, Letters, Tells, first_piece, free, kind_in, part, kind_told}
+use Rattle.std.specs.Prelude.{Some, None}
+use Rattle.std.specs.Prelude as Std
+use Rattle.names.specs.declared.Kind.{Kind}
 use Rattle.names.proofs.Splits.{no_true, and_first, and_second, and_both, split_end, split_next, later_pieces, pieces}
 use Rattle.names.proofs.Letters.{letter_or_digit, end_of}
 
@@ -87,7 +90,7 @@ formed p s e =
     let ps = split 58 p in
     formed_by (eqb (length ps) 2 && is_name (get_or ps 0 []) && eqb (length (get_or ps 1 [])) 1) p ps s (rejoin 58 p) refl e
 
-unless : (o : Option Symbol) → ((s : Symbol) → o ≡ some s → ⊥) → 4 ≡ symbol_place o
+unless : (o : Option Symbol) → ((s : Symbol) → o ≡ some s → ⊥) → None ≡ kind_told o
 unless none h = refl
 unless (some s) h = absurd (h s refl)
 
@@ -213,8 +216,8 @@ module _ (line : List ℕ) (at end : ℕ) (from : at ≤ end) (inside : end ≤ 
         ∙ ap (λ (ys : List ℕ). take n p ++ (58 ∷ k ∷ ys)) d3
         ∙ ap (λ (ys : List ℕ). ys ++ (58 ∷ k ∷ [])) (part_front n (omega arith))
 
-    some_place : (b : ℕ) (o : Option SymbolKind) (r : ℕ) → kind_of b ≡ o → r ≡ kind_place o → (r ≡ 4 → ⊥) → (name : List ℕ) → is_name name ≡ true
-        → r ≡ symbol_place (symbol_of (split 58 (name ++ (58 ∷ b ∷ []))))
+    some_place : (b : ℕ) (o : Option SymbolKind) (r : Std.Option Kind) → kind_of b ≡ o → r ≡ kind_in o → (r ≡ None → ⊥) → (name : List ℕ) → is_name name ≡ true
+        → r ≡ kind_told (symbol_of (split 58 (name ++ (58 ∷ b ∷ []))))
     some_place b none r q p h name w = absurd (h p)
     some_place b (some k) r q p h name w =
         let nb : b ≡ 58 → ⊥ = λ z. let e = sym q ∙ ap kind_of z in let c : ◌≡◌ {A = ℕ} 0 1 = cc in omega arith in
@@ -222,13 +225,13 @@ module _ (line : List ℕ) (at end : ℕ) (from : at ≤ end) (inside : end ≤ 
         let s2 : split 58 (name ++ (58 ∷ b ∷ [])) ≡ name ∷ (b ∷ []) ∷ [] = split_next 58 name (b ∷ []) (name_free name w) ∙ ap (λ (ps : List (List ℕ)). name ∷ ps) s1 in
         let t : symbol_of (name ∷ (b ∷ []) ∷ []) ≡ some (record { name = name; kind = k }) =
         ap (λ (x : Bool). cond (x && true) (named name (kind_of b)) none) w ∙ ap (named name) q in
-        p ∙ sym (ap (λ (ps : List (List ℕ)). symbol_place (symbol_of ps)) s2 ∙ ap symbol_place t)
+        p ∙ sym (ap (λ (ps : List (List ℕ)). kind_told (symbol_of ps)) s2 ∙ ap kind_told t)
 
-    entry_there : (r : ℕ) → get_or line (at + n) 0 ≡ 58 → r ≡ kind_place (kind_of (get_or line (at + n + 1) 0)) → (r ≡ 4 → ⊥)
-        → is_name (take n (drop at line)) ≡ true → r ≡ symbol_place (symbol_of (split 58 (part line at end)))
+    entry_there : (r : Std.Option Kind) → get_or line (at + n) 0 ≡ 58 → r ≡ kind_in (kind_of (get_or line (at + n + 1) 0)) → (r ≡ None → ⊥)
+        → is_name (take n (drop at line)) ≡ true → r ≡ kind_told (symbol_of (split 58 (part line at end)))
     entry_there r c p h w =
         some_place (get_or line (at + n + 1) 0) (kind_of (get_or line (at + n + 1) 0)) r refl p h (take n (drop at line)) w
-        ∙ sym (ap (λ (ys : List ℕ). symbol_place (symbol_of (split 58 ys))) (whole_part c))
+        ∙ sym (ap (λ (ys : List ℕ). kind_told (symbol_of (split 58 ys))) (whole_part c))
 
 -- ---- an entry by the end of its letters and digits
 
@@ -242,19 +245,13 @@ record Shaped (line : List ℕ) (at stop end : ℕ) (s : Symbol) : Type 0 where
   byte : kind_of (get_or line (end + 1) 0) ≡ some s.kind
   name : is_name (take (end - at) (drop at line)) ≡ true
 
-kind_four : (j : SymbolKind) → kind_number j ≡ 4 → ⊥
-kind_four SymbolKind.Parameter q = omega arith
-kind_four SymbolKind.State q = omega arith
-kind_four SymbolKind.Time q = omega arith
-kind_four SymbolKind.Input q = omega arith
+kind_there : (o : Option SymbolKind) (k : SymbolKind) → o ≡ some k → kind_in o ≡ None → ⊥
+kind_there none k e q = let z : ◌≡◌ {A = ℕ} 0 1 = cc in omega arith
+kind_there (some j) k e q = let z : ◌≡◌ {A = ℕ} 0 1 = cc in omega arith
 
-place_four : (o : Option SymbolKind) (k : SymbolKind) → o ≡ some k → kind_place o ≡ 4 → ⊥
-place_four none k e q = let z : ◌≡◌ {A = ℕ} 0 1 = cc in omega arith
-place_four (some j) k e q = kind_four j q
-
-pub place_none : (o : Option Symbol) (r : ℕ) → r ≡ symbol_place o → r ≡ 4 → o ≡ none
-place_none none r e q = refl
-place_none (some s) r e q = absurd (kind_four s.kind (sym e ∙ q))
+pub symbol_none : (o : Option Symbol) (r : Std.Option Kind) → r ≡ kind_told o → r ≡ None → o ≡ none
+symbol_none none r e q = refl
+symbol_none (some s) r e q = let z : ◌≡◌ {A = ℕ} 0 1 = cc in absurd (omega arith)
 
 module _ (line : List ℕ) (at end : ℕ) (w : Letters line at end) where
   module _ (stop : ℕ) (u : Ends line at stop) (n : ℕ) (long : 3 ≤ stop - at) (en : n ≡ stop - at - 2) (colon : get_or line (at + n) 0 ≡ 58)
@@ -294,7 +291,7 @@ module _ (line : List ℕ) (at end : ℕ) (w : Letters line at end) where
         name = ap (λ (j : ℕ). is_name (take j (drop at line))) (sym y) ∙ t.name;
       }
 
-  tells_none : ((stop : ℕ) → Ends line at stop → (s : Symbol) → Shaped line at stop end s → ⊥) → Tells line at end 4
+  tells_none : ((stop : ℕ) → Ends line at stop → (s : Symbol) → Shaped line at stop end s → ⊥) → Tells line at end None
   tells_none h =
       let o = end_of line at (omega (arith, w.from, w.inside)) in
       record {
@@ -307,16 +304,16 @@ module _ (line : List ℕ) (at end : ℕ) (w : Letters line at end) where
   word_length : length (take (end - at) (drop at line)) ≡ end - at
   word_length = length-take-le (end - at) (drop at line) (omega (arith, length-drop at line, w.inside))
 
-  pub no_room_there : length line - end < 2 → Tells line at end 4
+  pub no_room_there : length line - end < 2 → Tells line at end None
   no_room_there h = tells_none (λ stop u s g. omega (arith, g.after, u.inside))
 
-  pub too_long_there : 64 < end - at → Tells line at end 4
+  pub too_long_there : 64 < end - at → Tells line at end None
   too_long_there h = tells_none (λ stop u s g. omega (arith, name_short (take (end - at) (drop at line)) g.name, word_length))
 
-  pub no_colon_there : (get_or line end 0 ≡ 58 → ⊥) → Tells line at end 4
+  pub no_colon_there : (get_or line end 0 ≡ 58 → ⊥) → Tells line at end None
   no_colon_there h = tells_none (λ stop u s g. h g.colon)
 
-  pub no_letter_there : is_letter (get_or line at 0) ≡ false → Tells line at end 4
+  pub no_letter_there : is_letter (get_or line at 0) ≡ false → Tells line at end None
   no_letter_there h =
       tells_none
       (λ stop u s g.
@@ -327,14 +324,14 @@ module _ (line : List ℕ) (at end : ℕ) (w : Letters line at end) where
       ∙ ap is_letter (sym (word_byte line at (end - at) 0 (omega (arith, word_length, name_long xs g.name))))
       ∙ name_first xs g.name))
 
-  pub no_comma_there : (end + 2 ≡ length line → ⊥) → (get_or line (end + 2) 0 ≡ 44 → ⊥) → Tells line at end 4
+  pub no_comma_there : (end + 2 ≡ length line → ⊥) → (get_or line (end + 2) 0 ≡ 44 → ⊥) → Tells line at end None
   no_comma_there n h =
       tells_none
       (λ stop u s g.
       h (ap (λ (j : ℕ). get_or line j 0) (sym g.after) ∙ u.comma (omega (arith, g.after, u.inside))))
 
-  module _ (r : ℕ) (room : end + 2 ≤ length line) (few : end - at ≤ 64) (colon : get_or line end 0 ≡ 58) (first : is_letter (get_or line at 0) ≡ true)
-      (kind : r ≡ kind_place (kind_of (get_or line (end + 1) 0))) (comma : end + 2 < length line → get_or line (end + 2) 0 ≡ 44) where
+  module _ (r : Std.Option Kind) (room : end + 2 ≤ length line) (few : end - at ≤ 64) (colon : get_or line end 0 ≡ 58) (first : is_letter (get_or line at 0) ≡ true)
+      (kind : r ≡ kind_in (kind_of (get_or line (end + 1) 0))) (comma : end + 2 < length line → get_or line (end + 2) 0 ≡ 44) where
     some_bytes : 1 ≤ end - at
     some_bytes = some_bytes_by (eqb at end) refl
       where
@@ -352,7 +349,7 @@ module _ (line : List ℕ) (at end : ℕ) (w : Letters line at end) where
         ap letter_or_digit (word_byte line at (end - at) i (omega (arith, word_length)))
         ∙ w.each (at + i) (omega arith) (omega (arith, word_length, w.from)))
 
-    before_stop : (r ≡ 4 → ⊥) → (i : ℕ) → at ≤ i → i < end + 2 → get_or line i 0 ≡ 44 → ⊥
+    before_stop : (r ≡ None → ⊥) → (i : ℕ) → at ≤ i → i < end + 2 → get_or line i 0 ≡ 44 → ⊥
     before_stop h i a l e = before_by (ltb i end) (eqb i end) refl refl
       where
         before_by : (b c : Bool) → ltb i end ≡ b → eqb i end ≡ c → ⊥
@@ -360,23 +357,24 @@ module _ (line : List ℕ) (at end : ℕ) (w : Letters line at end) where
         before_by false true p q = let z = ap (λ (j : ℕ). get_or line j 0) (eqb-true i end q) in omega (arith, colon, e)
         before_by false false p q =
             let z : end + 1 ≡ i = omega (arith, ltb-false i end p, eqb-false i end q) in
-            h (kind ∙ ap (λ (x : ℕ). kind_place (kind_of x)) (ap (λ (j : ℕ). get_or line j 0) z ∙ e))
+            h (kind ∙ ap (λ (x : ℕ). kind_in (kind_of x)) (ap (λ (j : ℕ). get_or line j 0) z ∙ e))
 
-    tells_by : (b : Bool) → eqb r 4 ≡ b → Tells line at end r
-    tells_by true q =
-        subst (Tells line at end) (sym (eqb-true r 4 q))
-        (tells_none (λ stop u s g. place_four (kind_of (get_or line (end + 1) 0)) s.kind g.byte (sym kind ∙ eqb-true r 4 q)))
-    tells_by false q =
+    tells_by : (q : Std.Option Kind) → r ≡ q → Tells line at end r
+    tells_by None q =
+        subst (Tells line at end) (sym q)
+        (tells_none (λ stop u s g. kind_there (kind_of (get_or line (end + 1) 0)) s.kind g.byte (sym kind ∙ q)))
+    tells_by (Some k) q =
+        let some_kind : r ≡ None → ⊥ = λ n. let c : ◌≡◌ {A = ℕ} 0 1 = cc in omega arith in
         let z : at + (end - at) ≡ end = omega (arith, w.from) in
         let y : end - at ≡ end + 2 - at - 2 = omega (arith, w.from) in
         record {
           stop = end + 2;
-          ends = record { from = omega (arith, w.from); inside = room; before = before_stop (eqb-false r 4 q); comma = comma };
+          ends = record { from = omega (arith, w.from); inside = room; before = before_stop some_kind; comma = comma };
           is =
               entry_there line at (end + 2) (omega (arith, w.from)) room (end - at) (omega (arith, some_bytes)) y r
-              (ap (λ (j : ℕ). get_or line j 0) z ∙ colon) (kind ∙ ap (λ (j : ℕ). kind_place (kind_of (get_or line (j + 1) 0))) (sym z)) (eqb-false r 4 q) is_named;
+              (ap (λ (j : ℕ). get_or line j 0) z ∙ colon) (kind ∙ ap (λ (j : ℕ). kind_in (kind_of (get_or line (j + 1) 0))) (sym z)) some_kind is_named;
           after = λ n. refl;
         }
 
     pub tells_kind : Tells line at end r
-    tells_kind = tells_by (eqb r 4) refl
+    tells_kind = tells_by r refl

@@ -1,3 +1,4 @@
+pub mod Options
 pub mod Splits
 pub mod Digits
 pub mod Letters

@@ -2,7 +2,7 @@
 use mathlib.Core.Path.{◌≡◌, refl, sym, ap, ap₂, ◌∙◌}
 use mathlib.Core.Bool.{Bool, true, false, ◌||◌}
 use mathlib.Core.List.{List, [], ◌∷◌, ◌++◌}
-use Prim.Native.Nat.{ℕ, zero, suc, ◌+◌, ◌-◌, ◌*◌, ◌%◌, ◌<◌, ◌≤◌}
+use Prim.Native.Nat.{ℕ, suc, ◌+◌, ◌-◌, ◌*◌, ◌%◌, ◌<◌, ◌≤◌}
 use native.Mathlib.Omega.{arith}
 use lib.ListN.{length, get_or, take, drop, set, length-drop}
 use lib.Seq.{take-suc, get_or-drop, get_or-set_same, get_or-set_other}
@@ -10,7 +10,8 @@ use lib.Dec.{eqb}
 use borrow.Author.Tests.{eqb-true, eqb-false}
 use Rattle.formula.specs.Text.{same_bytes}
 use Rattle.formula.proofs.Tests.{no_true, and_first, and_second}
-use Rattle.names.specs.Lines.{mark_from, mark, Marked, Placed, repeats}
+use Rattle.names.specs.Lines.{mark_from, mark, text, Stands, Listed, Placed, repeats}
+use Rattle.names.specs.declared.Name.{Name}
 
 -- a byte more
 mark_snoc : (xs : List ℕ) (x h : ℕ) → mark_from h (xs ++ (x ∷ [])) ≡ (mark_from h xs * 16777619 + x) % 4294967296
@@ -52,21 +53,29 @@ pub unlike_marks : (xs ys : List ℕ) (x y : ℕ) → x ≡ mark xs → y ≡ ma
 unlike_marks xs ys x y ex ey h = unlike_by (same_bytes xs ys) xs ys refl (λ e. h (ex ∙ e ∙ sym ey))
 
 -- a name whose mark has a free place is none of those before
-pub not_placed : (line starts lengths marks taken name : List ℕ) (count x : ℕ) → Marked line starts lengths marks count → Placed marks taken count → x ≡ mark name
-    → get_or taken (x % 1024) 0 ≡ 0 → false ≡ repeats line starts lengths name count
-not_placed line starts lengths marks taken name zero x h p e z = refl
-not_placed line starts lengths marks taken name (suc k) x h p e z =
-    let r = not_placed line starts lengths marks taken name k x (λ j l. h j (omega arith)) (λ j l. p j (omega arith)) e z in
+pub not_placed : (line : List ℕ) (ns : List Name) (taken : List Bool) (x : List ℕ) (m : ℕ) → Listed line ns → Placed ns taken → m ≡ mark x
+    → get_or taken (m % 1024) false ≡ false → false ≡ repeats line ns x
+not_placed line [] taken x m h p e z = refl
+not_placed line (n ∷ ns) taken x m h p e z =
     let u =
-    unlike_marks (take (get_or lengths k 0) (drop (get_or starts k 0) line)) name (get_or marks k 0) x (h k (omega arith)) e
-    (λ q.
-    let o : get_or taken (x % 1024) 0 ≡ 1 = ap (λ (y : ℕ). get_or taken (y % 1024) 0) (sym q) ∙ p k (omega arith) in
-    omega (arith, z)) in
-    r ∙ ap (λ (b : Bool). b || repeats line starts lengths name k) u
+    unlike_marks (text line n) x n.mark m h.0.marked e
+    (λ q. no_true (sym z ∙ ap (λ (y : ℕ). get_or taken (y % 1024) false) (sym q) ∙ p.0)) in
+    not_placed line ns taken x m h.1 p.1 e z ∙ ap (λ (b : Bool). b || repeats line ns x) u
 
-placed_stays_by : (b : Bool) (taken : List ℕ) (i j : ℕ) → eqb i j ≡ b → i < length taken → get_or taken j 0 ≡ 1 → get_or (set taken i 1) j 0 ≡ 1
-placed_stays_by true taken i j q l e = ap (λ (y : ℕ). get_or (set taken i 1) y 0) (sym (eqb-true i j q)) ∙ get_or-set_same taken i 1 0 l
-placed_stays_by false taken i j q l e = let n = eqb-false i j q in get_or-set_other taken i j 1 0 (λ z. omega arith) ∙ e
+-- ---- one name more
 
-pub placed_stays : (taken : List ℕ) (i j : ℕ) → i < length taken → get_or taken j 0 ≡ 1 → get_or (set taken i 1) j 0 ≡ 1
-placed_stays taken i j l e = placed_stays_by (eqb i j) taken i j refl l e
+pub listed_more : (line : List ℕ) (ns : List Name) (n : Name) → Listed line ns → Stands line n → Listed line (ns ++ (n ∷ []))
+listed_more line [] n h s = (s, tt)
+listed_more line (m ∷ ns) n h s = (h.0, listed_more line ns n h.1 s)
+
+-- where one more place is taken, all stay so
+placed_stays_by : (b : Bool) (taken : List Bool) (i j : ℕ) → eqb i j ≡ b → i < length taken → get_or taken j false ≡ true → get_or (set taken i true) j false ≡ true
+placed_stays_by true taken i j q l e = ap (λ (y : ℕ). get_or (set taken i true) y false) (sym (eqb-true i j q)) ∙ get_or-set_same taken i true false l
+placed_stays_by false taken i j q l e = let n = eqb-false i j q in get_or-set_other taken i j true false (λ z. omega arith) ∙ e
+
+pub placed_more : (ns : List Name) (taken : List Bool) (n : Name) → length taken ≡ 1024 → Placed ns taken → Placed (ns ++ (n ∷ [])) (set taken (n.mark % 1024) true)
+placed_more [] taken n l h = (get_or-set_same taken (n.mark % 1024) true false (omega arith), tt)
+placed_more (m ∷ ns) taken n l h =
+    let i = n.mark % 1024 in
+    let j = m.mark % 1024 in
+    (placed_stays_by (eqb i j) taken i j refl (omega arith) h.0, placed_more ns taken n l h.1)

@@ -1,16 +1,18 @@
 -- What the readers of the name line and of digits answer, in the words of their definitions.
-use Rattle.std.specs.Prelude.{◌≡◌, Bool, true, false, not, ◌||◌, List, [], ◌∷◌, ◌++◌, map, ℕ, zero, suc, ◌+◌, ◌-◌, ◌*◌, ◌%◌, ◌≤◌, ◌<◌, length, get_or, take, drop, eqb}
+use Rattle.std.specs.Prelude.{◌≡◌, Bool, true, false, not, ◌||◌, List, [], ◌∷◌, ◌++◌, map, ℕ, zero, suc, ◌+◌, ◌-◌, ◌*◌, ◌%◌, ◌≤◌, ◌<◌, length, get_or, take, drop, replicate, eqb, Some, None}
+use Rattle.std.specs.Prelude as Std
 use Rattle.std.proofs.Math.Option.{Option, none, some}
-use Rattle.formula.specs.Text.{all, same_bytes, split, joined, zeros}
+use Rattle.formula.specs.Text.{all, same_bytes, split, joined}
 use Rattle.formula.specs.Names.{SymbolKind, Parameter, State, Time, Input, Symbol, is_letter, is_digit, symbol_of, kinds}
+use Rattle.names.specs.declared.Kind.{Kind}
+use Rattle.names.specs.declared.Kind.TheVariants as Kinds
+use Rattle.names.specs.declared.Name.{Name}
 use Rattle.names.specs.declared.Names.{Names}
 
--- ---- digits
-
--- a digit; 16 is none
-abbrev pub place : Option ℕ → ℕ
-place none = 16
-place (some d) = d
+-- the code's option
+abbrev pub option_of : {A : Type 0} → Option A → Std.Option A
+option_of none = None
+option_of (some a) = Some a
 
 -- 16 ^ i, above every number of i digits
 unfoldable pub cap : ℕ → ℕ
@@ -39,16 +41,22 @@ prefixed (a ∷ as') r = joined (some a) (prefixed as' r)
 
 -- ---- the name line
 
-abbrev pub kind_number : SymbolKind → ℕ
-kind_number Parameter = 0
-kind_number State = 1
-kind_number Time = 2
-kind_number Input = 3
+abbrev pub kind_as : SymbolKind → Kind
+kind_as Parameter = Kinds.Parameter
+kind_as State = Kinds.State
+kind_as Time = Kinds.Time
+kind_as Input = Kinds.Input
 
--- 4 is no kind
-abbrev pub kind_place : Option SymbolKind → ℕ
-kind_place none = 4
-kind_place (some k) = kind_number k
+-- and back
+abbrev pub symbol_kind : Kind → SymbolKind
+symbol_kind Kinds.Parameter = Parameter
+symbol_kind Kinds.State = State
+symbol_kind Kinds.Time = Time
+symbol_kind Kinds.Input = Input
+
+abbrev pub kind_in : Option SymbolKind → Std.Option Kind
+kind_in none = None
+kind_in (some k) = Some (kind_as k)
 
 -- the bytes from one place to another
 unfoldable pub part : List ℕ → ℕ → ℕ → List ℕ
@@ -68,27 +76,17 @@ pub record Letters (line : List ℕ) (at end : ℕ) : Type 0 where
   pub each : (i : ℕ) → at ≤ i → i < end → (is_letter (get_or line i 0) || is_digit (get_or line i 0)) ≡ true
   pub last : end < length line → (is_letter (get_or line end 0) || is_digit (get_or line end 0)) ≡ false
 
--- the kind's number of a name with its kind; 4 is none
-abbrev pub symbol_place : Option Symbol → ℕ
-symbol_place none = 4
-symbol_place (some s) = kind_number s.kind
+-- the kind of a name with its kind
+abbrev pub kind_told : Option Symbol → Std.Option Kind
+kind_told none = None
+kind_told (some s) = Some (kind_as s.kind)
 
--- what stands from a byte to the first comma or the line's end: the kind's number, and the kind is the second byte after the name's end
-pub record Tells (line : List ℕ) (at end r : ℕ) : Type 0 where
+-- what stands from a byte to the first comma or the line's end: the kind, which is the second byte after the name's end
+pub record Tells (line : List ℕ) (at end : ℕ) (r : Std.Option Kind) : Type 0 where
   pub stop : ℕ
   pub ends : Ends line at stop
-  pub is : r ≡ symbol_place (symbol_of (split 58 (part line at stop)))
-  pub after : (r ≡ 4 → ⊥) → stop ≡ end + 2
-
--- whether one of the first k names is this one; where each starts and how long it is stand in two lists
-abbrev pub repeats : List ℕ → List ℕ → List ℕ → List ℕ → ℕ → Bool
-repeats line starts lengths name zero = false
-repeats line starts lengths name (suc k) =
-    same_bytes (take (get_or lengths k 0) (drop (get_or starts k 0) line)) name || repeats line starts lengths name k
-
--- the first k names stand in the line
-abbrev pub Listed : List ℕ → List ℕ → List ℕ → ℕ → Type 0
-Listed line starts lengths count = (k : ℕ) → k < count → get_or starts k 0 + get_or lengths k 0 ≤ length line
+  pub is : r ≡ kind_told (symbol_of (split 58 (part line at stop)))
+  pub after : (r ≡ None → ⊥) → stop ≡ end + 2
 
 -- a number that equal names share: their bytes, one after another
 abbrev pub mark_from : ℕ → List ℕ → ℕ
@@ -98,15 +96,30 @@ mark_from h (x ∷ xs) = mark_from ((h * 16777619 + x) % 4294967296) xs
 abbrev pub mark : List ℕ → ℕ
 mark xs = mark_from 0 xs
 
--- the marks of the first k names stand in a list
-abbrev pub Marked : List ℕ → List ℕ → List ℕ → List ℕ → ℕ → Type 0
-Marked line starts lengths marks count = (k : ℕ) → k < count → get_or marks k 0 ≡ mark (take (get_or lengths k 0) (drop (get_or starts k 0) line))
+-- the bytes of a name
+abbrev pub text : List ℕ → Name → List ℕ
+text line n = take n.length (drop n.start line)
 
--- the first k marks have taken their places in a table of 1024
-abbrev pub Placed : List ℕ → List ℕ → ℕ → Type 0
-Placed marks taken count = (k : ℕ) → k < count → get_or taken (get_or marks k 0 % 1024) 0 ≡ 1
+-- a name stands in the line, with its mark
+pub record Stands (line : List ℕ) (n : Name) : Type 0 where
+  pub inside : n.start + n.length ≤ length line
+  pub marked : n.mark ≡ mark (text line n)
 
--- the table of a name line, or of none: refusal 3
-abbrev pub names_of : Option (List Symbol) → Names
-names_of none = record { ok = false; count = 0; kinds = zeros 256 }
-names_of (some ss) = record { ok = true; count = length ss; kinds = map kind_number (kinds ss) ++ zeros (256 - length ss) }
+abbrev pub Listed : List ℕ → List Name → Type 0
+Listed line [] = Unit
+Listed line (n ∷ ns) = Stands line n × Listed line ns
+
+-- the marks have taken their places in a table of 1024
+abbrev pub Placed : List Name → List Bool → Type 0
+Placed [] taken = Unit
+Placed (n ∷ ns) taken = (get_or taken (n.mark % 1024) false ≡ true) × Placed ns taken
+
+-- whether one of the names has these bytes
+abbrev pub repeats : List ℕ → List Name → List ℕ → Bool
+repeats line [] x = false
+repeats line (n ∷ ns) x = same_bytes (text line n) x || repeats line ns x
+
+-- the table of a name line, or none: refusal 3
+abbrev pub names_of : Option (List Symbol) → Std.Option Names
+names_of none = None
+names_of (some ss) = Some (record { count = length ss; kinds = map kind_as (kinds ss) ++ replicate (256 - length ss) Kinds.Parameter })

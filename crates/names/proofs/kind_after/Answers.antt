@@ -17,12 +17,12 @@ returns-then-line-end-ne58 c =
     let pre = c.requires in
     no_colon_there args.line.now args.at args.end pre c.if-line-end-ne58.true
 
-pub returns-then-not-first : goal.returns-then-not-first
-returns-then-not-first c =
+pub returns-then-not-is_letter : goal.returns-then-not-is_letter
+returns-then-not-is_letter c =
     let args = c.args in
     let pre = c.requires in
-    let is_letter = c.is_letter-first in
-    no_letter_there args.line.now args.at args.end pre (sym is_letter.ensures ∙ c.if-not-first.true)
+    let is_letter = c.is_letter in
+    no_letter_there args.line.now args.at args.end pre (sym is_letter.ensures ∙ c.if-not-is_letter.true)
 
 pub returns-then-end-line : goal.returns-then-end-line
 returns-then-end-line c =
@@ -31,13 +31,13 @@ returns-then-end-line c =
     let if1 = c.if-line-end-lt2 in
     let if2 = c.if-end-at-gt64 in
     let if3 = c.if-line-end-ne58 in
-    let is_letter = c.is_letter-first in
-    let if4 = c.if-not-first in
-    let kind_place = c.kind_place-kind in
+    let is_letter = c.is_letter in
+    let if4 = c.if-not-is_letter in
+    let kind_of = c.kind_of-kind in
     let end = args.end in
     let room : end + 2 ≤ length args.line.now = omega (arith, if1.false, pre.inside) in
-    tells_kind args.line.now args.at end pre kind_place.result room (omega (arith, if2.false)) if3.false
-    (sym is_letter.ensures ∙ if4.false) kind_place.ensures.0 (λ l. absurd (omega (arith, c.if-end-line.true)))
+    tells_kind args.line.now args.at end pre kind_of.result room (omega (arith, if2.false)) if3.false
+    (sym is_letter.ensures ∙ if4.false) kind_of.ensures (λ l. absurd (omega (arith, c.if-end-line.true)))
 
 pub returns-then-line-end-eq44 : goal.returns-then-line-end-eq44
 returns-then-line-end-eq44 c =
@@ -46,13 +46,13 @@ returns-then-line-end-eq44 c =
     let if1 = c.if-line-end-lt2 in
     let if2 = c.if-end-at-gt64 in
     let if3 = c.if-line-end-ne58 in
-    let is_letter = c.is_letter-first in
-    let if4 = c.if-not-first in
-    let kind_place = c.kind_place-kind in
+    let is_letter = c.is_letter in
+    let if4 = c.if-not-is_letter in
+    let kind_of = c.kind_of-kind in
     let end = args.end in
     let room : end + 2 ≤ length args.line.now = omega (arith, if1.false, pre.inside) in
-    tells_kind args.line.now args.at end pre kind_place.result room (omega (arith, if2.false)) if3.false
-    (sym is_letter.ensures ∙ if4.false) kind_place.ensures.0 (λ l. c.if-line-end-eq44.true)
+    tells_kind args.line.now args.at end pre kind_of.result room (omega (arith, if2.false)) if3.false
+    (sym is_letter.ensures ∙ if4.false) kind_of.ensures (λ l. c.if-line-end-eq44.true)
 
 pub returns : goal.returns
 returns c =

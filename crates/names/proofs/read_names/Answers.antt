@@ -1,207 +1,77 @@
-use mathlib.Core.Path.{refl, ◌∙◌}
-use Prim.Native.Nat.{◌+◌, ◌-◌, ◌%◌}
+use mathlib.Core.Path.{◌≡◌, refl, sym, ap, subst, ◌∙◌}
+use mathlib.Core.Bool.{true}
+use mathlib.Core.List.{List, ◌∷◌, ◌++◌, []}
+use Prim.Native.Nat.{ℕ, suc, ◌+◌, ◌-◌}
 use native.Mathlib.Omega.{arith}
-use lib.ListN.{take, drop, length-set}
-use Rattle.names.proofs.Marks.{mark_below}
-use Rattle.names.proofs.Listing.{told, listing_start, listing_empty, no_entry, too_many, repeated, listing_done, listing_more, marked_more, placed_more}
+use lib.ListN.{length, take, set, length-set}
+use borrow.Author.Tests.{eqb-true, eqb-false}
+use lib.Seq.{take-suc-set}
+use Rattle.names.specs.Lines.{Listed, Placed}
+use Rattle.names.specs.declared.Name.{Name}
+use Rattle.names.proofs.Marks.{listed_more, placed_more}
+use Rattle.names.proofs.Listing.{told, listing_start, listing_empty, no_entry, too_many, repeated, listing_done, listing_more}
 use Rattle.names.proofs.read_names.Goals as goal
 
-pub returns-then-line-eq0 : goal.returns-then-line-eq0
-returns-then-line-eq0 c = listing_empty c.args.line.now _ c.if-line-eq0.true refl
+pub returns-then-is_empty : goal.returns-then-is_empty
+returns-then-is_empty c = listing_empty c.args.line.now (eqb-true (length c.args.line.now) 0 (sym c.is_empty.ensures ∙ c.if-is_empty.true))
 
-pub loop-starts-init : goal.loop-starts-init
-loop-starts-init c = (listing_start c.args.line.now _ _ _ c.if-line-eq0.false refl refl refl, refl, λ k l. absurd (omega arith), refl, λ k l. absurd (omega arith), omega arith)
+pub loop-kind-init : goal.loop-kind-init
+loop-kind-init c = record {
+  listing = listing_start c.args.line.now (eqb-false (length c.args.line.now) 0 (sym c.is_empty.ensures ∙ c.if-is_empty.false));
+  listed = tt;
+  placed = tt;
+  rooms = (refl, refl);
+  near = omega arith;
+}
 
 pub word_at-word-requires : goal.word_at-word-requires
-word_at-word-requires c = c.loop-starts.invariant.0.inside
+word_at-word-requires c = c.loop-kind.invariant.listing.inside
 
-pub kind_after-kind-requires : goal.kind_after-kind-requires
-kind_after-kind-requires c = c.word_at-word.ensures.0
+pub kind_after-requires : goal.kind_after-requires
+kind_after-requires c = c.word_at-word.ensures.0
 
-pub returns-then-kind-eq4 : goal.returns-then-kind-eq4
-returns-then-kind-eq4 c =
-    let args = c.args in
-    let loop = c.loop-starts in
-    let kind_after = c.kind_after-kind in
-    c.no_names.ensures
-    ∙ no_entry args.line.now loop.starts loop.lengths loop.kinds loop.count loop.at c.word_at-word.result.end kind_after.result
-    loop.invariant.0 kind_after.ensures c.if-kind-eq4.true
+pub returns-in_err-kind : goal.returns-in_err-kind
+returns-in_err-kind c = c.from_residual.ensures ∙ no_entry c.args.line.now _ _ _ c.loop-kind.at c.word_at-word.result.end c.loop-kind.invariant.listing c.in_err-kind.ensures
 
 pub returns-then-count-eq256 : goal.returns-then-count-eq256
 returns-then-count-eq256 c =
-    let args = c.args in
-    let loop = c.loop-starts in
-    let word_at = c.word_at-word in
-    let kind_after = c.kind_after-kind in
-    let if2 = c.if-kind-eq4 in
-    let end = word_at.result.end in
-    let kind = kind_after.result in
-    let t = told args.line.now loop.at end kind kind_after.ensures if2.false in
-    c.no_names-then-count-eq256.ensures
-    ∙ too_many args.line.now loop.starts loop.lengths loop.kinds loop.count loop.at (end + 2) loop.invariant.0 t.0 (end - loop.at) kind
-    t.1 c.if-count-eq256.true
+    let t = told c.args.line.now c.loop-kind.at c.word_at-word.result.end c.in_ok-kind.kind c.in_ok-kind.ensures in
+    too_many c.args.line.now _ _ _ c.loop-kind.at (c.word_at-word.result.end + 2) c.loop-kind.invariant.listing t.0 (c.word_at-word.result.end - c.loop-kind.at) c.in_ok-kind.kind t.1 c.if-count-eq256.true
 
-pub overflow_sub-n : goal.overflow_sub-n
-overflow_sub-n c = c.word_at-word.ensures.0.from
-
-pub comes_again-again-requires : goal.comes_again-again-requires
-comes_again-again-requires c =
-    let args = c.args in
-    let loop = c.loop-starts in
-    let word_at = c.word_at-word in
-    let kind_after = c.kind_after-kind in
-    let if2 = c.if-kind-eq4 in
-    let end = word_at.result.end in
-    let kind = kind_after.result in
-    let t = told args.line.now loop.at end kind kind_after.ensures if2.false in
-    (loop.invariant.0.few, t.1.inside, loop.invariant.0.listed, loop.invariant.2, word_at.ensures.1, loop.invariant.4)
-
-pub returns-then-again : goal.returns-then-again
-returns-then-again c =
-    let args = c.args in
-    let loop = c.loop-starts in
-    let word_at = c.word_at-word in
-    let kind_after = c.kind_after-kind in
-    let if2 = c.if-kind-eq4 in
-    let again = c.comes_again-again in
-    let end = word_at.result.end in
-    let kind = kind_after.result in
-    let t = told args.line.now loop.at end kind kind_after.ensures if2.false in
-    c.no_names-then-again.ensures
-    ∙ repeated args.line.now loop.starts loop.lengths loop.kinds loop.count loop.at (end + 2) loop.invariant.0 t.0 (end - loop.at) kind
-    t.1 again.result again.ensures c.if-again.true
-
-pub overflow_cast-starts : goal.overflow_cast-starts
-overflow_cast-starts c =
-    let loop = c.loop-starts in
-    omega (arith, loop.invariant.5, loop.invariant.0.few)
-
-pub offset_bounds-starts-count : goal.offset_bounds-starts-count
-offset_bounds-starts-count c = omega (arith, c.loop-starts.invariant.0.few)
-
-pub bounds-starts-count : goal.bounds-starts-count
-bounds-starts-count c =
-    let loop = c.loop-starts in
-    let if3 = c.if-count-eq256 in
-    omega (arith, loop.invariant.0.few, if3.false)
-
-pub overflow_cast-lengths : goal.overflow_cast-lengths
-overflow_cast-lengths c =
-    let args = c.args in
-    let loop = c.loop-starts in
-    let word_at = c.word_at-word in
-    let kind_after = c.kind_after-kind in
-    let end = word_at.result.end in
-    let t = told args.line.now loop.at end kind_after.result kind_after.ensures c.if-kind-eq4.false in
+pub overflow_cast-name-in-loop-kind : goal.overflow_cast-name-in-loop-kind
+overflow_cast-name-in-loop-kind c =
+    let t = told c.args.line.now c.loop-kind.at c.word_at-word.result.end c.in_ok-kind.kind c.in_ok-kind.ensures in
     omega (arith, t.1.short)
 
-pub bounds-lengths-count : goal.bounds-lengths-count
-bounds-lengths-count c =
-    let loop = c.loop-starts in
-    let if3 = c.if-count-eq256 in
-    omega (arith, loop.invariant.0.few, if3.false)
-
-pub overflow_cast-marks : goal.overflow_cast-marks
-overflow_cast-marks c =
-    let args = c.args in
-    let loop = c.loop-starts in
-    let word_at = c.word_at-word in
-    let at = loop.at in
-    omega (arith, word_at.ensures.1, mark_below (take (word_at.result.end - at) (drop at args.line.now)))
-
-pub offset_bounds-marks-count : goal.offset_bounds-marks-count
-offset_bounds-marks-count c = omega (arith, c.loop-starts.invariant.0.few)
-
-pub bounds-marks-count : goal.bounds-marks-count
-bounds-marks-count c =
-    let loop = c.loop-starts in
-    let if3 = c.if-count-eq256 in
-    omega (arith, loop.invariant.0.few, if3.false)
-
-pub bounds-kinds-count : goal.bounds-kinds-count
-bounds-kinds-count c =
-    let loop = c.loop-starts in
-    let if3 = c.if-count-eq256 in
-    omega (arith, loop.invariant.0.few, if3.false)
-
-pub overflow_add-count : goal.overflow_add-count
-overflow_add-count c = omega (arith, c.loop-starts.invariant.0.few)
-
-pub overflow_add-end : goal.overflow_add-end
-overflow_add-end c =
-    let args = c.args in
-    let good = c.well_formed in
-    let loop = c.loop-starts in
-    let word_at = c.word_at-word in
-    let kind_after = c.kind_after-kind in
-    let if2 = c.if-kind-eq4 in
-    let end = word_at.result.end in
-    let kind = kind_after.result in
-    let t = told args.line.now loop.at end kind kind_after.ensures if2.false in
-    omega (arith, t.0.inside, good.0.0)
+pub returns-then-comes_again : goal.returns-then-comes_again
+returns-then-comes_again c =
+    let t = told c.args.line.now c.loop-kind.at c.word_at-word.result.end c.in_ok-kind.kind c.in_ok-kind.ensures in
+    repeated c.args.line.now _ _ _ c.loop-kind.at (c.word_at-word.result.end + 2) c.loop-kind.invariant.listing t.0 (c.word_at-word.result.end - c.loop-kind.at) c.in_ok-kind.kind t.1 c.comes_again.result c.comes_again.ensures c.if-comes_again.true
 
 pub returns-then-end-line : goal.returns-then-end-line
 returns-then-end-line c =
-    let args = c.args in
-    let loop = c.loop-starts in
-    let word_at = c.word_at-word in
-    let kind_after = c.kind_after-kind in
-    let if2 = c.if-kind-eq4 in
-    let if3 = c.if-count-eq256 in
-    let again = c.comes_again-again in
-    let if4 = c.if-again in
-    let end = word_at.result.end in
-    let kind = kind_after.result in
-    let t = told args.line.now loop.at end kind kind_after.ensures if2.false in
-    listing_done args.line.now loop.starts loop.lengths loop.kinds loop.count loop.at (end + 2) loop.invariant.0 t.0 (end - loop.at)
-    kind t.1 again.result again.ensures if4.false if3.false c.if-end-line.true
+    let t = told c.args.line.now c.loop-kind.at c.word_at-word.result.end c.in_ok-kind.kind c.in_ok-kind.ensures in
+    listing_done c.args.line.now _ _ _ c.loop-kind.at (c.word_at-word.result.end + 2) c.loop-kind.invariant.listing t.0 (c.word_at-word.result.end - c.loop-kind.at) c.in_ok-kind.kind t.1 c.comes_again.result c.comes_again.ensures c.if-comes_again.false c.if-count-eq256.false c.if-end-line.true
 
-pub overflow_add-at : goal.overflow_add-at
-overflow_add-at c =
-    let args = c.args in
-    let good = c.well_formed in
-    let loop = c.loop-starts in
-    let word_at = c.word_at-word in
-    let kind_after = c.kind_after-kind in
-    let if2 = c.if-kind-eq4 in
-    let end = word_at.result.end in
-    let kind = kind_after.result in
-    let t = told args.line.now loop.at end kind kind_after.ensures if2.false in
-    omega (arith, t.0.inside, good.0.0, c.if-end-line.false)
-
-pub loop-starts-smaller : goal.loop-starts-smaller
-loop-starts-smaller c =
-    let args = c.args in
-    let loop = c.loop-starts in
-    let word_at = c.word_at-word in
-    let kind_after = c.kind_after-kind in
-    let if2 = c.if-kind-eq4 in
-    let end = word_at.result.end in
-    let kind = kind_after.result in
-    let t = told args.line.now loop.at end kind kind_after.ensures if2.false in
-    omega (arith, t.0.inside, word_at.ensures.0.from, c.if-end-line.false)
-
-pub loop-starts-preserved : goal.loop-starts-preserved
-loop-starts-preserved c =
-    let args = c.args in
-    let loop = c.loop-starts in
-    let word_at = c.word_at-word in
-    let kind_after = c.kind_after-kind in
-    let if2 = c.if-kind-eq4 in
-    let if3 = c.if-count-eq256 in
-    let again = c.comes_again-again in
-    let if4 = c.if-again in
-    let end = word_at.result.end in
-    let kind = kind_after.result in
-    let t = told args.line.now loop.at end kind kind_after.ensures if2.false in
-    let x = word_at.result.mark in
-    let few = if3.false in (
-      listing_more args.line.now loop.starts loop.lengths loop.kinds loop.count loop.at (end + 2) loop.invariant.0 t.0 (end - loop.at)
-          kind t.1 again.result again.ensures if4.false few c.if-end-line.false,
-      length-set loop.marks loop.count x ∙ loop.invariant.1,
-      marked_more args.line.now loop.starts loop.lengths loop.kinds loop.count loop.at (end + 2) loop.invariant.0 t.0 (end - loop.at)
-          kind t.1 again.result again.ensures if4.false few loop.marks x loop.invariant.1 loop.invariant.2 word_at.ensures.1,
-      length-set loop.taken (x % 1024) 1 ∙ loop.invariant.3,
-      placed_more loop.marks loop.taken loop.count x (omega (arith, loop.invariant.0.few, loop.invariant.1, few)) loop.invariant.3 loop.invariant.4,
-      omega (arith, loop.invariant.5, t.1.short, word_at.ensures.0.from),
-    )
+pub loop-kind-preserved : goal.loop-kind-preserved
+loop-kind-preserved c =
+    let t = told c.args.line.now c.loop-kind.at c.word_at-word.result.end c.in_ok-kind.kind c.in_ok-kind.ensures in
+    let loop = c.loop-kind in
+    let count = loop.count in
+    let name : Name = record { start = loop.at; length = c.word_at-word.result.end - loop.at; mark = c.word_at-word.result.mark } in
+    let before = take count loop.names in
+    let one : count + 1 ≡ suc count = omega arith in
+    let more : take (count + 1) (set loop.names count name) ≡ before ++ (name ∷ []) =
+    ap (λ (k : ℕ). take k (set loop.names count name)) one
+    ∙ take-suc-set loop.names count name (omega (arith, loop.invariant.rooms.0, loop.invariant.listing.few, c.if-count-eq256.false)) in
+    record {
+      listing = listing_more c.args.line.now _ _ _ c.loop-kind.at (c.word_at-word.result.end + 2) c.loop-kind.invariant.listing t.0 (c.word_at-word.result.end - c.loop-kind.at) c.in_ok-kind.kind t.1
+          c.comes_again.result c.comes_again.ensures c.if-comes_again.false c.if-count-eq256.false name _ refl more c.if-end-line.false;
+      listed = subst (λ (ns : List Name). Listed c.args.line.now ns) (sym more)
+          (listed_more c.args.line.now before name loop.invariant.listed (record { inside = t.1.inside; marked = c.word_at-word.ensures.1 }));
+      placed = subst (λ (ns : List Name). Placed ns (set loop.taken c.place.result true)) (sym more)
+          (subst (λ (i : ℕ). Placed (before ++ (name ∷ [])) (set loop.taken i true)) (sym c.place.ensures)
+          (placed_more before loop.taken name loop.invariant.rooms.1 loop.invariant.placed));
+      rooms = (length-set loop.names count name ∙ loop.invariant.rooms.0, length-set loop.taken c.place.result true ∙ loop.invariant.rooms.1);
+      near = omega (arith, loop.invariant.near, t.1.short, c.word_at-word.ensures.0.from);
+    }

@@ -1,13 +1,18 @@
 use mathlib.Core.Path.{◌≡◌}
 use Prim.Native.Nat.{◌-◌, ◌*◌, ◌≤◌}
-use Rattle.names.specs.Lines.{Marked, Placed}
-use lib.ListN.{length}
+use lib.ListN.{length, take}
+use Rattle.names.specs.Lines.{Listed, Placed}
 use Rattle.names.proofs.Listing.{Listing}
 use Rattle.names.proofs.read_names.Given as goal
 
-abbrev pub invariant-loop-starts : goal.invariant-loop-starts
-invariant-loop-starts l =
-    Listing l.line l.starts l.lengths l.kinds l.count l.at × (length l.marks ≡ 256) × Marked l.line l.starts l.lengths l.marks l.count × (length l.taken ≡ 1024) × Placed l.marks l.taken l.count × (l.at ≤ 67 * l.count)
+abbrev pub invariant-loop-kind : goal.invariant-loop-kind
+invariant-loop-kind l = record {
+  listing : Listing l.line (take l.count l.names) l.kinds l.count l.at;
+  listed : Listed l.line (take l.count l.names);
+  placed : Placed (take l.count l.names) l.taken;
+  rooms : (length l.names ≡ 256) × (length l.taken ≡ 1024);
+  near : l.at ≤ 67 * l.count;
+}
 
-abbrev pub decreases-loop-starts : goal.decreases-loop-starts
-decreases-loop-starts l = length l.line - l.at
+abbrev pub decreases-loop-kind : goal.decreases-loop-kind
+decreases-loop-kind l = length l.line - l.at
