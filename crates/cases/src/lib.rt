@@ -146,6 +146,14 @@ pub fn take(mut stdin: Stdin, room: &mut [u8], n: usize) -> Option<&[u8]>
     Some(part)
 }
 
+// Reads as many cells of standard input as there is room for, 256 at most.
+pub fn take_cells<T: Cell>(stdin: Stdin, out: &mut [T]) -> Option<()> {
+    let mut room = [0; 2048];
+    let cells = take(stdin, &mut room, out.len().checked_mul(8)?)?;
+    Record::new(cells).cells(out);
+    Some(())
+}
+
 // ---- slices beside a record
 
 // A slice that was not written holds what it was filled with.
