@@ -1,6 +1,7 @@
 mod Zero
 mod Zeros
-mod Truncate
+mod Library
+mod Raised
 mod Bits
 mod RootSteps
 mod Remainders

@@ -1,5 +1,5 @@
 -- The remainder of two values, over whole numbers of units.
-use Rattle.std.proofs.Common.{◌≡◌, ℕ, zero, suc, ◌+◌, ◌-◌, ◌*◌, ◌/◌, ◌%◌, ◌^◌, ◌<◌, ◌≤◌, Bool, true, false, cond, T, eqb, ℤ, pos, sym, refl, ap, ap₂, ◌∙◌, subst, lt_of_lt_of_le, le_of_eq, le_of_lt, le_trans, mul_assoc, mul-le-mul, mul-lt-mul_of_pos_right, mul-pos, mod-eq_of_lt, mod-lt, mul-one, zero-mul, zero-lt-suc, arith, pow_pos, pow_mono, pow-add}
+use Rattle.std.proofs.Common.{◌≡◌, ℕ, zero, suc, ◌+◌, ◌-◌, ◌*◌, ◌/◌, ◌%◌, ◌^◌, ◌<◌, ◌≤◌, Bool, true, false, cond, T, eqb, ℤ, sym, refl, ap, ap₂, ◌∙◌, subst, lt_of_lt_of_le, le_of_eq, le_of_lt, le_trans, mul_assoc, mul-le-mul, mul-lt-mul_of_pos_right, mul-pos, mod-eq_of_lt, mul-one, zero-mul, zero-lt-suc, arith, pow_pos, pow_mono, pow-add}
 use native.Mathlib.Nat.{pow-succ', mul_right_comm}
 use lib.Dec.{eqb-suc-zero}
 use lib.Ieee.{Float, nan, inf, fin, binary64, up, down, round, rem, neg, fits, of_bits, to_bits}
@@ -17,22 +17,15 @@ use Rattle.rounding.proofs.Value.{one_value, zero_exponent}
 use Rattle.floats.specs.Fields.{significand, magnitude, infinity_bits}
 use Rattle.floats.proofs.Bits.{bits_value, pattern_in}
 
--- ---- digits moved up by one place
-pub doubled : (high left : ℕ) → 0 < left → high * 2 * 2 ^ (left - 1) ≡ high * 2 ^ left
-doubled high zero h = absurd (omega arith)
-doubled high (suc left) h = mul_assoc high 2 (2 ^ (suc left - 1)) ∙ ap (λ (x : ℕ). high * x) (ap (λ (x : ℕ). 2 * 2 ^ x) one_less ∙ sym (pow-succ' 2 left))
-  where
-    one_less : suc left - 1 ≡ left
-    one_less = omega arith
-
 -- ---- the remainder after some places more
-pub taken : (left by places j : ℕ) → j ≤ places → (left * 2 ^ j % by) * 2 ^ (places - j) % by ≡ left * 2 ^ places % by
-taken left by places j h =
-    mul-mod_first (left * 2 ^ j) (2 ^ (places - j)) by
-    ∙ ap (λ (x : ℕ). x % by) (mul_assoc left (2 ^ j) (2 ^ (places - j)) ∙ ap (λ (x : ℕ). left * x) (sym (pow-add 2 j (places - j)) ∙ ap (λ (x : ℕ). 2 ^ x) back))
-  where
-    back : j + (places - j) ≡ places
-    back = omega arith
+pub none_more : (left by : ℕ) → left < by → left ≡ left * 2 ^ 0 % by
+none_more left by h = sym (ap (λ (x : ℕ). x % by) (mul-one left) ∙ mod-eq_of_lt h)
+
+pub more : (first by m j k left : ℕ) → left ≡ first * 2 ^ m % by → k ≡ m + j → left * 2 ^ j % by ≡ first * 2 ^ k % by
+more first by m j k left e h =
+    ap (λ (x : ℕ). x * 2 ^ j % by) e
+    ∙ mul-mod_first (first * 2 ^ m) (2 ^ j) by
+    ∙ ap (λ (x : ℕ). x % by) (mul_assoc first (2 ^ m) (2 ^ j) ∙ ap (λ (x : ℕ). first * x) (sym (pow-add 2 m j) ∙ ap (λ (x : ℕ). 2 ^ x) (sym h)))
 
 -- ---- of two values that are apart by a place at least, the smaller is what it leaves
 pub smaller : (m e n d : ℕ) → m < 2 ^ 53 → 2 ^ 52 ≤ n → e < d → m * 2 ^ e ≡ m * 2 ^ e % (n * 2 ^ d)
@@ -43,9 +36,9 @@ smaller m e n d few many h =
     up_one = mul_assoc (2 ^ 52) 2 (2 ^ e) ∙ ap (λ (z : ℕ). 2 ^ 52 * z) (sym (pow-succ' 2 e))
 
 -- ---- and what the larger leaves
-pub larger : (m e n d left : ℕ) → 0 < n → d ≤ e → left < n → left * 2 ^ 0 % n ≡ m * 2 ^ (e - d) % n → left * 2 ^ d ≡ m * 2 ^ e % (n * 2 ^ d)
-larger m e n d left N h l g =
-    ap (λ (x : ℕ). x * 2 ^ d) (sym (ap (λ (x : ℕ). x % n) (mul-one left) ∙ mod-eq_of_lt l) ∙ g)
+pub larger : (m e n d left : ℕ) → 0 < n → d ≤ e → left ≡ m * 2 ^ (e - d) % n → left * 2 ^ d ≡ m * 2 ^ e % (n * 2 ^ d)
+larger m e n d left N h g =
+    ap (λ (x : ℕ). x * 2 ^ d) g
     ∙ sym (scaled_mod (m * 2 ^ (e - d)) n (2 ^ d) N (pow_pos d))
     ∙ ap (λ (x : ℕ). x % (n * 2 ^ d)) (mul_assoc m (2 ^ (e - d)) (2 ^ d) ∙ ap (λ (x : ℕ). m * x) (sym (pow-add 2 (e - d) d) ∙ ap (λ (x : ℕ). 2 ^ x) back))
   where

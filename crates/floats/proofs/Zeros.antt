@@ -3,16 +3,14 @@ use Rattle.std.proofs.Common.{◌≡◌, ℕ, Bool, true, false, cond, not, ◌&
 use mathlib.Core.Bool.{beq, and_comm, or-true}
 use lib.Ieee.{Float, nan, inf, fin, binary64, eq, fits, of_bits, to_bits}
 use lib.Ieee.Bits.{of_bits-to_bits}
-use Rattle.arithmetic.specs.Extremum.{zero_of}
+use Rattle.arithmetic.specs.Extremum.{held, zero_of}
 use Rattle.rounding.specs.Exact.{sign}
 use Rattle.rounding.proofs.Value.{zero_exponent}
 use Rattle.rounding.proofs.Rank.{zero±, equal_values}
-use Rattle.floats.proofs.Zero.{held}
+use Rattle.floats.specs.Extremum.{beyond, strictly, zero_bits}
+use Rattle.floats.proofs.Zero.{held as passes}
 
 -- ---- the zero with the sign s, and its bits
-abbrev zero_bits : Bool → ℕ
-zero_bits s = cond s 0x8000000000000000 0
-
 bits_of_zero : (s : Bool) → to_bits binary64 (zero± s) ≡ zero_bits s
 unfolding to_bits
 bits_of_zero true = refl
@@ -70,16 +68,16 @@ zeros_is false x y = and_comm (zero_of true y) (zero_of false x)
 -- ---- one step: x comes next, y is held, and p says whether x is strictly beyond y
 module _ (s : Bool) (x y : Float) (X : fits binary64 x ≡ true) (Y : fits binary64 y ≡ true) (p : Bool) where
   t : T (fits binary64 x)
-  t = held (fits binary64 x) X
+  t = passes (fits binary64 x) X
 
   u : T (fits binary64 y)
-  u = held (fits binary64 y) Y
+  u = passes (fits binary64 y) Y
 
   step : (b : Bool) → zeros s x y ≡ b → cond (p || zeros s x y) x y ≡ cond (p || b) x y
   step b e = ap (λ (c : Bool). cond (p || c) x y) e
 
   -- equal to y, and with the bits of the zero: y is the same value, or the other zero
-  pub takes_zero : eq x y ≡ true → to_bits binary64 x ≡ zero_bits s → x ≡ cond (p || zeros s x y) x y
+  takes_zero : eq x y ≡ true → to_bits binary64 x ≡ zero_bits s → x ≡ cond (p || zeros s x y) x y
   takes_zero h e = elim (equal_values binary64 x y t u h) [
     | inl q ↦ either (p || zeros s x y) q
     | inr z ↦ sym (step true (zeros_is s x y ∙ named s z.0 (sym (by_bits s x t e) ∙ z.1) z.1 z.2) ∙ ap (λ (b : Bool). cond b x y) (or-true p))
@@ -99,11 +97,11 @@ module _ (s : Bool) (x y : Float) (X : fits binary64 x ≡ true) (Y : fits binar
   kept l z = sym (step false z ∙ ap (λ (b : Bool). cond (b || false) x y) l)
 
   -- with other bits it is not the zero
-  pub keeps_held : p ≡ false → (to_bits binary64 x ≡ zero_bits s → ⊥) → y ≡ cond (p || zeros s x y) x y
+  keeps_held : p ≡ false → (to_bits binary64 x ≡ zero_bits s → ⊥) → y ≡ cond (p || zeros s x y) x y
   keeps_held l h = kept l (zeros_is s x y ∙ ap (λ (b : Bool). b && zero_of (not s) y) (no_zero s x t h))
 
   -- two values that are not equal are not the two zeros
-  pub keeps_unequal : p ≡ false → eq x y ≡ false → y ≡ cond (p || zeros s x y) x y
+  keeps_unequal : p ≡ false → eq x y ≡ false → y ≡ cond (p || zeros s x y) x y
   keeps_unequal l h = kept l (zeros_is s x y ∙ go (zero_of s x && zero_of (not s) y) refl)
     where
       go : (b : Bool) → (zero_of s x && zero_of (not s) y) ≡ b → b ≡ false
@@ -111,3 +109,24 @@ module _ (s : Bool) (x y : Float) (X : fits binary64 x ≡ true) (Y : fits binar
           let b = both_true (zero_of s x) (zero_of (not s) y) e in
           absurd (true≢false (sym (zeros_equal s) ∙ sym (ap₂ eq (is_the_zero s x t b.0) (is_the_zero (not s) y u b.1)) ∙ h))
       go false e = refl
+
+-- ---- the same of Min and Max: x comes next, and y is held
+module _ (most : Bool) (x y : Float) where
+  by_zeros : beyond most x y ≡ (strictly most x y || zeros (not most) x y)
+  by_zeros = elim most as (λ m. beyond m x y ≡ (strictly m x y || zeros (not m) x y)) [ true ↦ refl | false ↦ refl ]
+
+  after : {z : Float} → z ≡ cond (strictly most x y || zeros (not most) x y) x y → z ≡ held (beyond most) y x
+  after e = e ∙ ap (λ (b : Bool). cond b x y) (sym by_zeros)
+
+  pub holds_next : strictly most x y ≡ true → x ≡ held (beyond most) y x
+  holds_next h = after (ap (λ (b : Bool). cond (b || zeros (not most) x y) x y) (sym h))
+
+  module _ (X : fits binary64 x ≡ true) (Y : fits binary64 y ≡ true) where
+    pub holds_zero : eq x y ≡ true → to_bits binary64 x ≡ zero_bits (not most) → x ≡ held (beyond most) y x
+    holds_zero h e = after (takes_zero (not most) x y X Y (strictly most x y) h e)
+
+    pub holds_other_bits : strictly most x y ≡ false → (to_bits binary64 x ≡ zero_bits (not most) → ⊥) → y ≡ held (beyond most) y x
+    holds_other_bits l h = after (keeps_held (not most) x y X Y (strictly most x y) l h)
+
+    pub holds_unequal : strictly most x y ≡ false → eq x y ≡ false → y ≡ held (beyond most) y x
+    holds_unequal l h = after (keeps_unequal (not most) x y X Y (strictly most x y) l h)

@@ -5,5 +5,6 @@ pub mod constant;
 pub mod extremum;
 pub mod modulo;
 pub mod root;
+mod scaled;
 pub mod value;
 pub mod whole;

@@ -3,9 +3,13 @@ ghost use Rattle.std.specs.Prelude.{◌≡◌, ◌+◌, ◌*◌, ◌/◌, ◌^�
 ghost use Rattle.std.specs.Float.{binary64};
 ghost use Rattle.arithmetic.specs.Root.{sqrt};
 ghost use Rattle.rounding.specs.Square.{Root};
-ghost use Rattle.floats.specs.Fields.{magnitude, infinity_bits};
+ghost use Rattle.floats.specs.Fields.{magnitude, infinity_bits, units};
 
+use crate::scaled::{LEADING, Scaled};
 use crate::value::{bits_of, of_bits};
+
+// 2^27, above every number of 27 digits.
+const DIGITS_27: u64 = 0x800_0000;
 
 // A number near m's root: a first guess at 1 / root from the bits, and three steps of Newton's.
 // Nothing rests on how near it is but the time that `whole_root` takes.
@@ -19,16 +23,7 @@ fn near_root(m: u64) -> u64
     let y = y * (1.5 - half * y * y);
     let y = y * (1.5 - half * y * y);
     let y = y * (1.5 - half * y * y);
-    let near = x * y;
-    if near > -1.0 {
-        if near < 18446744073709551616.0 {
-            let r = std::num::truncating_f64_to_u64(near);
-            if r < 0x800_0000 {
-                return r;
-            }
-        }
-    }
-    0x400_0000
+    std::num::saturating_f64_to_u64(x * y).min(DIGITS_27 - 1)
 }
 
 // The whole part of m's root.
@@ -53,43 +48,28 @@ fn long_root(m: u64) -> u64
     ensures { Root (m * 2 ^ 54) result }
 {
     let upper = whole_root(m);
-    let rest = (m - upper * upper) * 0x800_0000;
+    let rest = (m - upper * upper) * DIGITS_27;
     let twice = upper * 2;
     let lower = rest / twice;
-    let left = rest % twice * 0x800_0000;
+    let left = rest % twice * DIGITS_27;
     if left < lower * lower {
-        upper * 0x800_0000 + lower - 1
+        upper * DIGITS_27 + lower - 1
     } else {
-        upper * 0x800_0000 + lower
+        upper * DIGITS_27 + lower
     }
 }
 
 // digits * 2^exp is 2^52 times what the fields of b stand for, and digits has 53 binary digits.
-#[derive(Drop)]
-struct Normal {
-    digits: u64,
-    exp: u64,
-}
-
-fn normalised(b: u64) -> Normal
+fn normalised(b: u64) -> Scaled
     requires { (0 < b) × (b < infinity_bits) }
-    ensures { (2 ^ 52 ≤ result.digits) × (result.digits < 2 ^ 53) × (result.exp < 2098) × (result.digits * 2 ^ result.exp ≡ magnitude b * 2 ^ 52) }
+    ensures { (2 ^ 52 ≤ result.digits) × (result.digits < 2 ^ 53) × (result.exp < 2098) × (units result ≡ magnitude b * 2 ^ 52) }
 {
-    let field = b / 0x10_0000_0000_0000;
-    let low = b % 0x10_0000_0000_0000;
-    if 0 < field {
-        return Normal {
-            digits: low + 0x10_0000_0000_0000,
-            exp: field + 51,
-        };
+    let s = Scaled::of(b);
+    Scaled {
+        digits: s.digits,
+        exp: s.exp + 52,
     }
-    let mut digits = low;
-    let mut exp = 52u64;
-    while digits < 0x10_0000_0000_0000 {
-        digits *= 2;
-        exp -= 1;
-    }
-    Normal { digits, exp }
+    .raised()
 }
 
 // The digits for an even exponent: the same, or twice them.
@@ -107,23 +87,21 @@ fn root_bits(b: u64) -> u64
     ensures { (result < infinity_bits) × (from_bits binary64 result ≡ sqrt binary64 (from_bits binary64 b)) }
 {
     let s = normalised(b);
-    let digits = s.digits;
-    let exp = s.exp;
-    let r = long_root(evened(digits, exp));
-    (exp / 2 + 485) * 0x10_0000_0000_0000 + (r + 1) / 2
+    let r = long_root(evened(s.digits, s.exp));
+    (s.exp / 2 + 485) * LEADING + (r + 1) / 2
 }
 
 pub fn sqrt(x: f64) -> f64
     ensures { result ≡ sqrt binary64 x }
 {
     if 0.0 < x {
-        if x < f64::from_bits(0x7ff0_0000_0000_0000) {
-            f64::from_bits(root_bits(f64::to_bits(x)))
+        if x < f64::INFINITY {
+            f64::from_bits(root_bits(x.to_bits()))
         } else {
             x
         }
     } else if x < 0.0 {
-        0.0 / 0.0
+        f64::NAN
     } else {
         x
     }

@@ -3,21 +3,25 @@ ghost use Rattle.std.specs.Prelude.{◌≡◌, from_bits, to_bits};
 ghost use Rattle.std.specs.Float.{binary64};
 ghost use Rattle.arithmetic.specs.Value.{finite, absolute};
 
+// The bits of the infinity above all values, and the bit of a minus.
+pub const INFINITY_BITS: u64 = 0x7ff0_0000_0000_0000;
+
+pub const MINUS_BIT: u64 = 0x8000_0000_0000_0000;
+
 pub fn is_finite(x: f64) -> bool
     ensures { result ≡ finite x }
 {
-    let infinity = f64::from_bits(0x7ff0_0000_0000_0000);
-    if x < infinity { -infinity < x } else { false }
+    x.is_finite()
 }
 
 // The bits. "A NaN argument is shown as 7ff8000000000000."
 pub fn bits_of(x: f64) -> u64
     ensures { result ≡ to_bits binary64 x }
 {
-    if x != x {
+    if x.is_nan() {
         0x7ff8_0000_0000_0000
     } else {
-        f64::to_bits(x)
+        x.to_bits()
     }
 }
 
@@ -25,8 +29,8 @@ pub fn bits_of(x: f64) -> u64
 pub fn of_bits(n: u64) -> f64
     ensures { result ≡ from_bits binary64 n }
 {
-    if n % 0x8000_0000_0000_0000 > 0x7ff0_0000_0000_0000 {
-        0.0 / 0.0
+    if n % MINUS_BIT > INFINITY_BITS {
+        f64::NAN
     } else {
         f64::from_bits(n)
     }
@@ -36,9 +40,5 @@ pub fn of_bits(n: u64) -> f64
 pub fn abs(x: f64) -> f64
     ensures { result ≡ absolute x }
 {
-    if bits_of(x) < 0x8000_0000_0000_0000 {
-        x
-    } else {
-        -x
-    }
+    x.abs()
 }

@@ -1,14 +1,10 @@
-use Rattle.std.proofs.Common.{◌≡◌, refl, ap, ◌∙◌}
-use lib.Ieee.{nan, binary64, fits, of_bits, div, nan_bits}
+use Rattle.std.proofs.Common.{ap, ◌∙◌}
+use lib.Ieee.{binary64, fits, of_bits, div}
 use lib.Ieee.Bits.{of_bits-to_bits}
 use Rattle.arithmetic.specs.Root.{sqrt}
 use Rattle.floats.proofs.Zero.{held, above, below, still}
 use Rattle.floats.proofs.RootSteps.{positive_number, no_nan, bits_below, bits_above, no_nan_bits, sqrt_infinity, sqrt_below, sqrt_still}
 use Rattle.floats.proofs.root.sqrt.Goals as goal
-
-pub float_from_bits-t-4 : goal.float_from_bits-t-4
-unfolding nan_bits
-float_from_bits-t-4 c = tt
 
 pub float_to_bits-x : goal.float_to_bits-x
 unfolding of_bits
@@ -35,13 +31,9 @@ pub returns-else-x-2 : goal.returns-else-x-2
 unfolding of_bits
 returns-else-x-2 c = sqrt_infinity (above c.args.x c.if-x.true) c.if-x-2.false
 
-zero_by_zero : div binary64 (of_bits binary64 0) (of_bits binary64 0) ≡ nan
-unfolding div of_bits
-zero_by_zero = refl
-
 pub returns-then-x-3 : goal.returns-then-x-3
-unfolding of_bits
-returns-then-x-3 c = zero_by_zero ∙ sqrt_below (below c.args.x c.if-x-3.true)
+unfolding of_bits div
+returns-then-x-3 c = sqrt_below (below c.args.x c.if-x-3.true)
 
 pub returns-else-x-3 : goal.returns-else-x-3
 unfolding of_bits

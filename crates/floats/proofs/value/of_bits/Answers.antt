@@ -1,6 +1,6 @@
 use Rattle.std.proofs.Common.{◌≡◌, ℕ, ◌%◌, ◌<◌, not, T, sym, refl, ◌∙◌, subst, lt→ltb}
 use lib.Arith.{le→nltb}
-use lib.Ieee.{Float, nan, inf, fin, binary64, of_bits, is_nan, div}
+use lib.Ieee.{Float, nan, inf, fin, binary64, of_bits, is_nan}
 use lib.Ieee.Bits.{nan_bits_is, nan_bits_above}
 use Rattle.floats.proofs.value.of_bits.Goals as goal
 
@@ -14,11 +14,11 @@ at : (n : ℕ) → 9218868437227405312 < n % 9223372036854775808 → of_bits bin
 at n h = only_nan (of_bits binary64 n) (subst T (nan_bits_is binary64 n) (subst T (sym (nan_bits_above binary64 n)) (lt→ltb 9218868437227405312 (n % 9223372036854775808) h)))
 
 pub float_from_bits-result : goal.float_from_bits-result
-float_from_bits-result c = subst (λ b. T (not b)) (sym (nan_bits_above binary64 c.args.n)) (le→nltb 9218868437227405312 (c.args.n % 9223372036854775808) c.if-n-gt9218868437227405312.false)
+float_from_bits-result c = subst (λ b. T (not b)) (sym (nan_bits_above binary64 c.args.n)) (le→nltb 9218868437227405312 (c.args.n % 9223372036854775808) c.if-n-gt-INFINITY_BITS.false)
 
-zero_by_zero : div binary64 (of_bits binary64 0) (of_bits binary64 0) ≡ nan
-unfolding div of_bits
-zero_by_zero = refl
+quiet : of_bits binary64 9221120237041090560 ≡ nan
+unfolding of_bits
+quiet = refl
 
-pub returns-then-n-gt9218868437227405312 : goal.returns-then-n-gt9218868437227405312
-returns-then-n-gt9218868437227405312 c = zero_by_zero ∙ sym (at c.args.n c.if-n-gt9218868437227405312.true)
+pub returns-then-n-gt-INFINITY_BITS : goal.returns-then-n-gt-INFINITY_BITS
+returns-then-n-gt-INFINITY_BITS c = quiet ∙ sym (at c.args.n c.if-n-gt-INFINITY_BITS.true)

@@ -20,4 +20,4 @@ returns-then-is_finite c =
     ∙ whole_is binary64 args.x (held (fits binary64 args.x) good.0.1) (sym is_finite.ensures ∙ c.if-is_finite.true)
 
 pub returns-else-is_finite : goal.returns-else-is_finite
-returns-else-is_finite c = not_finite c.args.x (sym c.is_finite.ensures ∙ c.if-is_finite.false)
+returns-else-is_finite c = c.if-is_finite.false ∙ not_finite c.args.x (sym c.is_finite.ensures ∙ c.if-is_finite.false)
