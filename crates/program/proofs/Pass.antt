@@ -7,7 +7,7 @@ use native.Mathlib.Nat.{eq-or-lt_of_le}
 use Prim.Native.Nat.{ℕ, zero, suc, ◌+◌, ◌-◌, ◌*◌, ◌/◌, ◌≤◌, ◌<◌}
 use native.Mathlib.Numerals.{add-one}
 use native.Mathlib.Omega.{arith}
-use borrow.Author.Tests.{le-leb, le-ltb, leb-true, lt-leb, lt-ltb, ltb-true}
+use borrow.Author.Tests.{le-leb, leb-true, lt-leb, lt-ltb, ltb-true}
 use lib.ListN.{length}
 use lib.Dec.{eqb, eqb→eq, leb, ltb}
 use Rattle.formula.specs.Text.{byte_at, half_at, word_at}
@@ -18,11 +18,11 @@ use Rattle.layout.specs.Image.{magic}
 use Rattle.layout.specs.Decode.{code_count, destination_at, entry_at, entry_total, instructions, length_at, list_ok, no_program, op_at, path_number, path_of, path_total, program_at, raw_program, records_ok, register_total, result_at, slot_at, slot_ok, slots_ok, uses_a, uses_b, uses_c, uses_list, well_formed, zero_unless}
 use Rattle.paths.specs.Table.{Linked, length_in, path_in_table}
 use Rattle.program.specs.declared.Header.{Header}
-use Rattle.program.specs.Check.{Numbers, Read, Whole, header_ok, instruction_ok, instructions_ok, operands_ok, placed_ok}
+use Rattle.program.specs.Check.{Numbers, Whole, header_ok, instruction_ok, instructions_ok, operands_ok, placed_ok}
 use Rattle.program.proofs.Body.{code_length}
 use Rattle.program.proofs.Ops.{end_place}
-use Rattle.program.proofs.Records.{all_linked, length_read, length_same, path_same, record_place, records, text_length}
-use Rattle.program.proofs.Tests.{and_one}
+use Rattle.program.proofs.Records.{all_linked, length_same, path_same, records, text_length}
+use Rattle.program.proofs.Tests.{and_assoc, and_one}
 
 -- ---- an instruction
 
@@ -34,41 +34,11 @@ slot_path b n e =
     (and_r (ltb o 35 && eqb (byte_at b (slot_at n + 1)) 0 && zero_unless (uses_list o) (half_at b (slot_at n + 2)) && zero_unless (uses_a o) (word_at b (slot_at n + 8))
     && zero_unless (uses_b o) (word_at b (slot_at n + 12)) && zero_unless (uses_c o) (word_at b (slot_at n + 16))) _ e)
 
--- the list's length, as the first four bytes have it
-pub count_is : (b : List ℕ) (n slot head : ℕ) → slot ≡ slot_at n → Read b slot head → head / 65536 ≡ half_at b (slot_at n + 2)
-unfolding word_at
-count_is b n slot head e r =
-    let w : head ≡ half_at b (slot_at n) + 65536 * half_at b (slot_at n + 2) = r.is ∙ ap (word_at b) e in
-    let l : half_at b (slot_at n) < 65536 = rw e at r.low in
-    omega arith
-
 -- destination and path, as they are read
-module _ (b : List ℕ) (h : Header) (n slot : ℕ) (w : Whole b h) (e : slot ≡ slot_at n) {d : ℕ} (rd : Read b (slot + 4) d) where
-  destination_is : d ≡ destination_at b n
-  unfolding destination_at
-  destination_is = rd.is ∙ ap (λ (x : ℕ). word_at b (x + 4)) e
-
-  pub no_destination : h.registers ≤ d → false ≡ placed_ok b n
-  unfolding placed_ok
-  no_destination k = rw (le-ltb (destination_at b n) (register_total b) (omega (arith, destination_is, w.numbers.registers)))
-
-  module _ {k : ℕ} (rk : Read b (slot + 20) k) (l : d < h.registers) where
-    path_is : k ≡ path_number b n
-    unfolding path_number
-    path_is = rk.is ∙ ap (λ (x : ℕ). word_at b (x + 20)) e
-
-    there : ltb (destination_at b n) (register_total b) ≡ true
-    there = lt-ltb (destination_at b n) (register_total b) (omega (arith, destination_is, w.numbers.registers))
-
-    pub no_path : h.paths ≤ k → false ≡ placed_ok b n
-    unfolding placed_ok
-    no_path m = rw (there, le-ltb (path_number b n) (path_total b) (omega (arith, path_is, w.numbers.paths)))
-
-    pub placed_is : k < h.paths → {x : ℕ} → Read b (32 + 24 * h.code + 12 * k + 8) x → leb x 8192 ≡ placed_ok b n
-    unfolding placed_ok
-    placed_is m rx =
-        let f = length_read b k _ (ap (λ (y : ℕ). y + 8) (record_place b h k w.numbers)) rx.is ∙ ap (length_at b) path_is in
-        rw (there, lt-ltb (path_number b n) (path_total b) (omega (arith, path_is, w.numbers.paths)), f)
+pub placed_is : (b : List ℕ) (h : Header) (n slot d k : ℕ) → Numbers b h → slot ≡ slot_at n → d ≡ word_at b (slot + 4) → k ≡ word_at b (slot + 20)
+    → placed_ok b n ≡ (ltb d h.registers && ltb k h.paths && leb (length_at b k) 8192)
+unfolding placed_ok destination_at path_number
+placed_is b h n slot d k w es ed ek = rw (ed, ek, es, w.registers, w.paths) (sym (and_assoc (ltb (word_at b (slot_at n + 4)) (register_total b)) (ltb (word_at b (slot_at n + 20)) (path_total b)) (leb (length_at b (word_at b (slot_at n + 20))) 8192)))
 
 -- ---- all of them
 
@@ -198,18 +168,17 @@ module _ (b : List ℕ) where
   pub valid_records : valid (program_at b) ≡ true → records_ok b (path_total b) 0 ≡ true
   valid_records v = and_l _ _ (and_r (header_ok b) _ (valid_is ∙ v))
 
--- all parts are there
-header_room : (b : List ℕ) → header_ok b ≡ true → entry_at b (entry_total b) ≤ length b
-unfolding header_ok
-header_room b e =
-    leb-true _ _ (and_l _ _ (and_r (ltb (word_at b 20) 2) _ (and_r (eqb (word_at b 0) magic) _ (and_r (leb 32 (length b)) _ e))))
+-- ---- the header
 
-pub whole_from : (b : List ℕ) (h : Header) → Numbers b h → header_ok b ≡ true → Whole b h
-whole_from b h w e = record { numbers = w; room = omega (arith, end_place b h w, header_room b e) }
-
-pub short_header : (b : List ℕ) → length b < 32 → false ≡ header_ok b
+pub short_header : (b : List ℕ) → length b < 32 → header_ok b ≡ false
 unfolding header_ok
 short_header b l = rw (lt-leb 32 (length b) l)
+
+-- the test of the header, by the numbers that were read
+pub header_is : (b : List ℕ) (h : Header) → Numbers b h → 32 ≤ length b
+    → header_ok b ≡ (eqb (word_at b 0) magic && (ltb (word_at b 20) 2 && (leb (32 + 24 * h.code + 12 * h.paths + 4 * h.entries) (length b) && (ltb 0 h.code && ltb (word_at b 12) h.registers))))
+unfolding header_ok result_at
+header_is b h w l = rw (le-leb 32 (length b) l, end_place b h w, w.code, w.registers)
 
 -- ---- the table that the paths' text is written from
 

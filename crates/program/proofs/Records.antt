@@ -1,11 +1,11 @@
 -- The path records, and the lengths that they store.
 use mathlib.Core.Path.{◌≡◌, refl, sym, ap, ap₂, ◌∙◌}
-use mathlib.Core.Bool.{Bool, true, false, cond, ◌&&◌}
+use mathlib.Core.Bool.{Bool, true, cond, ◌&&◌}
 use mathlib.Core.List.{List}
 use Prim.Native.Nat.{ℕ, zero, suc, ◌+◌, ◌-◌, ◌*◌, ◌≤◌, ◌<◌}
 use native.Mathlib.Numerals.{add-one}
 use native.Mathlib.Omega.{arith}
-use borrow.Author.Tests.{le-ltb, lt-ltb, ne_eqb}
+use borrow.Author.Tests.{ne_eqb}
 use lib.ListN.{length}
 use lib.Dec.{eqb, ltb}
 use Rattle.formula.specs.Text.{word_at}
@@ -17,7 +17,6 @@ use Rattle.paths.specs.Table.{Linked, climbed, length_in, linked, parent_in, pat
 use Rattle.paths.proofs.Climb.{path_length}
 use Rattle.program.specs.declared.Header.{Header}
 use Rattle.program.specs.Check.{Numbers}
-use Rattle.program.proofs.Tests.{and_assoc, one_of}
 use Rattle.layout.proofs.Frames.{record_is_ok}
 
 module _ (b : List ℕ) where
@@ -31,45 +30,27 @@ module _ (b : List ℕ) where
 
   -- ---- a record's test
 
-  pub root_is : (at : ℕ) → at ≡ record_at b 0 → (eqb (word_at b at) 0 && (eqb (word_at b (at + 4)) 0 && eqb (word_at b (at + 8)) 4)) ≡ record_ok b 0
-  unfolding record_ok length_at
-  root_is at e = rw e (sym (and_assoc (eqb (word_at b (record_at b 0)) 0) (eqb (word_at b (record_at b 0 + 4)) 0) (eqb (word_at b (record_at b 0 + 8)) 4)))
-
-  pub late_is : (k parent : ℕ) → (k ≡ 0 → ⊥) → parent ≡ parent_at b k → k ≤ parent → false ≡ record_ok b k
+  pub root_is : (at : ℕ) → at ≡ record_at b 0 → record_ok b 0 ≡ (eqb (word_at b at) 0 && eqb (word_at b (at + 4)) 0 && eqb (length_at b 0) 4)
   unfolding record_ok
-  late_is k parent z e h = let g : ltb (parent_at b k) k ≡ false = le-ltb (parent_at b k) k (omega arith) in rw (ne_eqb k 0 z, g)
+  root_is at e = rw e
 
-  pub record_is : (k parent len before s : ℕ) → (k ≡ 0 → ⊥) → parent ≡ parent_at b k → parent < k → len ≡ length_at b k → before ≡ length_at b parent
-      → s ≡ length (step_text (step_at b k)) → eqb len (before + s) ≡ record_ok b k
-  unfolding record_ok
-  record_is k parent len before s z e h f g i =
-      let q : ltb (parent_at b k) k ≡ true = lt-ltb (parent_at b k) k (omega arith) in
-      let g' : before ≡ length_at b (parent_at b k) = g ∙ ap (length_at b) e in
-      rw (ne_eqb k 0 z, q, f, g', i)
-
-  pub parent_read : (k at : ℕ) {x : ℕ} → at ≡ record_at b k → x ≡ word_at b at → x ≡ parent_at b k
-  unfolding parent_at
-  parent_read k at e f = f ∙ ap (word_at b) e
+  pub record_is : (k at : ℕ) → 0 < k → at ≡ record_at b k
+      → record_ok b k ≡ (ltb (word_at b at) k && eqb (word_at b (at + 8)) (length_at b (word_at b at) + length (step_text (step_of (word_at b (at + 4))))))
+  unfolding record_ok parent_at step_at length_at
+  record_is k at z e = rw (ne_eqb k 0 (λ y. omega arith), e)
 
   pub length_read : (k at : ℕ) {x : ℕ} → at ≡ record_at b k + 8 → x ≡ word_at b at → x ≡ length_at b k
   unfolding length_at
   length_read k at e f = f ∙ ap (word_at b) e
-
-  pub step_read : (k at s w : ℕ) → at ≡ record_at b k + 4 → w ≡ word_at b at → s ≡ length (step_text (step_of w)) → s ≡ length (step_text (step_at b k))
-  unfolding step_at
-  step_read k at s w e f g = g ∙ ap (λ (x : ℕ). length (step_text (step_of x))) (f ∙ ap (word_at b) e)
 
   -- ---- all of them
 
   unfoldable pub records_left : ℕ → Bool
   records_left k = records_ok b (path_total b - k) k
 
-  pub records_first : records_left 1 ≡ records_ok b (path_total b - 1) 1
+  pub records_start : 0 < path_total b → record_ok b 0 ≡ true → records_ok b (path_total b) 0 ≡ records_left 1
   unfolding records_left
-  records_first = refl
-
-  pub records_some : 0 < path_total b → (record_ok b 0 && records_ok b (path_total b - 1) 1) ≡ records_ok b (path_total b) 0
-  records_some h = let e : path_total b ≡ suc (path_total b - 1) = omega arith in sym (ap (λ (x : ℕ). records_ok b x 0) e)
+  records_start h ok = let e : path_total b ≡ suc (path_total b - 1) = omega arith in ap (λ (x : ℕ). records_ok b x 0) e ∙ rw ok
 
   pub records_step : (k : ℕ) → k < path_total b → records_left k ≡ (record_ok b k && records_left (k + 1))
   unfolding records_left
@@ -117,8 +98,3 @@ module _ (b : List ℕ) where
 
   pub text_length : records_ok b (path_total b) 0 ≡ true → (k : ℕ) → k < path_total b → length (text (path_of b k)) ≡ length_at b k
   text_length ok k h = ap (λ (p : Path). length (text p)) (sym (path_same k)) ∙ path_length b records k (all_linked ok k h) ∙ length_same k
-
--- a step to one of the first ten arguments
-pub short_step : (step : ℕ) → 3 ≤ step → step < 13 → 13 ≡ length (step_text (step_of step))
-short_step step h l =
-    one_of (λ (m : ℕ). 13 ≡ length (step_text (step_of m))) 10 3 step h l (refl, (refl, (refl, (refl, (refl, (refl, (refl, (refl, (refl, (refl, tt))))))))))

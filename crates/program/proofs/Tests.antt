@@ -6,7 +6,7 @@ use Prim.Native.Nat.{ℕ, zero, suc, ◌+◌, ◌≤◌, ◌<◌}
 use native.Mathlib.Nat.{eq-or-lt_of_le}
 use native.Mathlib.Numerals.{add-one}
 use native.Mathlib.Omega.{arith}
-use borrow.Author.Tests.{eq-eqb, le-leb, le-ltb, lt-leb, lt-ltb, ne_eqb}
+use borrow.Author.Tests.{le-ltb, ne_eqb}
 use lib.Dec.{eqb, leb, leb-suc-suc, ltb}
 pub use Rattle.formula.proofs.Tests.{and_one}
 use Rattle.machine.proofs.Laws.{and_false}
@@ -16,26 +16,6 @@ both {b} e t f = f ∙ sym (ap (λ y. y && b) (sym e ∙ t))
 
 pub stop : {x a : Bool} (b : Bool) → x ≡ a → x ≡ false → x ≡ (a && b)
 stop b e f = f ∙ sym (ap (λ y. y && b) (sym e ∙ f))
-
--- ---- a test of x, which is w: the tests after it count where it holds
-
-pub same_yes : {x w : ℕ} (k : ℕ) {r b : Bool} → x ≡ w → x ≡ k → r ≡ b → r ≡ (eqb w k && b)
-same_yes {w} k {b} e t f = f ∙ sym (ap (λ y. y && b) (eq-eqb w k (sym e ∙ t)))
-
-pub same_no : {x w : ℕ} (k : ℕ) (b : Bool) → x ≡ w → (x ≡ k → ⊥) → eqb x k ≡ (eqb w k && b)
-same_no {x} {w} k b e f = ne_eqb x k f ∙ sym (ap (λ y. y && b) (ne_eqb w k (λ z. f (e ∙ z))))
-
-pub less_yes : {x w : ℕ} (k : ℕ) {r b : Bool} → x ≡ w → x < k → r ≡ b → r ≡ (ltb w k && b)
-less_yes {w} k {b} e t f = f ∙ sym (ap (λ y. y && b) (lt-ltb w k (omega arith)))
-
-pub less_no : {x w : ℕ} (k : ℕ) (b : Bool) → x ≡ w → k ≤ x → ltb x k ≡ (ltb w k && b)
-less_no {x} {w} k b e t = le-ltb x k t ∙ sym (ap (λ y. y && b) (le-ltb w k (omega arith)))
-
-pub most_yes : (x k : ℕ) {r b : Bool} → x ≤ k → r ≡ b → r ≡ (leb x k && b)
-most_yes x k {b} t f = f ∙ sym (ap (λ y. y && b) (le-leb x k t))
-
-pub most_no : (x k : ℕ) (b : Bool) → k < x → leb x k ≡ (leb x k && b)
-most_no x k b t = lt-leb x k t ∙ sym (ap (λ y. y && b) (lt-leb x k t))
 
 -- ---- joined tests
 

@@ -1,6 +1,6 @@
 -- "10, not a program", as one pass over the bytes finds it.
 use Rattle.std.specs.Prelude.{◌≡◌, Bool, ◌&&◌, List, ℕ, zero, suc, ◌+◌, ◌*◌, ◌≤◌, ◌<◌, length, eqb, leb, ltb}
-use Rattle.formula.specs.Text.{half_at, word_at}
+use Rattle.formula.specs.Text.{byte_at, half_at, word_at}
 use Rattle.formula.specs.Path.{path_room}
 use Rattle.machine.specs.Program.{op_allowed}
 use Rattle.layout.specs.Image.{magic}
@@ -37,12 +37,6 @@ instructions_ok b (suc left) n next = instruction_ok b n next && instructions_ok
 
 -- ---- what was read
 
--- a number of 4 bytes, the lower two of which are a number of 2 bytes
-pub record Read (b : List ℕ) (at r : ℕ) : Type 0 where
-  pub is : r ≡ word_at b at
-  pub small : r < 4294967296
-  pub low : half_at b at < 65536
-
 -- the header's numbers
 pub record Numbers (b : List ℕ) (h : Header) : Type 0 where
   pub code : h.code ≡ code_count b
@@ -59,13 +53,15 @@ pub record FitsHeader (h : Header) : Type 0 where
 -- all parts are there
 pub record Whole (b : List ℕ) (h : Header) : Type 0 where
   pub numbers : Numbers b h
+  pub fits : FitsHeader h
   pub room : 32 + 24 * h.code + 12 * h.paths + 4 * h.entries ≤ length b
 
--- instruction n, where it begins, its first four bytes, and how many entries the lists before it have; its path is there
-pub record Slot (b : List ℕ) (h : Header) (n slot head next : ℕ) : Type 0 where
+-- instruction n: where it begins, its opcode and the zero after it as one number, its count, and how many entries the lists before it have
+pub record Slot (b : List ℕ) (h : Header) (n slot opcode count next : ℕ) : Type 0 where
   pub whole : Whole b h
   pub inside : n < h.code
   pub place : slot ≡ slot_at n
-  pub read : Read b slot head
-  pub path : path_number b n < path_total b
+  pub opcode_read : opcode ≡ half_at b slot
+  pub count_read : count ≡ half_at b (slot + 2)
+  pub count_small : count < 65536
   pub fits : next ≤ h.entries

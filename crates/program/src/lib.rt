@@ -3,28 +3,23 @@
 // instruction at all, a register, input, list or target outside its range (a target may be the code's end), a jump not
 // forward, or a path above 8,192 bytes". Each record, instruction and list entry is looked at once. The header tells how
 // long the whole is; after one test of that length every field is known to be there.
-ghost use Rattle.std.specs.Prelude.{◌≡◌, true, ◌&&◌, ◌+◌, ◌*◌, ◌-◌, ◌<◌, ◌≤◌, ltb, length};
+ghost use Rattle.std.specs.Prelude.{◌≡◌, true, false, ◌&&◌, ◌+◌, ◌*◌, ◌-◌, ◌<◌, ◌≤◌, ltb, length, MatchOption};
 ghost use Rattle.std.proofs.Math.Option.{some};
 ghost use Rattle.formula.specs.Text.{word_at};
 ghost use Rattle.formula.specs.Path.{placed, step_text};
 ghost use Rattle.machine.specs.Program.{all_below, valid};
 ghost use Rattle.layout.specs.Opcode.{step_of};
-ghost use Rattle.layout.specs.Decode.{code_count, entries_from, length_at, path_of, path_total, program_at, record_ok, records_ok};
-ghost use Rattle.program.specs.Check.{FitsHeader, Numbers, Read, Slot, Whole, fields_below, header_ok, instruction_ok, instructions_ok, operands_ok, placed_ok};
+ghost use Rattle.layout.specs.Decode.{code_count, entries_from, length_at, path_number, path_of, path_total, program_at, record_ok, records_ok};
+ghost use Rattle.program.specs.Check.{FitsHeader, Numbers, Slot, Whole, fields_below, header_ok, instruction_ok, instructions_ok, operands_ok, placed_ok};
 
 use layout::{
     CODE_AT, ENTRIES_AT, ENTRY_SIZE, HEADER_SIZE, INPUTS_AT, KIND_AT, PATHS_AT, RECORD_SIZE,
     REGISTERS_AT, RESULT_AT, SLOT_SIZE,
 };
-use reader::known_half;
+use reader::{known_half, known_word};
 
-// A number of 4 bytes that are there: one load, without a test.
-fn field(p: &[u8], at: usize) -> usize
-    requires { at + 4 ≤ length p.now }
-    ensures { Read p.now at result }
-{
-    known_half(p, at) + 65536 * known_half(p, at + 2)
-}
+// "VBR1", as a number of 4 bytes.
+const MAGIC: usize = 0x3152_4256;
 
 // ---- header
 
@@ -38,262 +33,269 @@ struct Header {
     entries: usize,
 }
 
-fn read_header(p: &[u8]) -> Header
-    requires { 32 ≤ length p.now }
-    ensures { Numbers p.now result × FitsHeader result }
-{
-    Header {
-        code: field(p, CODE_AT),
-        registers: field(p, REGISTERS_AT),
-        inputs: field(p, INPUTS_AT),
-        paths: field(p, PATHS_AT),
-        entries: field(p, ENTRIES_AT),
+impl Header {
+    fn read(p: &[u8]) -> Header
+        requires { 32 ≤ length p.now }
+        ensures { Numbers p.now result × FitsHeader result }
+    {
+        Header {
+            code: known_word(p, CODE_AT),
+            registers: known_word(p, REGISTERS_AT),
+            inputs: known_word(p, INPUTS_AT),
+            paths: known_word(p, PATHS_AT),
+            entries: known_word(p, ENTRIES_AT),
+        }
+    }
+
+    // How many bytes header, instructions, records and list entries have.
+    fn size(self) -> usize
+        requires { FitsHeader self }
+        ensures { result ≡ 32 + 24 * self.code + 12 * self.paths + 4 * self.entries }
+    {
+        HEADER_SIZE + SLOT_SIZE * self.code + RECORD_SIZE * self.paths + ENTRY_SIZE * self.entries
     }
 }
 
-fn header_ok(p: &[u8], h: Header) -> bool
-    requires { (32 ≤ length p.now) × Numbers p.now h × FitsHeader h }
-    ensures { result ≡ header_ok p.now }
-{
-    if field(p, 0) != 0x3152_4256 {
-        return false;
-    }
-    if 1 < field(p, KIND_AT) {
-        return false;
-    }
-    if p.len() < HEADER_SIZE + SLOT_SIZE * h.code + RECORD_SIZE * h.paths + ENTRY_SIZE * h.entries {
-        return false;
-    }
-    0 < h.code && field(p, RESULT_AT) < h.registers
+// Bytes whose parts, as the header counts them, are all there.
+#[derive(Clone, Copy)]
+struct Image<'a> {
+    bytes: &'a [u8],
+    header: Header,
+    ghost whole: { Whole bytes.now header },
 }
 
-// ---- path records
+impl<'a> Image<'a> {
+    // The bytes, where magic, kind, length and result are those of a program.
+    fn new(bytes: &'a [u8]) -> Option<Image<'a>>
+        ensures { MatchOption result (header_ok bytes.now ≡ false) (λ i. (header_ok bytes.now ≡ true) × (i.bytes.now ≡ bytes.now)) }
+    {
+        if bytes.len() < HEADER_SIZE {
+            return None;
+        }
+        let header = Header::read(bytes);
+        if known_word(bytes, 0) != MAGIC || known_word(bytes, KIND_AT) > 1 {
+            return None;
+        }
+        if bytes.len() < header.size() {
+            return None;
+        }
+        if header.code == 0 || known_word(bytes, RESULT_AT) >= header.registers {
+            return None;
+        }
+        Some(Image { bytes, header })
+    }
+
+    // ---- path records
+
+    // The byte that record k begins at.
+    fn record(&self, k: usize) -> usize
+        requires { k ≤ self.now.header.paths }
+        ensures { result ≡ 32 + 24 * self.now.header.code + 12 * k }
+    {
+        HEADER_SIZE + SLOT_SIZE * self.header.code + RECORD_SIZE * k
+    }
+
+    // How many bytes the text of path k has, as its record tells.
+    fn path_length(&self, k: usize) -> usize
+        requires { k < self.now.header.paths }
+        ensures { (result ≡ length_at self.now.bytes.now k) × (result < 4294967296) }
+    {
+        known_word(self.bytes, self.record(k) + 8)
+    }
+
+    fn root_ok(&self) -> bool
+        requires { 0 < self.now.header.paths }
+        ensures { result ≡ record_ok self.now.bytes.now 0 }
+    {
+        let at = self.record(0);
+        known_word(self.bytes, at) == 0
+            && known_word(self.bytes, at + 4) == 0
+            && self.path_length(0) == 4
+    }
+
+    // Record k, which begins at a byte, is not the root's.
+    fn record_ok(&self, k: usize, at: usize) -> bool
+        requires { (0 < k) × (k < self.now.header.paths) × (at ≡ 32 + 24 * self.now.header.code + 12 * k) }
+        ensures { result ≡ record_ok self.now.bytes.now k }
+    {
+        let parent = known_word(self.bytes, at);
+        parent < k
+            && known_word(self.bytes, at + 8)
+                == self.path_length(parent) + step_length(known_word(self.bytes, at + 4))
+    }
+
+    fn records_ok(&self) -> bool
+        ensures { result ≡ records_ok self.now.bytes.now (path_total self.now.bytes.now) 0 }
+    {
+        if self.header.paths == 0 {
+            return true;
+        }
+        if !self.root_ok() {
+            return false;
+        }
+        // The place goes along with k: computed from it, the check takes 7 to 17 per cent more machine instructions.
+        let mut at = self.record(1);
+        for k in 1..self.header.paths {
+            if !self.record_ok(k, at) {
+                return false;
+            }
+            at += RECORD_SIZE;
+        }
+        true
+    }
+
+    // ---- instructions
+
+    fn instructions_ok(&self) -> bool
+        ensures { result ≡ instructions_ok self.now.bytes.now (code_count self.now.bytes.now) 0 0 }
+    {
+        // The place goes along with n, as with the records.
+        let mut slot = HEADER_SIZE;
+        let mut next = 0;
+        for number in 0..self.header.code {
+            let instruction = Instruction {
+                image: *self,
+                number,
+                slot,
+                opcode: known_half(self.bytes, slot),
+                count: known_half(self.bytes, slot + 2),
+                next,
+            };
+            if !instruction.is_ok() {
+                return false;
+            }
+            next += instruction.count;
+            slot += SLOT_SIZE;
+        }
+        next == self.header.entries
+    }
+}
 
 // How many bytes the text of a step has; most steps are one of the first ten arguments.
 fn step_length(step: usize) -> usize
     requires { step < 4294967296 }
     ensures { (result ≡ length (step_text (step_of step))) × (result ≤ 8589934592) }
 {
-    if 3 <= step {
-        if step < 13 {
-            return 13;
+    match step {
+        3..=12 => 13,
+        _ => paths::step_length(step),
+    }
+}
+
+// An instruction: where it begins, its opcode, the count of its list, and how many entries the lists before it have. The
+// opcode is read with the zero after it.
+#[derive(Clone, Copy)]
+struct Instruction<'a> {
+    image: Image<'a>,
+    number: usize,
+    slot: usize,
+    opcode: usize,
+    count: usize,
+    next: usize,
+    ghost is: { Slot image.bytes.now image.header number slot opcode count next },
+}
+
+impl Instruction<'_> {
+    fn field(&self, offset: usize) -> usize
+        requires { offset ≤ 20 }
+        ensures { (result ≡ word_at self.now.image.bytes.now (self.now.slot + offset)) × (result < 4294967296) }
+    {
+        known_word(self.image.bytes, self.slot + offset)
+    }
+
+    // The destination and the path are there.
+    fn placed_ok(&self) -> bool
+        ensures { result ≡ placed_ok self.now.image.bytes.now self.now.number }
+    {
+        let path = self.field(20);
+        self.field(4) < self.image.header.registers
+            && path < self.image.header.paths
+            && self.image.path_length(path) <= 8192
+    }
+
+    // The fields a, b and c are below these limits; one that is unused is zero, so below 1.
+    fn below(&self, a: usize, b: usize, c: usize) -> bool
+        ensures { result ≡ fields_below self.now.image.bytes.now self.now.slot a b c }
+    {
+        self.field(8) < a && self.field(12) < b && self.field(16) < c
+    }
+
+    // A jump goes forward, to the code's end at most.
+    fn jump_ok(&self, a: usize) -> bool
+        ensures { result ≡ (ltb self.now.number (word_at self.now.image.bytes.now (self.now.slot + 16)) && fields_below self.now.image.bytes.now self.now.slot a 1 (self.now.image.header.code + 1)) }
+    {
+        self.number < self.field(16) && self.below(a, 1, self.image.header.code + 1)
+    }
+
+    // All registers of the list from entry `next` on are there.
+    fn list_below(&self) -> bool
+        requires { self.now.next + self.now.count ≤ self.now.image.header.entries }
+        ensures { result ≡ all_below self.now.image.header.registers (entries_from self.now.image.bytes.now self.now.count self.now.next) }
+    {
+        let first = self.image.record(self.image.header.paths) + ENTRY_SIZE * self.next;
+        for i in 0..self.count {
+            if known_word(self.image.bytes, first + ENTRY_SIZE * i) >= self.image.header.registers {
+                return false;
+            }
+        }
+        true
+    }
+
+    // Min and Max: the list begins where the last one ended, and has two entries at least. No other opcode has a count.
+    fn list_ok(&self) -> bool
+        requires { (0 < self.now.count) × (path_number self.now.image.bytes.now self.now.number < path_total self.now.image.bytes.now) }
+        ensures { result ≡ operands_ok self.now.image.bytes.now self.now.number self.now.next }
+    {
+        31 <= self.opcode
+            && self.opcode <= 32
+            && self.field(12) == 0
+            && self.field(16) == 0
+            && self.field(8) == self.next
+            && 2 <= self.count
+            && self.next + self.count <= self.image.header.entries
+            && self.list_below()
+    }
+
+    // What the operation reads is there, and a jump goes forward.
+    fn operands_ok(&self) -> bool
+        requires { path_number self.now.image.bytes.now self.now.number < path_total self.now.image.bytes.now }
+        ensures { result ≡ operands_ok self.now.image.bytes.now self.now.number self.now.next }
+    {
+        if self.count > 0 {
+            return self.list_ok();
+        }
+        let registers = self.image.header.registers;
+        match self.opcode {
+            // a constant
+            0 => self.field(16) == 0,
+            // a load
+            1 => self.below(self.image.header.inputs, 1, 1),
+            // the jumps
+            3 => self.jump_ok(registers),
+            4 => self.jump_ok(1),
+            // a copy, and the operations of one register, of two and of three
+            2 | 5..=7 | 20..=30 => self.below(registers, 1, 1),
+            8..=19 => self.below(registers, registers, 1),
+            33..=34 => self.below(registers, registers, registers),
+            _ => false,
         }
     }
-    paths::step_length(step)
-}
 
-fn root_ok(p: &[u8], h: Header) -> bool
-    requires { Whole p.now h × (0 < h.paths) }
-    ensures { result ≡ record_ok p.now 0 }
-{
-    let at = HEADER_SIZE + SLOT_SIZE * h.code;
-    field(p, at) == 0 && (field(p, at + 4) == 0 && field(p, at + 8) == 4)
-}
-
-// Record k, which begins at a byte, is not the root's.
-fn record_ok(p: &[u8], h: Header, k: usize, at: usize) -> bool
-    requires { Whole p.now h × (0 < k) × (k < h.paths) × (at ≡ 32 + 24 * h.code + 12 * k) }
-    ensures { result ≡ record_ok p.now k }
-{
-    let parent = field(p, at);
-    if k <= parent {
-        return false;
+    fn is_ok(&self) -> bool
+        ensures { result ≡ instruction_ok self.now.image.bytes.now self.now.number self.now.next }
+    {
+        self.placed_ok() && self.operands_ok()
     }
-    let before = field(
-        p,
-        HEADER_SIZE + SLOT_SIZE * h.code + RECORD_SIZE * parent + 8,
-    );
-    field(p, at + 8) == before + step_length(field(p, at + 4))
-}
-
-fn later_records_ok(p: &[u8], h: Header) -> bool
-    requires { Whole p.now h × (0 < h.paths) }
-    ensures { result ≡ records_ok p.now (path_total p.now - 1) 1 }
-{
-    let paths = h.paths;
-    let mut k = 1;
-    let mut at = HEADER_SIZE + SLOT_SIZE * h.code + RECORD_SIZE;
-    while k < paths {
-        let ok = record_ok(p, h, k, at);
-        if ok {
-            k += 1;
-            at += RECORD_SIZE;
-        } else {
-            return false;
-        }
-    }
-    true
-}
-
-fn all_records_ok(p: &[u8], h: Header) -> bool
-    requires { Whole p.now h }
-    ensures { result ≡ records_ok p.now (path_total p.now) 0 }
-{
-    if h.paths == 0 {
-        return true;
-    }
-    root_ok(p, h) && later_records_ok(p, h)
-}
-
-// ---- instructions
-
-// The destination and the path of instruction n, which begins at the byte `slot`, are there.
-fn placed_ok(p: &[u8], h: Header, n: usize, slot: usize) -> bool
-    requires { Whole p.now h × (n < h.code) × (slot ≡ 32 + 24 * n) }
-    ensures { result ≡ placed_ok p.now n }
-{
-    if h.registers <= field(p, slot + 4) {
-        return false;
-    }
-    let path = field(p, slot + 20);
-    if h.paths <= path {
-        return false;
-    }
-    field(p, HEADER_SIZE + SLOT_SIZE * h.code + RECORD_SIZE * path + 8) <= 8192
-}
-
-// The fields a, b and c are below these limits; one that is unused is zero, so below 1.
-fn below(p: &[u8], slot: usize, a: usize, b: usize, c: usize) -> bool
-    requires { slot + 24 ≤ length p.now }
-    ensures { result ≡ fields_below p.now slot a b c }
-{
-    field(p, slot + 8) < a && (field(p, slot + 12) < b && field(p, slot + 16) < c)
-}
-
-// A jump of instruction n goes forward, to the code's end at most.
-fn jump_ok(p: &[u8], h: Header, n: usize, slot: usize, a: usize) -> bool
-    requires { Whole p.now h × (slot + 24 ≤ length p.now) }
-    ensures { result ≡ (ltb n (word_at p.now (slot + 16)) && fields_below p.now slot a 1 (h.code + 1)) }
-{
-    n < field(p, slot + 16) && below(p, slot, a, 1, h.code + 1)
-}
-
-// Opcodes below 8: constant, load, copy, the jumps, and the operations of one register.
-fn first_ok(p: &[u8], h: Header, n: usize, slot: usize, head: usize, next: usize) -> bool
-    requires { Slot p.now h n slot head next × (head < 8) }
-    ensures { result ≡ operands_ok p.now n next }
-{
-    if head == 1 {
-        return below(p, slot, h.inputs, 1, 1);
-    }
-    if head == 0 {
-        return field(p, slot + 16) == 0;
-    }
-    if head == 3 {
-        return jump_ok(p, h, n, slot, h.registers);
-    }
-    if head == 4 {
-        return jump_ok(p, h, n, slot, 1);
-    }
-    below(p, slot, h.registers, 1, 1)
-}
-
-// All registers of the list from entry `next` on are there.
-fn list_below(p: &[u8], h: Header, next: usize, count: usize) -> bool
-    requires { Whole p.now h × (next + count ≤ h.entries) }
-    ensures { result ≡ all_below h.registers (entries_from p.now count next) }
-{
-    let first = HEADER_SIZE + SLOT_SIZE * h.code + RECORD_SIZE * h.paths + ENTRY_SIZE * next;
-    let registers = h.registers;
-    let mut i = 0;
-    while i < count {
-        if field(p, first + ENTRY_SIZE * i) < registers {
-            i += 1;
-        } else {
-            return false;
-        }
-    }
-    true
-}
-
-// Min and Max: the list begins where the last one ended, and has two entries at least. No other opcode has a count.
-fn list_ok(p: &[u8], h: Header, n: usize, slot: usize, head: usize, next: usize) -> bool
-    requires { Slot p.now h n slot head next × (31 ≤ head) × (33 ≤ head → 35 ≤ head) }
-    ensures { result ≡ operands_ok p.now n next }
-{
-    let op = head % 65536;
-    if op < 31 {
-        return false;
-    }
-    if 32 < op {
-        return false;
-    }
-    let count = head / 65536;
-    field(p, slot + 12) == 0
-        && (field(p, slot + 16) == 0
-            && (field(p, slot + 8) == next
-                && (2 <= count && (next + count <= h.entries && list_below(p, h, next, count)))))
-}
-
-// Opcodes from 20 on: the calls of one register, of a list, of three registers.
-fn last_ok(p: &[u8], h: Header, n: usize, slot: usize, head: usize, next: usize) -> bool
-    requires { Slot p.now h n slot head next × (20 ≤ head) }
-    ensures { result ≡ operands_ok p.now n next }
-{
-    if head < 31 {
-        return below(p, slot, h.registers, 1, 1);
-    }
-    if 33 <= head {
-        if head < 35 {
-            return below(p, slot, h.registers, h.registers, h.registers);
-        }
-    }
-    list_ok(p, h, n, slot, head, next)
-}
-
-// What the operation reads is there, and a jump goes forward. The first four bytes tell the opcode: a zero and the count
-// of a list come after it.
-fn operands_ok(p: &[u8], h: Header, n: usize, slot: usize, head: usize, next: usize) -> bool
-    requires { Slot p.now h n slot head next }
-    ensures { result ≡ operands_ok p.now n next }
-{
-    if head < 8 {
-        return first_ok(p, h, n, slot, head, next);
-    }
-    if head < 20 {
-        return below(p, slot, h.registers, h.registers, 1);
-    }
-    last_ok(p, h, n, slot, head, next)
-}
-
-fn instruction_ok(p: &[u8], h: Header, n: usize, slot: usize, head: usize, next: usize) -> bool
-    requires { Whole p.now h × (n < h.code) × (slot ≡ 32 + 24 * n) × Read p.now slot head × (next ≤ h.entries) }
-    ensures { result ≡ instruction_ok p.now n next }
-{
-    placed_ok(p, h, n, slot) && operands_ok(p, h, n, slot, head, next)
-}
-
-fn all_instructions_ok(p: &[u8], h: Header) -> bool
-    requires { Whole p.now h }
-    ensures { result ≡ instructions_ok p.now (code_count p.now) 0 0 }
-{
-    let code = h.code;
-    let mut n = 0;
-    let mut slot = HEADER_SIZE;
-    let mut next = 0;
-    while n < code {
-        let head = field(p, slot);
-        let ok = instruction_ok(p, h, n, slot, head, next);
-        if ok {
-            next += head / 65536;
-            n += 1;
-            slot += SLOT_SIZE;
-        } else {
-            return false;
-        }
-    }
-    next == h.entries
 }
 
 // Whether the bytes are a program that may run.
 pub fn is_program(p: &[u8]) -> bool
     ensures { result ≡ valid (program_at p.now) }
 {
-    if p.len() < HEADER_SIZE {
-        return false;
+    match Image::new(p) {
+        Some(image) => image.records_ok() && image.instructions_ok(),
+        None => false,
     }
-    let h = read_header(p);
-    header_ok(p, h) && (all_records_ok(p, h) && all_instructions_ok(p, h))
 }
 
 // The text of the path whose record is k, then zeros to the slice's end. Where the bytes are no program, or the slice is
