@@ -4,7 +4,7 @@ use mathlib.Core.Bool.{Bool, true, false, cond, ◌&&◌}
 use mathlib.Core.List.{List}
 use mathlib.Core.Logic.{⊎_elim}
 use native.Mathlib.Nat.{eq-or-lt_of_le}
-use Prim.Native.Nat.{ℕ, zero, suc, ◌+◌, ◌-◌, ◌*◌, ◌/◌, ◌≤◌, ◌<◌}
+use Prim.Native.Nat.{ℕ, zero, suc, ◌+◌, ◌-◌, ◌*◌, ◌≤◌, ◌<◌}
 use native.Mathlib.Numerals.{add-one}
 use native.Mathlib.Omega.{arith}
 use borrow.Author.Tests.{le-leb, leb-true, lt-leb, lt-ltb, ltb-true}
@@ -18,7 +18,7 @@ use Rattle.layout.specs.Image.{magic}
 use Rattle.layout.specs.Decode.{code_count, destination_at, entry_at, entry_total, instructions, length_at, list_ok, no_program, op_at, path_number, path_of, path_total, program_at, raw_program, records_ok, register_total, result_at, slot_at, slot_ok, slots_ok, uses_a, uses_b, uses_c, uses_list, well_formed, zero_unless}
 use Rattle.paths.specs.Table.{Linked, length_in, path_in_table}
 use Rattle.program.specs.declared.Header.{Header}
-use Rattle.program.specs.Check.{Numbers, Whole, header_ok, instruction_ok, instructions_ok, operands_ok, placed_ok}
+use Rattle.program.specs.Check.{Numbers, header_ok, instruction_ok, instructions_ok, operands_ok, placed_ok}
 use Rattle.program.proofs.Body.{code_length}
 use Rattle.program.proofs.Ops.{end_place}
 use Rattle.program.proofs.Records.{all_linked, length_same, path_same, records, text_length}

@@ -1,6 +1,6 @@
 -- "10, not a program", as one pass over the bytes finds it.
 use Rattle.std.specs.Prelude.{◌≡◌, Bool, ◌&&◌, List, ℕ, zero, suc, ◌+◌, ◌*◌, ◌≤◌, ◌<◌, length, eqb, leb, ltb}
-use Rattle.formula.specs.Text.{byte_at, half_at, word_at}
+use Rattle.formula.specs.Text.{half_at, word_at}
 use Rattle.formula.specs.Path.{path_room}
 use Rattle.machine.specs.Program.{op_allowed}
 use Rattle.layout.specs.Image.{magic}
