@@ -107,15 +107,7 @@ pub fn same<T: Cell>(recorded: &[u8], numbers: &[T]) -> bool {
 
 // The number that hexadecimal digits write, the last 16 of them.
 pub fn hex(digits: &[u8]) -> Option<u64> {
-    let mut value: u64 = 0;
-    for byte in digits {
-        let digit = names::digit(*byte);
-        if digit == 16 {
-            return None;
-        }
-        value = value << 4 | digit;
-    }
-    Some(value)
+    digits.iter().try_fold(0u64, |value, byte| Some(value << 4 | names::digit(*byte)?))
 }
 
 // Reads standard input to the start of a buffer until that is full, the input ends or a read fails, and says how many bytes it read.

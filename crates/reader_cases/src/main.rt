@@ -8,6 +8,7 @@
 //   sNUMBER TEXT      a step of a path and its text, of which the length is compared
 //   dNUMBER           a number in decimal
 use cases::{Tally, holds};
+use names::Kind;
 use refusals::Refusal;
 use std::{io, iter};
 
@@ -81,19 +82,27 @@ fn same_repeated(told: &[u8], rest: &[u8], room: &mut [u8]) -> Option<bool> {
     Some(same_bytes(told, repeated(nodes, first, last, room)?))
 }
 
-// The kinds of the names are digits; there are none past the last name.
+fn digit_of(kind: Kind) -> u8 {
+    match kind {
+        Kind::Parameter => b'0',
+        Kind::State => b'1',
+        Kind::Time => b'2',
+        Kind::Input => b'3',
+    }
+}
+
+// The kinds of the names stand as digits, after a mark for a name line.
 fn same_names(told: &[u8], line: &[u8]) -> bool {
-    let names = names::read_names(line);
-    let [ok, digits @ ..] = told else {
-        return false;
-    };
-    let kinds = names.kinds;
-    let digits = digits.iter().copied().chain(iter::repeat(b'0'));
-    mark(names.ok) == *ok
-        && kinds
-            .iter()
-            .zip(digits)
-            .all(|(kind, digit)| *kind == digit.wrapping_sub(b'0'))
+    match (told, names::read_names(line)) {
+        ([b'1', digits @ ..], Some(names)) => {
+            let kinds = names.kinds;
+            let told = digits.iter().copied().chain(iter::repeat(b'0'));
+            names.count == digits.len()
+                && told.zip(kinds).all(|(digit, kind)| digit == digit_of(kind))
+        }
+        (b"0", None) => true,
+        _ => false,
+    }
 }
 
 fn same_digits(told: &[u8], text: &[u8]) -> bool {
