@@ -18,7 +18,9 @@ ghost use Rattle.lower.specs.Operators.{arity_at, gives_boolean, listing_at, opc
 
 use floats::value::{is_finite, of_bits};
 use layout::{ENTRY_SIZE, HEADER_SIZE, RECORD_SIZE, SLOT_SIZE};
-use reader::{Fields, NODE_SIZE};
+use reader::{
+    BINARY, BOOLEAN, CALL, COMPARE, CONDITIONAL, Fields, NODE_SIZE, NUMBER, SYMBOL, TRUTH, UNARY,
+};
 use refusals::Refusal;
 use writer::{put_half, put_long, put_word};
 
@@ -209,16 +211,36 @@ fn list_entry(p: &mut [u8], lists: bool, base: usize, entry: usize, reg: usize)
 
 // ---- operators, by kind and number
 
+const AND: u8 = 0;
+
+const NOT: u8 = 2;
+
+const MODULO: u8 = 5;
+
+const FLOOR: u8 = 9;
+
+const CEIL: u8 = 10;
+
+const MIN: u8 = 11;
+
+const MAX: u8 = 12;
+
+const HILL: u8 = 13;
+
+const IFELSE: u8 = 14;
+
+const DENSITY: u8 = 15;
+
 #[tactic(auto, unfolding(crate::specs::Operators::arity_at))]
 fn arity(kind: u8, operator: u8, n: usize) -> bool
     ensures { result ≡ arity_at kind operator n }
 {
-    if kind != 7 {
+    if kind != CALL {
         return true;
     }
     match operator {
-        11 | 12 => 2 <= n,
-        13 | 15 => n == 3,
+        MIN | MAX => 2 <= n,
+        HILL | DENSITY => n == 3,
         _ => n == 1,
     }
 }
@@ -227,28 +249,36 @@ fn arity(kind: u8, operator: u8, n: usize) -> bool
 fn takes(kind: u8, operator: u8) -> bool
     ensures { result ≡ takes_boolean kind operator }
 {
-    kind == 3 && operator == 2
+    kind == UNARY && operator == NOT
 }
 
 #[tactic(auto, unfolding(crate::specs::Operators::gives_boolean))]
 fn gives(kind: u8, operator: u8) -> bool
     ensures { result ≡ gives_boolean kind operator }
 {
-    kind == 3 && operator == 2 || kind == 5
+    match kind {
+        UNARY => operator == NOT,
+        COMPARE => true,
+        _ => false,
+    }
 }
 
 #[tactic(auto, unfolding(crate::specs::Operators::stepped_at))]
 fn stepped(kind: u8, operator: u8) -> bool
     ensures { result ≡ stepped_at kind operator }
 {
-    kind == 4 && operator == 5 || kind == 7 && (operator == 9 || operator == 10)
+    match kind {
+        BINARY => operator == MODULO,
+        CALL => operator == FLOOR || operator == CEIL,
+        _ => false,
+    }
 }
 
 #[tactic(auto, unfolding(crate::specs::Operators::listing_at))]
 pub fn listing(kind: u8, operator: u8) -> bool
     ensures { result ≡ listing_at kind operator }
 {
-    kind == 7 && (operator == 11 || operator == 12)
+    kind == CALL && (operator == MIN || operator == MAX)
 }
 
 // A conditional, or Ifelse.
@@ -256,7 +286,11 @@ pub fn listing(kind: u8, operator: u8) -> bool
 pub fn chooses(f: Fields) -> bool
     ensures { result ≡ chooses_at f.kind f.operator }
 {
-    f.kind == 8 || f.kind == 7 && f.operator == 14
+    match f.kind {
+        CONDITIONAL => true,
+        CALL => f.operator == IFELSE,
+        _ => false,
+    }
 }
 
 #[tactic(auto, unfolding(crate::specs::Operators::opcode_at))]
@@ -264,10 +298,10 @@ fn opcode(kind: u8, operator: u8) -> usize
     ensures { (result ≡ opcode_at kind operator) × (result ≤ 34 + operator) }
 {
     match kind {
-        3 => 5 + usize::from(operator),
-        4 => 8 + usize::from(operator),
-        5 => 14 + usize::from(operator),
-        _ if operator == 15 => 34,
+        UNARY => 5 + usize::from(operator),
+        BINARY => 8 + usize::from(operator),
+        COMPARE => 14 + usize::from(operator),
+        _ if operator == DENSITY => 34,
         _ => 20 + usize::from(operator),
     }
 }
@@ -363,13 +397,13 @@ impl Source<'_> {
         requires { Ready self.now.layout p.old s c.old 1 0 0 }
         ensures { Says (own_piece (context_of self.now.kinds.now self.now.layout.generated) (leaf f) (place self.now.layout p.old s) s.path c.old c.old.node) self.now.layout c.old p.old p.new (low_of result c.new) }
     {
-        if f.kind == 0 {
+        if f.kind == NUMBER {
             if !is_finite(of_bits(f.value)) {
                 return Err(s.fault(Refusal::OutsideDomain));
             }
             return Ok(constant(p, s, f.value, false, c));
         }
-        if f.kind == 1 {
+        if f.kind == TRUTH {
             return Ok(constant(p, s, truth(f.value == 1), true, c));
         }
         load(p, self.kinds, s, f.symbol, c)
@@ -445,16 +479,16 @@ impl Source<'_> {
     {
         let f = reader::node(self.bytes, c.node);
         c.node += NODE_SIZE;
-        if f.kind < 3 {
+        if f.kind <= SYMBOL {
             return self.leaf(p, s, f, c);
         }
         let below = levels - 1;
-        if f.kind == 6 {
+        if f.kind == BOOLEAN {
             if f.children < 2 {
                 return Err(s.fault(Refusal::InvalidInput));
             }
             let chain = Chain {
-                conjunction: f.operator == 0,
+                conjunction: f.operator == AND,
                 left: f.children,
             };
             return self.link(p, s, chain, below, c);
@@ -555,7 +589,7 @@ impl Source<'_> {
         join(p, s, v, y, z, e, c)
     }
 
-    // Some children of an operation; on the way back their registers go into its list.
+    // Some children of an operation, or none.
     #[cycle(lowering)]
     fn operands(
         &self,
@@ -578,6 +612,23 @@ impl Source<'_> {
                 dynamic: false,
             });
         }
+        self.operand(p, s, o, levels, c)
+    }
+
+    // The first of them, and those after it; on the way back their registers go into the operation's list.
+    #[cycle(lowering)]
+    fn operand(
+        &self,
+        p: &mut [u8],
+        s: Site,
+        o: Operands,
+        levels: usize,
+        c: &mut Cursor,
+    ) -> Result<Value, Fault>
+        requires ready { Ready self.now.layout p.old s c.old (instruction_counts (terms (kids self.now.bytes.now levels o.left c.old.node))) (path_counts (terms (kids self.now.bytes.now levels o.left c.old.node))) (entry_counts (terms (kids self.now.bytes.now levels o.left c.old.node)) + cond o.lists (o.first + o.left) 0) }
+        requires formed { (all_well_formed (kids self.now.bytes.now levels o.left c.old.node) ≡ true) × (o.first + o.left < 65536) × (1 ≤ o.left) }
+        ensures { Lists self.now.layout o.lists (terms (kids self.now.bytes.now levels o.left c.old.node)) o.first (operands_piece (context_of self.now.kinds.now self.now.layout.generated) o.boolean (terms (kids self.now.bytes.now levels o.left c.old.node)) (place self.now.layout p.old s) o.first s.path c.old (past self.now.bytes.now levels o.left c.old.node)) c.old p.old p.new (low_of result c.new) }
+    {
         let v = self.lower(p, s, 3 + o.first, CHILD, levels, c)?;
         let rest = Operands {
             first: o.first + 1,

@@ -1,6 +1,6 @@
 -- The counts of a node by those of its children, their bounds, and where nodes end.
 use mathlib.Core.Path.{◌≡◌, refl, sym, ap, ap₂, ◌∙◌, subst}
-use mathlib.Core.Bool.{Bool, true, false, cond}
+use mathlib.Core.Bool.{Bool, true, false, cond, not, ◌&&◌}
 use mathlib.Core.List.{List}
 use Prim.Native.Nat.{ℕ, zero, suc, ◌+◌, ◌-◌, ◌*◌, ◌^◌, ◌≤◌, ◌<◌}
 use native.Mathlib.Omega.{arith}
@@ -21,7 +21,7 @@ use Rattle.lower.specs.Piece.{arm, joined, junction_of, kids, leaf, past}
 use Rattle.lower.proofs.Kids.{Known, first_well, kids_none, kids_step, past_none, past_step, rest_well, stands}
 use Rattle.lower.proofs.Wholes as wholes
 use Rattle.tally.specs.declared.Counts.{Counts}
-use Rattle.tally.specs.Weight.{more, one, weight}
+use Rattle.tally.specs.Weight.{drops_at, more, one, weight}
 
 -- ---- where nodes end
 
@@ -182,16 +182,40 @@ module _ (b : List ℕ) (d at : ℕ) (f : Fields) (is_f : written f ≡ fields_a
 
 -- ---- the code's cases
 
+-- a node that keeps its children has as many as it should
+module _ (f : Fields) (kept : drops_at f ≡ false) where
+  pub kept_few : f.kind ≡ 6 → 2 ≤ f.children
+  unfolding drops_at
+  kept_few e = ltb-false f.children 2 (rw (eq-eqb f.kind 6 e) at kept)
+
+  pub kept_right : (f.kind ≡ 6 → ⊥) → chooses_at f.kind f.operator ≡ true → f.children ≡ 3
+  unfolding drops_at
+  kept_right n e = go (eqb f.children 3) refl (rw (ne_eqb f.kind 6 n, e) at kept)
+    where
+      go : (x : Bool) → eqb f.children 3 ≡ x → not x ≡ false → f.children ≡ 3
+      go true p q = eqb-true f.children 3 p
+      go false p q = absurd (let z : ◌≡◌ {A = ℕ} 0 1 = cc in omega arith)
+
 module _ (f : Fields) (t : Counts) where
   pub leaf_weight : f.kind < 3 → one t ≡ weight f t
   unfolding weight
   leaf_weight h = sym (rw (lt-ltb f.kind 3 h))
 
-  module _ (h₃ : 3 ≤ f.kind) where
-    pub few_weight : f.kind ≡ 6 → f.children < 2 → one t ≡ weight f t
-    unfolding weight
-    few_weight h₆ h = sym (rw (le-ltb f.kind 3 h₃, eq-eqb f.kind 6 h₆, lt-ltb f.children 2 h))
+  dropped_at : (a b c e g : Bool) → ltb f.kind 3 ≡ a → eqb f.kind 6 ≡ b → chooses_at f.kind f.operator ≡ c → ltb f.children 2 ≡ e → eqb f.children 3 ≡ g
+      → cond b e (c && not g) ≡ true → one t ≡ weight f t
+  unfolding weight
+  dropped_at true b c e g ea eb ec ee eg d = sym (rw ea)
+  dropped_at false true c true g ea eb ec ee eg d = sym (rw (ea, eb, ee))
+  dropped_at false false true e false ea eb ec ee eg d = sym (rw (ea, eb, ec, eg))
+  dropped_at false true c false g ea eb ec ee eg d = absurd (let z : ◌≡◌ {A = ℕ} 0 1 = cc in omega arith)
+  dropped_at false false true e true ea eb ec ee eg d = absurd (let z : ◌≡◌ {A = ℕ} 0 1 = cc in omega arith)
+  dropped_at false false false e g ea eb ec ee eg d = absurd (let z : ◌≡◌ {A = ℕ} 0 1 = cc in omega arith)
 
+  pub dropped_weight : drops_at f ≡ true → one t ≡ weight f t
+  unfolding drops_at
+  dropped_weight h = dropped_at _ _ _ _ _ refl refl refl refl refl h
+
+  module _ (h₃ : 3 ≤ f.kind) where
     pub link_weight : f.kind ≡ 6 → 2 ≤ f.children → more t (5 * (f.children - 1)) (2 * (f.children - 1)) 0 ≡ weight f t
     unfolding weight
     link_weight h₆ h = sym (rw (le-ltb f.kind 3 h₃, eq-eqb f.kind 6 h₆, le-ltb f.children 2 h))
@@ -200,10 +224,6 @@ module _ (f : Fields) (t : Counts) where
       pub branch_weight : chooses_at f.kind f.operator ≡ true → f.children ≡ 3 → more t 4 1 0 ≡ weight f t
       unfolding weight
       branch_weight e h = sym (rw (le-ltb f.kind 3 h₃, ne_eqb f.kind 6 h₆, e, eq-eqb f.children 3 h))
-
-      pub wrong_weight : chooses_at f.kind f.operator ≡ true → (f.children ≡ 3 → ⊥) → one t ≡ weight f t
-      unfolding weight
-      wrong_weight e h = sym (rw (le-ltb f.kind 3 h₃, ne_eqb f.kind 6 h₆, e, ne_eqb f.children 3 h))
 
       pub list_weight : chooses_at f.kind f.operator ≡ false → listing_at f.kind f.operator ≡ true → more t 1 1 f.children ≡ weight f t
       unfolding weight

@@ -1,5 +1,5 @@
 -- A node's counts, by its fields and the counts of its children.
-use Rattle.std.specs.Prelude.{Bool, cond, false, not, ℕ, ◌+◌, ◌-◌, ◌*◌, eqb, ltb}
+use Rattle.std.specs.Prelude.{Bool, cond, not, ◌&&◌, ℕ, ◌+◌, ◌-◌, ◌*◌, eqb, ltb}
 use Rattle.reader.specs.declared.Fields.{Fields}
 use Rattle.lower.specs.Operators.{chooses_at, listing_at}
 use Rattle.tally.specs.declared.Counts.{Counts}
@@ -24,4 +24,4 @@ weight f t =
 
 -- And, Or and Ifelse with a wrong count drop their children
 unfoldable pub drops_at : Fields → Bool
-drops_at f = cond (eqb f.kind 6) (ltb f.children 2) (cond (chooses_at f.kind f.operator) (not (eqb f.children 3)) false)
+drops_at f = cond (eqb f.kind 6) (ltb f.children 2) (chooses_at f.kind f.operator && not (eqb f.children 3))

@@ -9,6 +9,9 @@ ghost use Rattle.layout.specs.Image.{path_counts, entry_counts};
 ghost use Rattle.lower.specs.Piece.{kids, past};
 ghost use Rattle.tally.specs.Weight.{drops_at, more, weight};
 
+use lower::{chooses, listing};
+use reader::{BOOLEAN, Fields, NODE_SIZE, SYMBOL};
+
 // The byte after some nodes, and what they need.
 #[derive(Clone, Copy)]
 pub struct Counts {
@@ -18,51 +21,66 @@ pub struct Counts {
     pub entries: usize,
 }
 
+// No nodes, before the first byte.
+const NOTHING: Counts = Counts {
+    node: 0,
+    code: 0,
+    paths: 0,
+    entries: 0,
+};
+
+impl Counts {
+    // So much more at the same byte.
+    fn grown(self, code: usize, paths: usize, entries: usize) -> Counts
+        requires counted { (self.code < 2 ^ 63) × (self.paths < 2 ^ 63) × (self.entries < 2 ^ 63) }
+        requires added { (code < 2 ^ 63) × (paths < 2 ^ 63) × (entries < 2 ^ 63) }
+        ensures { result ≡ more self code paths entries }
+    {
+        Counts {
+            node: self.node,
+            code: self.code + code,
+            paths: self.paths + paths,
+            entries: self.entries + entries,
+        }
+    }
+}
+
+// Whether a node's children are dropped.
+#[tactic(auto, unfolding(crate::specs::Weight::drops_at))]
+fn drops(f: Fields) -> bool
+    ensures { result ≡ drops_at f }
+{
+    if f.kind == BOOLEAN {
+        f.children < 2
+    } else {
+        chooses(f) && f.children != 3
+    }
+}
+
 // A node with all below it, by its fields and what its children need. And, Or and Ifelse with a wrong count drop their children.
-fn weigh(f: reader::Fields, inner: Counts) -> Counts
+fn weigh(f: Fields, inner: Counts) -> Counts
     requires { (inner.code < 2 ^ 63) × (inner.paths < 2 ^ 63) × (inner.entries < 2 ^ 63) × (f.children < 65536) }
     ensures { result ≡ weight f inner }
 {
+    if f.kind <= SYMBOL || drops(f) {
+        return Counts {
+            code: 1,
+            paths: 1,
+            entries: 0,
+            ..inner
+        };
+    }
     let n = f.children;
-    let one = Counts {
-        node: inner.node,
-        code: 1,
-        paths: 1,
-        entries: 0,
-    };
-    if f.kind < 3 {
-        return one;
+    if f.kind == BOOLEAN {
+        return inner.grown(5 * (n - 1), 2 * (n - 1), 0);
     }
-    if f.kind == 6 {
-        if n < 2 {
-            return one;
-        }
-        return grown(inner, 5 * (n - 1), 2 * (n - 1), 0);
+    if chooses(f) {
+        return inner.grown(4, 1, 0);
     }
-    if lower::chooses(f) {
-        if n == 3 {
-            return grown(inner, 4, 1, 0);
-        }
-        return one;
+    if listing(f.kind, f.operator) {
+        return inner.grown(1, 1, n);
     }
-    if lower::listing(f.kind, f.operator) {
-        return grown(inner, 1, 1, n);
-    }
-    grown(inner, 1, 1, 0)
-}
-
-// So much more at the same byte.
-fn grown(t: Counts, code: usize, paths: usize, entries: usize) -> Counts
-    requires counted { (t.code < 2 ^ 63) × (t.paths < 2 ^ 63) × (t.entries < 2 ^ 63) }
-    requires added { (code < 2 ^ 63) × (paths < 2 ^ 63) × (entries < 2 ^ 63) }
-    ensures { result ≡ more t code paths entries }
-{
-    Counts {
-        node: t.node,
-        code: t.code + code,
-        paths: t.paths + paths,
-        entries: t.entries + entries,
-    }
+    inner.grown(1, 1, 0)
 }
 
 // The `left` nodes that stand from a byte on, with all below them.
@@ -73,66 +91,33 @@ pub fn tally(b: &[u8], d: usize, left: usize, at: usize) -> Counts
     if left == 0 {
         return Counts {
             node: at,
-            code: 0,
-            paths: 0,
-            entries: 0,
+            ..NOTHING
         };
     }
     let f = reader::node(b, at);
-    let inner = tally(b, d - 1, f.children, at + reader::NODE_SIZE);
+    let inner = tally(b, d - 1, f.children, at + NODE_SIZE);
     let first = weigh(f, inner);
     let rest = tally(b, d, left - 1, first.node);
-    grown(rest, first.code, first.paths, first.entries)
+    rest.grown(first.code, first.paths, first.entries)
 }
 
-// Whether a node's children are dropped.
-fn drops(f: reader::Fields) -> bool
-    ensures { result ≡ drops_at f }
-{
-    if f.kind == 6 {
-        return f.children < 2;
-    }
-    if lower::chooses(f) {
-        return f.children != 3;
-    }
-    false
-}
-
-// The whole formula's tree, in one pass over its nodes as long as none drops its children: what each needs by itself.
+// The whole formula's tree, in one pass over its nodes as long as none drops its children: what each needs by itself. How many
+// nodes there are shows once each has said how many children it has.
 pub fn count(b: &[u8], d: usize) -> Counts
     requires { well_formed (tree_in d b.now 0) ≡ true }
     ensures { (result.code ≡ instruction_counts (terms (kids b.now d 1 0))) × (result.paths ≡ path_counts (terms (kids b.now d 1 0))) × (result.entries ≡ entry_counts (terms (kids b.now d 1 0))) }
 {
-    let mut at = 0;
+    let mut all = NOTHING;
     let mut owed = 1;
-    let mut code = 0;
-    let mut paths = 0;
-    let mut entries = 0;
     while owed > 0 {
-        let f = reader::node(b, at);
-        let lost = drops(f);
-        if lost {
+        let f = reader::node(b, all.node);
+        if drops(f) {
             return tally(b, d, 1, 0);
         }
-        let own = weigh(
-            f,
-            Counts {
-                node: 0,
-                code: 0,
-                paths: 0,
-                entries: 0,
-            },
-        );
-        code += own.code;
-        paths += own.paths;
-        entries += own.entries;
+        let own = weigh(f, NOTHING);
+        all = all.grown(own.code, own.paths, own.entries);
+        all.node += NODE_SIZE;
         owed = owed - 1 + f.children;
-        at += reader::NODE_SIZE;
     }
-    Counts {
-        node: at,
-        code: code,
-        paths: paths,
-        entries: entries,
-    }
+    all
 }

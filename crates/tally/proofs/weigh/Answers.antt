@@ -1,58 +1,39 @@
-use Rattle.tally.proofs.Weights.{branch_weight, few_weight, leaf_weight, link_weight, list_weight, other_weight, wrong_weight}
 use mathlib.Core.Path.{◌∙◌, sym}
+use native.Mathlib.Omega.{arith}
+use Rattle.tally.proofs.Weights.{branch_weight, dropped_weight, kept_few, kept_right, leaf_weight, link_weight, list_weight, other_weight}
 use Rattle.tally.proofs.weigh.Goals as goal
+use Rattle.tally.proofs.weigh.Goals.{then-f-le-SYMBOL-via-then-f-le-SYMBOL, then-f-le-SYMBOL-via-else-f-le-SYMBOL+then-drops}
 
-pub returns-then-f-lt3 : goal.returns-then-f-lt3
-returns-then-f-lt3 c = leaf_weight c.args.f c.args.inner c.if-f-lt3.true
+pub returns-then-f-le-SYMBOL : goal.returns-then-f-le-SYMBOL
+returns-then-f-le-SYMBOL c =
+    elim c.then-f-le-SYMBOL.branch [
+      | then-f-le-SYMBOL-via-then-f-le-SYMBOL w ↦ leaf_weight c.args.f c.args.inner (omega (arith, w.if-f-le-SYMBOL.true))
+      | then-f-le-SYMBOL-via-else-f-le-SYMBOL+then-drops w ↦ dropped_weight c.args.f c.args.inner (sym w.drops.ensures ∙ w.if-drops.true)
+    ]
 
-pub returns-then-n-lt2 : goal.returns-then-n-lt2
-returns-then-n-lt2 c =
-    let args = c.args in
-    let if1 = c.if-f-lt3 in
-    few_weight args.f args.inner if1.false c.if-f-eq6.true c.if-n-lt2.true
+pub overflow_sub-n : goal.overflow_sub-n
+overflow_sub-n c = omega (arith, kept_few c.args.f (sym c.drops.ensures ∙ c.if-drops.false) c.if-f-eq-BOOLEAN.true)
 
-pub returns-then-f-eq6 : goal.returns-then-f-eq6
-returns-then-f-eq6 c =
-    let args = c.args in
-    let if1 = c.if-f-lt3 in
-    let if2 = c.if-f-eq6 in
-    c.grown.ensures ∙ link_weight args.f args.inner if1.false if2.true c.if-n-lt2.false
+pub overflow_sub-n-then-f-eq-BOOLEAN : goal.overflow_sub-n-then-f-eq-BOOLEAN
+overflow_sub-n-then-f-eq-BOOLEAN c = omega (arith, kept_few c.args.f (sym c.drops.ensures ∙ c.if-drops.false) c.if-f-eq-BOOLEAN.true)
 
-pub returns-then-n-eq3 : goal.returns-then-n-eq3
-returns-then-n-eq3 c =
-    let args = c.args in
-    let if1 = c.if-f-lt3 in
-    let if2 = c.if-f-eq6 in
-    let chooses = c.chooses in
-    let if4 = c.if-chooses in
-    c.grown-then-n-eq3.ensures ∙ branch_weight args.f args.inner if1.false if2.false (sym chooses.ensures ∙ if4.true) c.if-n-eq3.true
+pub returns-then-f-eq-BOOLEAN : goal.returns-then-f-eq-BOOLEAN
+returns-then-f-eq-BOOLEAN c =
+    c.grown.ensures ∙ link_weight c.args.f c.args.inner (omega (arith, c.if-f-le-SYMBOL.false)) c.if-f-eq-BOOLEAN.true
+    (kept_few c.args.f (sym c.drops.ensures ∙ c.if-drops.false) c.if-f-eq-BOOLEAN.true)
 
 pub returns-then-chooses : goal.returns-then-chooses
 returns-then-chooses c =
-    let args = c.args in
-    let if1 = c.if-f-lt3 in
-    let if2 = c.if-f-eq6 in
-    let chooses = c.chooses in
-    wrong_weight args.f args.inner if1.false if2.false (sym chooses.ensures ∙ c.if-chooses.true) c.if-n-eq3.false
+    let chosen = sym c.chooses.ensures ∙ c.if-chooses.true in
+    c.grown-then-chooses.ensures ∙ branch_weight c.args.f c.args.inner (omega (arith, c.if-f-le-SYMBOL.false)) c.if-f-eq-BOOLEAN.false chosen
+    (kept_right c.args.f (sym c.drops.ensures ∙ c.if-drops.false) c.if-f-eq-BOOLEAN.false chosen)
 
 pub returns-then-listing : goal.returns-then-listing
 returns-then-listing c =
-    let args = c.args in
-    let if1 = c.if-f-lt3 in
-    let if2 = c.if-f-eq6 in
-    let chooses = c.chooses in
-    let if4 = c.if-chooses in
-    let listing = c.listing in
-    c.grown-then-listing.ensures
-    ∙ list_weight args.f args.inner if1.false if2.false (sym chooses.ensures ∙ if4.false) (sym listing.ensures ∙ c.if-listing.true)
+    c.grown-then-listing.ensures ∙ list_weight c.args.f c.args.inner (omega (arith, c.if-f-le-SYMBOL.false)) c.if-f-eq-BOOLEAN.false
+    (sym c.chooses.ensures ∙ c.if-chooses.false) (sym c.listing.ensures ∙ c.if-listing.true)
 
 pub returns : goal.returns
 returns c =
-    let args = c.args in
-    let if1 = c.if-f-lt3 in
-    let if2 = c.if-f-eq6 in
-    let chooses = c.chooses in
-    let if4 = c.if-chooses in
-    let listing = c.listing in
-    c.grown-2.ensures
-    ∙ other_weight args.f args.inner if1.false if2.false (sym chooses.ensures ∙ if4.false) (sym listing.ensures ∙ c.if-listing.false)
+    c.grown-2.ensures ∙ other_weight c.args.f c.args.inner (omega (arith, c.if-f-le-SYMBOL.false)) c.if-f-eq-BOOLEAN.false
+    (sym c.chooses.ensures ∙ c.if-chooses.false) (sym c.listing.ensures ∙ c.if-listing.false)

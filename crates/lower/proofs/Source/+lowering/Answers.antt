@@ -525,8 +525,8 @@ node-overflow_add-c t c =
     let whole = term (tree_in args.levels b at) in
     omega (arith, wholes.node_inside b args.levels at f node.ensures.0 pre.formed)
 
-pub node-returns-then-f-lt3 : goal.node-returns-then-f-lt3
-node-returns-then-f-lt3 t c =
+pub node-returns-then-f-le-SYMBOL : goal.node-returns-then-f-le-SYMBOL
+node-returns-then-f-le-SYMBOL t c =
     let args = c.args in
     let pre = c.requires in
     let source = args.self.now in
@@ -538,8 +538,8 @@ node-returns-then-f-lt3 t c =
     let at = here.node in
     let next = at + node_size in
     let whole = term (tree_in args.levels b at) in
-    as_node _ _ whole (leaf f) _ _ next _ next here _ _ _ (wholes.leaf_term_is b args.levels at f node.ensures.0 pre.formed c.if-f-lt3.true)
-    (wholes.leaf_size b args.levels at f node.ensures.0 pre.formed c.if-f-lt3.true) c.leaf.ensures
+    as_node _ _ whole (leaf f) _ _ next _ next here _ _ _ (wholes.leaf_term_is b args.levels at f node.ensures.0 pre.formed (omega (arith, c.if-f-le-SYMBOL.true)))
+    (wholes.leaf_size b args.levels at f node.ensures.0 pre.formed (omega (arith, c.if-f-le-SYMBOL.true))) c.leaf.ensures
 
 pub node-leaf-requires : goal.node-leaf-requires
 node-leaf-requires t c =
@@ -554,7 +554,7 @@ node-leaf-requires t c =
     let at = here.node in
     let next = at + node_size in
     let whole = term (tree_in args.levels b at) in
-    ready_moved (leaf_ready f (ready_term whole (leaf f) (wholes.leaf_term_is b args.levels at f node.ensures.0 pre.formed c.if-f-lt3.true) pre.ready at)) next
+    ready_moved (leaf_ready f (ready_term whole (leaf f) (wholes.leaf_term_is b args.levels at f node.ensures.0 pre.formed (omega (arith, c.if-f-le-SYMBOL.true))) pre.ready at)) next
 
 pub node-overflow_sub-below : goal.node-overflow_sub-below
 node-overflow_sub-below t c =
@@ -585,7 +585,7 @@ node-returns-then-f-lt2 t c =
     let next = at + node_size in
     let whole = term (tree_in args.levels b at) in
     says_as _ _ _ _ _ (fault_as c.fault.ensures)
-    (miscounted_here pre.ready _ whole _ (wholes.few_is b args.levels at f node.ensures.0 pre.formed c.if-f-eq6.true c.if-f-lt2.true))
+    (miscounted_here pre.ready _ whole _ (wholes.few_is b args.levels at f node.ensures.0 pre.formed c.if-f-eq-BOOLEAN.true c.if-f-lt2.true))
 
 pub node-link-requires : goal.node-link-requires
 node-link-requires t c =
@@ -603,13 +603,13 @@ node-link-requires t c =
       omega (arith, node.ensures.1, wholes.node_deep b args.levels at f node.ensures.0 pre.formed),
       (
         ready_term whole (arm b (args.levels - 1) (eqb f.operator 0) f.children next)
-            (wholes.link_is b args.levels at f node.ensures.0 pre.formed c.if-f-eq6.true (omega (arith, c.if-f-lt2.false))) pre.ready next,
+            (wholes.link_is b args.levels at f node.ensures.0 pre.formed c.if-f-eq-BOOLEAN.true (omega (arith, c.if-f-lt2.false))) pre.ready next,
         (wholes.kids_well b args.levels at f node.ensures.0 pre.formed, omega (arith, c.if-f-lt2.false), node.ensures.1),
       ),
     )
 
-pub node-returns-then-f-eq6 : goal.node-returns-then-f-eq6
-node-returns-then-f-eq6 t c =
+pub node-returns-then-f-eq-BOOLEAN : goal.node-returns-then-f-eq-BOOLEAN
+node-returns-then-f-eq-BOOLEAN t c =
     let args = c.args in
     let pre = c.requires in
     let source = args.self.now in
@@ -622,7 +622,7 @@ node-returns-then-f-eq6 t c =
     let next = at + node_size in
     let whole = term (tree_in args.levels b at) in
     as_node _ _ whole (arm b (args.levels - 1) (eqb f.operator 0) f.children next) _ _ _ _ next here _ _ _
-    (wholes.link_is b args.levels at f node.ensures.0 pre.formed c.if-f-eq6.true (omega (arith, c.if-f-lt2.false)))
+    (wholes.link_is b args.levels at f node.ensures.0 pre.formed c.if-f-eq-BOOLEAN.true (omega (arith, c.if-f-lt2.false)))
     (wholes.past_is b args.levels at f node.ensures.0 pre.formed) c.link.ensures
 
 pub node-returns-then-f-ne3 : goal.node-returns-then-f-ne3
@@ -771,12 +771,12 @@ node-operands-requires t c =
     let whole = term (tree_in args.levels b at) in
     let below = args.levels - 1 in
     let unchosen = sym c.chooses.ensures ∙ c.if-chooses.false in
-    let knows = wholes.knows b args.levels at f node.ensures.0 pre.formed (omega (arith, c.if-f-lt3.false)) c.if-f-eq6.false unchosen in
+    let knows = wholes.knows b args.levels at f node.ensures.0 pre.formed (omega (arith, c.if-f-le-SYMBOL.false)) c.if-f-eq-BOOLEAN.false unchosen in
     let op = knows.op in
     let parts = terms (kids b below f.children next) in
     let after = past b below f.children next in
     let count = wholes.count_kids b below f.children next in
-    let is = wholes.apply_is b args.levels at f node.ensures.0 pre.formed (omega (arith, c.if-f-lt3.false)) c.if-f-eq6.false unchosen in
+    let is = wholes.apply_is b args.levels at f node.ensures.0 pre.formed (omega (arith, c.if-f-le-SYMBOL.false)) c.if-f-eq-BOOLEAN.false unchosen in
     let moved = ready_term whole (apply op parts) is pre.ready next in (
       omega (arith, node.ensures.1, wholes.node_deep b args.levels at f node.ensures.0 pre.formed),
       (
@@ -800,12 +800,12 @@ node-returns-in_err-v t c =
     let whole = term (tree_in args.levels b at) in
     let below = args.levels - 1 in
     let unchosen = sym c.chooses.ensures ∙ c.if-chooses.false in
-    let knows = wholes.knows b args.levels at f node.ensures.0 pre.formed (omega (arith, c.if-f-lt3.false)) c.if-f-eq6.false unchosen in
+    let knows = wholes.knows b args.levels at f node.ensures.0 pre.formed (omega (arith, c.if-f-le-SYMBOL.false)) c.if-f-eq-BOOLEAN.false unchosen in
     let op = knows.op in
     let parts = terms (kids b below f.children next) in
     let after = past b below f.children next in
     let count = wholes.count_kids b below f.children next in
-    let is = wholes.apply_is b args.levels at f node.ensures.0 pre.formed (omega (arith, c.if-f-lt3.false)) c.if-f-eq6.false unchosen in
+    let is = wholes.apply_is b args.levels at f node.ensures.0 pre.formed (omega (arith, c.if-f-le-SYMBOL.false)) c.if-f-eq-BOOLEAN.false unchosen in
     let moved = ready_term whole (apply op parts) is pre.ready next in
     let said = lists_as _ _ _ _ _ _ _ _ _ _ _ _ _ _ c.takes.ensures c.listing.ensures c.operands.ensures in
     let was = as_faulty c.operands.new.c c.in_err-v.was in
@@ -828,12 +828,12 @@ node-operation-requires t c =
     let whole = term (tree_in args.levels b at) in
     let below = args.levels - 1 in
     let unchosen = sym c.chooses.ensures ∙ c.if-chooses.false in
-    let knows = wholes.knows b args.levels at f node.ensures.0 pre.formed (omega (arith, c.if-f-lt3.false)) c.if-f-eq6.false unchosen in
+    let knows = wholes.knows b args.levels at f node.ensures.0 pre.formed (omega (arith, c.if-f-le-SYMBOL.false)) c.if-f-eq-BOOLEAN.false unchosen in
     let op = knows.op in
     let parts = terms (kids b below f.children next) in
     let after = past b below f.children next in
     let count = wholes.count_kids b below f.children next in
-    let is = wholes.apply_is b args.levels at f node.ensures.0 pre.formed (omega (arith, c.if-f-lt3.false)) c.if-f-eq6.false unchosen in
+    let is = wholes.apply_is b args.levels at f node.ensures.0 pre.formed (omega (arith, c.if-f-le-SYMBOL.false)) c.if-f-eq-BOOLEAN.false unchosen in
     let moved = ready_term whole (apply op parts) is pre.ready next in
     let said = lists_as _ _ _ _ _ _ _ _ _ _ _ _ _ _ c.takes.ensures c.listing.ensures c.operands.ensures in
     let e = c.operands.new.c in
@@ -865,12 +865,12 @@ node-returns t c =
     let whole = term (tree_in args.levels b at) in
     let below = args.levels - 1 in
     let unchosen = sym c.chooses.ensures ∙ c.if-chooses.false in
-    let knows = wholes.knows b args.levels at f node.ensures.0 pre.formed (omega (arith, c.if-f-lt3.false)) c.if-f-eq6.false unchosen in
+    let knows = wholes.knows b args.levels at f node.ensures.0 pre.formed (omega (arith, c.if-f-le-SYMBOL.false)) c.if-f-eq-BOOLEAN.false unchosen in
     let op = knows.op in
     let parts = terms (kids b below f.children next) in
     let after = past b below f.children next in
     let count = wholes.count_kids b below f.children next in
-    let is = wholes.apply_is b args.levels at f node.ensures.0 pre.formed (omega (arith, c.if-f-lt3.false)) c.if-f-eq6.false unchosen in
+    let is = wholes.apply_is b args.levels at f node.ensures.0 pre.formed (omega (arith, c.if-f-le-SYMBOL.false)) c.if-f-eq-BOOLEAN.false unchosen in
     let moved = ready_term whole (apply op parts) is pre.ready next in
     let said = lists_as _ _ _ _ _ _ _ _ _ _ _ _ _ _ c.takes.ensures c.listing.ensures c.operands.ensures in
     let e = c.operands.new.c in
@@ -890,8 +890,13 @@ operands-returns-then-o-eq0 t c =
     collects.none_left _ args.o.first _ args.o.boolean _ _ _ here args.p.now (past_none b args.levels args.o.left here.node c.if-o-eq0.true) pre.ready.sound
     args.o.lists _ _ refl (ap terms (kids_none b args.levels here.node args.o.left c.if-o-eq0.true))
 
-pub operands-lower-requires : goal.operands-lower-requires
-operands-lower-requires t c =
+pub operands-operand-requires : goal.operands-operand-requires
+operands-operand-requires t c =
+    let pre = c.requires in
+    (omega arith, (pre.ready, (pre.formed.0, pre.formed.1, omega (arith, c.if-o-eq0.false))))
+
+pub operand-lower-requires : goal.operand-lower-requires
+operand-lower-requires t c =
     let args = c.args in
     let pre = c.requires in
     let source = args.self.now in
@@ -904,16 +909,17 @@ operands-lower-requires t c =
     let after = past b args.levels o.left node in
     let child = arm b args.levels true 1 node in
     let others = terms (kids b args.levels (o.left - 1) second) in
-    let ready = operands_ready b args.levels o.left node o.lists o.first c.if-o-eq0.false pre.ready in (
-      omega (arith, c.if-o-eq0.false),
+    let some_left : o.left ≡ 0 → ⊥ = λ z. omega (arith, z, pre.formed.2) in
+    let ready = operands_ready b args.levels o.left node o.lists o.first some_left pre.ready in (
+      omega (arith, pre.formed.2),
       (
         collects.ready_child o.lists context o.boolean child others o.first second after ready,
-        (one_well b args.levels 1 node refl (first_well b args.levels o.left node c.if-o-eq0.false pre.formed.0), omega (arith, pre.formed.1), omega arith),
+        (one_well b args.levels 1 node refl (first_well b args.levels o.left node some_left pre.formed.0), omega (arith, pre.formed.1), omega arith),
       ),
     )
 
-pub operands-returns-in_err-v : goal.operands-returns-in_err-v
-operands-returns-in_err-v t c =
+pub operand-returns-in_err-v : goal.operand-returns-in_err-v
+operand-returns-in_err-v t c =
     let args = c.args in
     let pre = c.requires in
     let source = args.self.now in
@@ -926,15 +932,16 @@ operands-returns-in_err-v t c =
     let after = past b args.levels o.left node in
     let child = arm b args.levels true 1 node in
     let others = terms (kids b args.levels (o.left - 1) second) in
-    let ready = operands_ready b args.levels o.left node o.lists o.first c.if-o-eq0.false pre.ready in
+    let some_left : o.left ≡ 0 → ⊥ = λ z. omega (arith, z, pre.formed.2) in
+    let ready = operands_ready b args.levels o.left node o.lists o.first some_left pre.ready in
     let said = at_argument _ _ _ _ o.first _ _ _ _ _ _ c.lower.ensures in
     let was = as_faulty c.lower.new.c c.in_err-v.was in
     let up = err_from_is_err_and c.from_residual.result c.from_residual.ensures.1 in
-    lists_as_is _ _ _ _ _ _ _ _ (handed_up c.lower.new.c c.in_err-v.was up.1 up.2) (operands_as _ _ _ _ _ _ _ _ _ _ _ _ b args.levels o.left node c.if-o-eq0.false
+    lists_as_is _ _ _ _ _ _ _ _ (handed_up c.lower.new.c c.in_err-v.was up.1 up.2) (operands_as _ _ _ _ _ _ _ _ _ _ _ _ b args.levels o.left node some_left
     (collects.child_refused o.lists context o.boolean child others o.first second after ready c.lower.new.p _ _ _ (refused _ _ _ _ _ _ _ _ said was) was))
 
-pub operands-operands-requires : goal.operands-operands-requires
-operands-operands-requires t c =
+pub operand-operands-requires : goal.operand-operands-requires
+operand-operands-requires t c =
     let args = c.args in
     let pre = c.requires in
     let source = args.self.now in
@@ -947,22 +954,23 @@ operands-operands-requires t c =
     let after = past b args.levels o.left node in
     let child = arm b args.levels true 1 node in
     let others = terms (kids b args.levels (o.left - 1) second) in
-    let ready = operands_ready b args.levels o.left node o.lists o.first c.if-o-eq0.false pre.ready in
+    let some_left : o.left ≡ 0 → ⊥ = λ z. omega (arith, z, pre.formed.2) in
+    let ready = operands_ready b args.levels o.left node o.lists o.first some_left pre.ready in
     let said = at_argument _ _ _ _ o.first _ _ _ _ _ _ c.lower.ensures in
     let e = c.lower.new.c in
     let v = c.in_ok-v.v in
     let first = taken _ _ _ _ _ _ v e said (as_done e c.in_ok-v.was) in
     let there = collects.is_node o.lists context o.boolean child others o.first second after ready c.lower.new.p v e first in (
-      omega (arith, c.if-o-eq0.false),
+      omega (arith, pre.formed.2),
       (
         rest_ready b args.levels (o.left - 1) _ _ (sym there) o.lists o.first
             (collects.ready_rest o.lists context o.boolean child others o.first second after ready c.lower.new.p v e first),
-        (rest_well_at b args.levels o.left node e.node c.if-o-eq0.false pre.formed.0 there, omega (arith, pre.formed.1, c.if-o-eq0.false)),
+        (rest_well_at b args.levels o.left node e.node some_left pre.formed.0 there, omega (arith, pre.formed.1, pre.formed.2)),
       ),
     )
 
-pub operands-returns-in_err-w : goal.operands-returns-in_err-w
-operands-returns-in_err-w t c =
+pub operand-returns-in_err-w : goal.operand-returns-in_err-w
+operand-returns-in_err-w t c =
     let args = c.args in
     let pre = c.requires in
     let source = args.self.now in
@@ -975,21 +983,22 @@ operands-returns-in_err-w t c =
     let after = past b args.levels o.left node in
     let child = arm b args.levels true 1 node in
     let others = terms (kids b args.levels (o.left - 1) second) in
-    let ready = operands_ready b args.levels o.left node o.lists o.first c.if-o-eq0.false pre.ready in
+    let some_left : o.left ≡ 0 → ⊥ = λ z. omega (arith, z, pre.formed.2) in
+    let ready = operands_ready b args.levels o.left node o.lists o.first some_left pre.ready in
     let said = at_argument _ _ _ _ o.first _ _ _ _ _ _ c.lower.ensures in
     let e = c.lower.new.c in
     let v = c.in_ok-v.v in
     let first = taken _ _ _ _ _ _ v e said (as_done e c.in_ok-v.was) in
     let there = collects.is_node o.lists context o.boolean child others o.first second after ready c.lower.new.p v e first in
-    let said2 = rest_as _ _ _ _ _ _ _ _ _ _ _ b args.levels o.left node e.node there c.if-o-eq0.false c.operands.ensures in
+    let said2 = rest_as _ _ _ _ _ _ _ _ _ _ _ b args.levels o.left node e.node there some_left c.operands.ensures in
     let was = as_faulty c.operands.new.c c.in_err-w.was in
     let up = err_from_is_err_and c.from_residual-in_err-w.result c.from_residual-in_err-w.ensures.1 in
-    lists_as_is _ _ _ _ _ _ _ _ (handed_up c.operands.new.c c.in_err-w.was up.1 up.2) (operands_as _ _ _ _ _ _ _ _ _ _ _ _ b args.levels o.left node c.if-o-eq0.false
+    lists_as_is _ _ _ _ _ _ _ _ (handed_up c.operands.new.c c.in_err-w.was up.1 up.2) (operands_as _ _ _ _ _ _ _ _ _ _ _ _ b args.levels o.left node some_left
     (collects.rest_refused o.lists context o.boolean child others o.first second after ready c.lower.new.p v e first c.operands.new.p _ _ _
     (collects.turned _ _ _ _ _ _ _ _ _ _ _ said2 was) was))
 
-pub operands-overflow_add-entry : goal.operands-overflow_add-entry
-operands-overflow_add-entry t c =
+pub operand-overflow_add-entry : goal.operand-overflow_add-entry
+operand-overflow_add-entry t c =
     let args = c.args in
     let pre = c.requires in
     let source = args.self.now in
@@ -1002,13 +1011,14 @@ operands-overflow_add-entry t c =
     let after = past b args.levels o.left node in
     let child = arm b args.levels true 1 node in
     let others = terms (kids b args.levels (o.left - 1) second) in
-    let ready = operands_ready b args.levels o.left node o.lists o.first c.if-o-eq0.false pre.ready in
+    let some_left : o.left ≡ 0 → ⊥ = λ z. omega (arith, z, pre.formed.2) in
+    let ready = operands_ready b args.levels o.left node o.lists o.first some_left pre.ready in
     let said = at_argument _ _ _ _ o.first _ _ _ _ _ _ c.lower.ensures in
     let e = c.lower.new.c in
     let v = c.in_ok-v.v in
     let first = taken _ _ _ _ _ _ v e said (as_done e c.in_ok-v.was) in
     let there = collects.is_node o.lists context o.boolean child others o.first second after ready c.lower.new.p v e first in
-    let said2 = rest_as _ _ _ _ _ _ _ _ _ _ _ b args.levels o.left node e.node there c.if-o-eq0.false c.operands.ensures in
+    let said2 = rest_as _ _ _ _ _ _ _ _ _ _ _ b args.levels o.left node e.node there some_left c.operands.ensures in
     let h = c.operands.new.c in
     let w = c.in_ok-w.w in
     let collected = collects.collected _ _ _ _ _ _ _ _ _ w h said2 (as_done h c.in_ok-w.was) in
@@ -1019,8 +1029,8 @@ operands-overflow_add-entry t c =
       c.well_formed.1.0.0,
     )
 
-pub operands-list_entry-requires : goal.operands-list_entry-requires
-operands-list_entry-requires t c =
+pub operand-list_entry-requires : goal.operand-list_entry-requires
+operand-list_entry-requires t c =
     let args = c.args in
     let pre = c.requires in
     let source = args.self.now in
@@ -1033,20 +1043,21 @@ operands-list_entry-requires t c =
     let after = past b args.levels o.left node in
     let child = arm b args.levels true 1 node in
     let others = terms (kids b args.levels (o.left - 1) second) in
-    let ready = operands_ready b args.levels o.left node o.lists o.first c.if-o-eq0.false pre.ready in
+    let some_left : o.left ≡ 0 → ⊥ = λ z. omega (arith, z, pre.formed.2) in
+    let ready = operands_ready b args.levels o.left node o.lists o.first some_left pre.ready in
     let said = at_argument _ _ _ _ o.first _ _ _ _ _ _ c.lower.ensures in
     let e = c.lower.new.c in
     let v = c.in_ok-v.v in
     let first = taken _ _ _ _ _ _ v e said (as_done e c.in_ok-v.was) in
     let there = collects.is_node o.lists context o.boolean child others o.first second after ready c.lower.new.p v e first in
-    let said2 = rest_as _ _ _ _ _ _ _ _ _ _ _ b args.levels o.left node e.node there c.if-o-eq0.false c.operands.ensures in
+    let said2 = rest_as _ _ _ _ _ _ _ _ _ _ _ b args.levels o.left node e.node there some_left c.operands.ensures in
     let h = c.operands.new.c in
     let w = c.in_ok-w.w in
     let collected = collects.collected _ _ _ _ _ _ _ _ _ w h said2 (as_done h c.in_ok-w.was) in
     collects.entry_room o.lists context o.boolean child others o.first second after ready c.lower.new.p v e first c.operands.new.p w h c.operands.auto.p collected
 
-pub operands-returns : goal.operands-returns
-operands-returns t c =
+pub operand-returns : goal.operand-returns
+operand-returns t c =
     let args = c.args in
     let pre = c.requires in
     let source = args.self.now in
@@ -1059,16 +1070,17 @@ operands-returns t c =
     let after = past b args.levels o.left node in
     let child = arm b args.levels true 1 node in
     let others = terms (kids b args.levels (o.left - 1) second) in
-    let ready = operands_ready b args.levels o.left node o.lists o.first c.if-o-eq0.false pre.ready in
+    let some_left : o.left ≡ 0 → ⊥ = λ z. omega (arith, z, pre.formed.2) in
+    let ready = operands_ready b args.levels o.left node o.lists o.first some_left pre.ready in
     let said = at_argument _ _ _ _ o.first _ _ _ _ _ _ c.lower.ensures in
     let e = c.lower.new.c in
     let v = c.in_ok-v.v in
     let first = taken _ _ _ _ _ _ v e said (as_done e c.in_ok-v.was) in
     let there = collects.is_node o.lists context o.boolean child others o.first second after ready c.lower.new.p v e first in
-    let said2 = rest_as _ _ _ _ _ _ _ _ _ _ _ b args.levels o.left node e.node there c.if-o-eq0.false c.operands.ensures in
+    let said2 = rest_as _ _ _ _ _ _ _ _ _ _ _ b args.levels o.left node e.node there some_left c.operands.ensures in
     let h = c.operands.new.c in
     let w = c.in_ok-w.w in
     let collected = collects.collected _ _ _ _ _ _ _ _ _ w h said2 (as_done h c.in_ok-w.was) in
-    operands_as _ _ _ _ _ _ _ _ _ _ _ _ b args.levels o.left node c.if-o-eq0.false
+    operands_as _ _ _ _ _ _ _ _ _ _ _ _ b args.levels o.left node some_left
     (collects.all_collected o.lists context o.boolean child others o.first second after ready c.lower.new.p v e first c.operands.new.p w h c.operands.auto.p collected
     c.list_entry.new.p _ _ c.list_entry.ensures (ap (λ (x : Bool). x && w.boolean) (same_as v.boolean o.boolean)) refl)

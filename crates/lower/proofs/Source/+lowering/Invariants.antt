@@ -13,5 +13,8 @@ decreases-lower l = 1048576 * l.levels + 4 * l.chain.left + 1
 abbrev pub decreases-node : goal.decreases-node
 decreases-node l = 1048576 * l.levels
 
+abbrev pub decreases-operand : goal.decreases-operand
+decreases-operand l = 1048576 * l.levels + 4 * l.o.left + 5
+
 abbrev pub decreases-operands : goal.decreases-operands
 decreases-operands l = 1048576 * l.levels + 4 * l.o.left + 6
