@@ -13,13 +13,16 @@ use Rattle.refusals.specs.declared.Refusal.TheVariants.{InvalidInput, UnknownSym
 use Rattle.arithmetic.specs.Value.{finite}
 use Rattle.arithmetic.specs.Constant as Constant
 use Rattle.formula.specs.Names.{Parameter, varies}
+use Rattle.names.specs.Lines.{symbol_kind}
+use Rattle.names.specs.declared.Kind.{Kind}
+use Rattle.names.specs.declared.Kind.TheVariants as Kinds
 use Rattle.formula.specs.Term.{Term, literal, symbol, truth}
 use Rattle.machine.specs.Check.{Context, fault}
 use Rattle.layout.specs.Image.{below, constant_slot, lists, slot, slots, truth_bits}
 use Rattle.writer.specs.Over.{over}
 use Rattle.reader.specs.declared.Fields.{Fields}
 use Rattle.lower.specs.Operators.{arity_at, gives_boolean, listing_at, opcode_at, stepped_at}
-use Rattle.lower.specs.Piece.{Piece, Says, context_of, finish_piece, kind_of, leaf, own_piece, place}
+use Rattle.lower.specs.Piece.{Piece, Says, context_of, finish_piece, leaf, own_piece, place}
 use Rattle.lower.specs.Ready.{Ready}
 use Rattle.lower.specs.Leaf.{Loads}
 use Rattle.lower.specs.declared.Layout.{Layout}
@@ -97,7 +100,7 @@ module _ (L : Layout) (p : List ℕ) (s : Site) (c : Cursor) (I : ℕ) (R : Read
 
   -- ---- leaves
 
-  module _ (kinds : List ℕ) (one : 1 ≤ I) (f : Fields) where
+  module _ (kinds : List Kind) (one : 1 ≤ I) (f : Fields) where
     abbrev C : Context
     C = context_of kinds L.generated
 
@@ -151,20 +154,11 @@ module _ (L : Layout) (p : List ℕ) (s : Site) (c : Cursor) (I : ℕ) (R : Read
         as_leaf (truth n) (is_truth m e ∙ ap truth t) p' r
         (slot_done L p s c I 0 0 R (constant_slot (truth_bits n) c.reg s.path) refl one p' b (U (truth n) (is_truth m e ∙ ap truth t)) r refl refl (d ∙ same_next true false) (omega arith))
 
-    kind_varies : (x : ℕ) → varies (kind_of x) ≡ not (eqb x 0)
-    kind_varies x = go (eqb x 0) (eqb x 1) (eqb x 2)
-      where
-        go : (a b d : Bool) → varies (cond a Parameter (cond b Rattle.formula.specs.Names.State (cond d Rattle.formula.specs.Names.Time Rattle.formula.specs.Names.Input))) ≡ not a
-        go true b d = refl
-        go false true d = refl
-        go false false true = refl
-        go false false false = refl
-
-    length_kinds : (ks : List ℕ) → length (map kind_of ks) ≡ length ks
+    length_kinds : (ks : List Kind) → length (map symbol_kind ks) ≡ length ks
     length_kinds [] = refl
     length_kinds (x ∷ ks) = ap suc (length_kinds ks)
 
-    at_kinds : (ks : List ℕ) (i : ℕ) → get_or (map kind_of ks) i Parameter ≡ kind_of (get_or ks i 0)
+    at_kinds : (ks : List Kind) (i : ℕ) → get_or (map symbol_kind ks) i Parameter ≡ symbol_kind (get_or ks i Kinds.Parameter)
     at_kinds [] i = refl
     at_kinds (x ∷ ks) zero = refl
     at_kinds (x ∷ ks) (suc i) = at_kinds ks i
@@ -175,8 +169,7 @@ module _ (L : Layout) (p : List ℕ) (s : Site) (c : Cursor) (I : ℕ) (R : Read
     symbol_made true p' r m n e (d, x) =
         as_leaf (symbol f.symbol) (is_symbol m n) p' r
         (slot_done L p s c I 0 0 R (slot 1 0 c.reg f.symbol 0 0 s.path) refl one p' x (U (symbol f.symbol) (is_symbol m n)) r (rw (length_kinds kinds, e)) refl
-        (d ∙ same_next false (not (eqb (get_or kinds f.symbol 0) 0))
-        ∙ rw (at_kinds kinds f.symbol, kind_varies (get_or kinds f.symbol 0))) (omega arith))
+        (d ∙ same_next false (varies (symbol_kind (get_or kinds f.symbol Kinds.Parameter))) ∙ rw (at_kinds kinds f.symbol)) (omega arith))
     symbol_made false p' r m n e (d, x) =
         as_leaf (symbol f.symbol) (is_symbol m n) p' r
         (subst (λ (z : Low). Says (U (symbol f.symbol) (is_symbol m n)) L c p p' z) (sym d)

@@ -5,7 +5,8 @@ use Rattle.std.specs.Prelude.{◌≡◌, Bool, true, false, cond, ◌&&◌, ◌|
 use Rattle.std.proofs.Math.Option.{Option, none, some}
 use Rattle.refusals.specs.Numbers.{invalid_input, unsupported, wrong_type}
 use Rattle.formula.specs.Operator.{Boolean, Number, ValueKind, Junction, And, Or, same_kind}
-use Rattle.formula.specs.Names.{Input, Parameter, State, SymbolKind, Time}
+use Rattle.names.specs.Lines.{symbol_kind}
+use Rattle.names.specs.declared.Kind.{Kind}
 use Rattle.formula.specs.Path.{Path, ◌▸◌, else_arm, then_arm}
 use Rattle.formula.specs.Term.{Term, Terms, ◌and◌, apply, branch, chain, end, literal, miscounted, symbol, truth, terms}
 use Rattle.machine.specs.Check.{Context, Fault, any_dynamic, all_kind, dynamic, fault, faults, kind, or_else, supported, unless}
@@ -24,12 +25,9 @@ use Rattle.lower.specs.declared.Cursor.{Cursor}
 use Rattle.lower.specs.declared.Value.{Value}
 use Rattle.lower.specs.Low.{Low, Done, Faulty}
 
--- ---- the context: a symbol's kind is 0 parameter, 1 state, 2 time, 3 input
-abbrev pub kind_of : ℕ → SymbolKind
-kind_of n = cond (eqb n 0) Parameter (cond (eqb n 1) State (cond (eqb n 2) Time Input))
-
-abbrev pub context_of : List ℕ → Bool → Context
-context_of kinds generated = record { symbols = map kind_of kinds; generated = generated }
+-- ---- the context, of the kinds of the symbols
+abbrev pub context_of : List Kind → Bool → Context
+context_of kinds generated = record { symbols = map symbol_kind kinds; generated = generated }
 
 abbrev pub is_boolean : ValueKind → Bool
 is_boolean Number = false

@@ -18,6 +18,7 @@ ghost use Rattle.lower.specs.Operators.{arity_at, gives_boolean, listing_at, opc
 
 use floats::value::{is_finite, of_bits};
 use layout::{ENTRY_SIZE, HEADER_SIZE, RECORD_SIZE, SLOT_SIZE};
+use names::Kind;
 use reader::{
     BINARY, BOOLEAN, CALL, COMPARE, CONDITIONAL, Fields, NODE_SIZE, NUMBER, SYMBOL, TRUTH, UNARY,
 };
@@ -36,7 +37,7 @@ pub struct Layout {
 #[derive(Clone, Copy)]
 pub struct Source<'a> {
     pub bytes: &'a [u8],
-    pub kinds: &'a [u8],
+    pub kinds: &'a [Kind],
     pub layout: Layout,
 }
 
@@ -332,13 +333,13 @@ fn constant(p: &mut [u8], s: Site, bits: u64, boolean: bool, c: &mut Cursor) -> 
 }
 
 // A symbol in the next register; only parameters are not dynamic.
-fn load(p: &mut [u8], kinds: &[u8], s: Site, i: usize, c: &mut Cursor) -> Result<Value, Fault>
+fn load(p: &mut [u8], kinds: &[Kind], s: Site, i: usize, c: &mut Cursor) -> Result<Value, Fault>
     requires { (56 + 24 * c.old.code ≤ length p.old) × (c.old.reg ≤ c.old.code) }
     ensures { Loads (ltb i (length kinds.now)) kinds.now s i c.old p.old p.new (low_of result c.new) }
 {
     if i < kinds.len() {
         put_slot(p, c.code, LOAD, 0, c.reg, [i, 0, 0], s.path);
-        return Ok(c.store(false, kinds[i] != 0));
+        return Ok(c.store(false, kinds[i] != Kind::Parameter));
     }
     Err(s.fault(Refusal::UnknownSymbol))
 }
