@@ -3,13 +3,10 @@ use mathlib.Core.Path.{◌≡◌, refl, ap, sym, ◌∙◌}
 use mathlib.Core.Bool.{Bool, true, false, cond, not, ◌&&◌}
 use mathlib.Core.List.{List, [], ◌∷◌, ◌++◌}
 use mathlib.Core.Option.{Option, none, some}
-use mathlib.Core.Logic.{◌⊎◌, inl, inr, ⊎_elim}
-use Prim.Native.Nat.{ℕ, zero, suc, ◌+◌, ◌-◌, ◌≤◌, ◌<◌}
-use native.Mathlib.Numerals.{add-one}
+use mathlib.Core.Logic.{⊎_elim}
+use Prim.Native.Nat.{ℕ, suc, ◌≤◌, ◌<◌}
 use native.Mathlib.Omega.{arith}
-use borrow.Author.Tests.{eq-eqb, le-leb, lt-leb, ne_eqb}
-use lib.ListN.{length, get_or, drop, drop_of_length-le, length-append, set, take}
-use lib.Seq.{drop-cons}
+use lib.ListN.{length, length-append, set}
 use lib.Dec.{eqb, leb}
 use lib.Ieee.{Float, binary64}
 use Rattle.arithmetic.specs.Value.{finite}
@@ -22,7 +19,7 @@ use Rattle.machine.specs.Machine.{fails, goes, more, puts, read_all}
 use Rattle.layout.specs.Decode.{code_count, destination_at, input_count, op_at, path_number, path_of, raw_program, register_total}
 use Rattle.work.specs.View.{shown}
 use Rattle.work.specs.declared.Outcome.{Outcome}
-use Rattle.work.specs.declared.Outcome.TheVariants.{Elementary, Power, Undefined, Value}
+use Rattle.work.specs.declared.Outcome.TheVariants.{Undefined, Value}
 use Rattle.work.proofs.Questions.{at_most_nine, is_question, room}
 use Rattle.program.proofs.Body.{code_at, code_past}
 use Rattle.instruction.specs.Effects.{effect_at, shown_effect}
@@ -30,43 +27,20 @@ use Rattle.instruction.specs.Progressing.{machine_effect}
 use Rattle.instruction.specs.declared.Effect.{Effect}
 use Rattle.instruction.specs.declared.Effect.TheVariants.{Jump, Work}
 use Rattle.instruction.proofs.Done.{done, done_is}
-use Rattle.run.specs.Calls.{putting, stale_at, supplying, unasked, unfit_at}
+use Rattle.run.specs.Calls.{putting, stale_at, supplying, unfit_at}
+use Rattle.run.specs.Views.{supplied_of}
+use Rattle.std.specs.Prelude as Code
+use Rattle.std.specs.Prelude.{Some, None, is_some}
 use Rattle.instruction.proofs.Opcodes.{lt_or_ge}
 use lib.Seq.{take_all}
 
 -- ---- 5
 
-module _ (xs : List Float) (i : ℕ) (d : Float) where
-  pub finite_step : i < length xs → finite (get_or xs i d) ≡ true → all finite xs ≡ all finite (drop i xs) → all finite xs ≡ all finite (drop (i + 1) xs)
-  finite_step h e f = f ∙ ap (all finite) (drop-cons xs i d h) ∙ rw (e, add-one)
-
-  pub finite_bad : i < length xs → finite (get_or xs i d) ≡ false → all finite xs ≡ all finite (drop i xs) → false ≡ all finite xs
-  finite_bad h e f = sym (f ∙ ap (all finite) (drop-cons xs i d h) ∙ rw e)
-
-pub finite_end : (xs : List Float) (i : ℕ) → length xs ≤ i → all finite xs ≡ all finite (drop i xs) → true ≡ all finite xs
-finite_end xs i h f = sym (f ∙ rw (drop_of_length-le))
-
-module _ (inputs : List Float) (b : List ℕ) (regs : List Float) (budget : ℕ) where
-  unfit_by : (x y z : Bool) → eqb (length inputs) (input_count b) ≡ x → leb (register_total b) (length regs) ≡ y → all finite inputs ≡ z
-      → not (x && y && z && not (eqb budget 0)) ≡ unfit_at inputs b regs budget
-  unfolding unfit_at raw_program
-  unfit_by x y z e f g = rw (e, f, g)
-
-  pub unfit_count : (length inputs ≡ input_count b → ⊥) → true ≡ unfit_at inputs b regs budget
-  unfit_count n = unfit_by false _ _ (ne_eqb _ _ n) refl refl
-
-  pub unfit_registers : length inputs ≡ input_count b → length regs < register_total b → true ≡ unfit_at inputs b regs budget
-  unfit_registers e h = unfit_by true false _ (eq-eqb _ _ e) (lt-leb _ _ h) refl
-
-  pub unfit_inputs : length inputs ≡ input_count b → register_total b ≤ length regs → all finite inputs ≡ false → true ≡ unfit_at inputs b regs budget
-  unfit_inputs e h f = unfit_by true true false (eq-eqb _ _ e) (le-leb _ _ h) f
-
-  pub unfit_budget : length inputs ≡ input_count b → register_total b ≤ length regs → all finite inputs ≡ true → eqb budget 0 ≡ unfit_at inputs b regs budget
-  unfit_budget e h f = not_not (eqb budget 0) ∙ unfit_by true true true (eq-eqb _ _ e) (le-leb _ _ h) f
-    where
-      not_not : (x : Bool) → x ≡ not (not x)
-      not_not true = refl
-      not_not false = refl
+-- the four tests, one after another
+pub unfit_is : (inputs : List Float) (b : List ℕ) (regs : List Float) (budget : ℕ) {x y z : Bool} → x ≡ (eqb (length inputs) (input_count b) && leb (register_total b) (length regs))
+    → y ≡ (x && all finite inputs) → z ≡ (y && not (eqb budget 0)) → not z ≡ unfit_at inputs b regs budget
+unfolding unfit_at raw_program
+unfit_is inputs b regs budget e f g = rw (g, f, e)
 
 -- ---- 11
 
@@ -78,16 +52,14 @@ module _ (inputs : List Float) (b : List ℕ) where
   puts_is : (q : Question) (p : Path) (n d : ℕ) (regs : List Float) (e : Effect) → putting q e ≡ puts binary64 inputs (raw_program b) q (done p n d regs e)
   puts_is q p n d regs (Work (Value v)) = puts_either q (finite v) (suc n) (set regs d v) p
   puts_is q p n d regs (Work Undefined) = refl
-  puts_is q p n d regs (Work (Elementary f x)) = refl
-  puts_is q p n d regs (Work (Power x y)) = refl
+  puts_is q p n d regs (Work (Outcome.Question r)) = refl
   puts_is q p n d regs (Jump to) = refl
 
   -- a question is put with less than nine values kept
   asked : (q : Question) (w : Outcome) → putting q (Work w) ≡ true → is_question w ≡ true
   asked q (Value v) e = e
   asked q Undefined e = e
-  asked q (Elementary f x) e = refl
-  asked q (Power x y) e = refl
+  asked q (Outcome.Question r) e = refl
 
   never : {n : ℕ} → false ≡ true → n < 9
   never e = absurd (let z : ◌≡◌ {A = ℕ} 0 1 = cc in omega arith)
@@ -113,12 +85,17 @@ module _ (inputs : List Float) (b : List ℕ) (regs : List Float) (at : ℕ) (ke
       puts_is inputs b q (path_of b (path_number b at)) at (destination_at b at) regs (effect_at inputs b at kept regs)
       ∙ ap (puts binary64 inputs (raw_program b) q) (sym (done_is inputs b at kept regs))
 
-  pub stale_is : (q : Option Question) (g : Option Float) (e : Effect) → at < code_count b → e ≡ effect_at inputs b at kept regs → unasked e q g ≡ stale_at inputs b regs at kept q g
+  -- with no question pending a value may not be supplied
+  pub stale_unasked : (g : Code.Option Float) → at < code_count b → is_some g ≡ stale_at inputs b regs at kept none (supplied_of g)
   unfolding stale_at
-  stale_is none none e h f = rw (code_at b at h)
-  stale_is none (some x) e h f = rw (code_at b at h)
-  stale_is (some q) none e h f = rw (code_at b at h) (ap (λ d. not (putting q d)) f ∙ ap not (puts_at q))
-  stale_is (some q) (some x) e h f = rw (code_at b at h) (ap (λ d. not (putting q d)) f ∙ ap not (puts_at q))
+  stale_unasked None h = rw (code_at b at h)
+  stale_unasked (Some x) h = rw (code_at b at h)
+
+  -- and the one that pends is that of the instruction
+  pub stale_is : (q : Question) (g : Option Float) {e : Effect} {x : Bool} → at < code_count b → x ≡ putting q e → e ≡ effect_at inputs b at kept regs → not x ≡ stale_at inputs b regs at kept (some q) g
+  unfolding stale_at
+  stale_is q none h f g = rw (code_at b at h) (ap not f ∙ ap (λ d. not (putting q d)) g ∙ ap not (puts_at q))
+  stale_is q (some x) h f g = rw (code_at b at h) (ap not f ∙ ap (λ d. not (putting q d)) g ∙ ap not (puts_at q))
 
   not_false : (x : Bool) → not x ≡ false → x ≡ true
   not_false true e = refl
@@ -134,8 +111,8 @@ module _ (inputs : List Float) (b : List ℕ) (regs : List Float) (at : ℕ) (ke
   -- a value that is taken has a place
   pub supplying_is : (q : Option Question) (g : Option Float) → stale_at inputs b regs at kept q g ≡ false → supplying kept g ≡ more kept g
   supplying_is q none e = refl
-  supplying_is none (some v) e = ⊎_elim (λ h. clash (stale_is none (some v) _ h refl ∙ e)) (λ h. clash (stale_past none (some v) h ∙ e)) (lt_or_ge at (code_count b))
+  supplying_is none (some v) e = ⊎_elim (λ h. clash (stale_unasked (Some v) h ∙ e)) (λ h. clash (stale_past none (some v) h ∙ e)) (lt_or_ge at (code_count b))
   supplying_is (some q) (some v) e =
       ⊎_elim
-      (λ h. let p = not_false _ (stale_is (some q) (some v) _ h refl ∙ e) in take_all 9 (kept ++ v ∷ []) (simp length-append (let l = kept_room q p in omega arith)))
+      (λ h. let p = not_false _ (stale_is q (some v) h refl refl ∙ e) in take_all 9 (kept ++ v ∷ []) (simp length-append (let l = kept_room q p in omega arith)))
       (λ h. clash (stale_past (some q) (some v) h ∙ e)) (lt_or_ge at (code_count b))

@@ -8,7 +8,7 @@ use Rattle.formula.specs.Path.{placed}
 use Rattle.machine.specs.Machine as Machine
 use Rattle.machine.specs.Machine.{fresh, number_of, place_of}
 use Rattle.machine.specs.Progress.{Lawful}
-use Rattle.machine.proofs.Progress.{resume_lawful, run_lawful}
+use Rattle.machine.proofs.Progress.{resume_lawful, run_is_resume, run_lawful}
 use Rattle.layout.specs.Decode.{program_at}
 use Rattle.run.specs.Views.{HandsBack, answer_of, refusal_number, reply_of}
 use Rattle.run.specs.Calls.{resume_at, run_at}
@@ -19,8 +19,7 @@ use Rattle.run.specs.declared.State.{State}
 
 pub number_is : (b : List ℕ) (a : Answer) → refusal_number a ≡ number_of (answer_of b a)
 number_is b (A.Value v) = refl
-number_is b (A.Elementary f x) = refl
-number_is b (A.Power x y) = refl
+number_is b (A.Question q) = refl
 number_is b A.Spent = refl
 number_is b (A.Domain k) = refl
 number_is b (A.Refused n) = refl
@@ -32,6 +31,10 @@ module _ (inputs : List Float) (b : List ℕ) (room budget : ℕ) (regs : List F
   pub run_at_lawful : Lawful binary64 inputs (program_at b) budget none fresh regs (run_at inputs b room budget regs)
   unfolding run_at
   run_at_lawful = run_lawful binary64 inputs (program_at b) (record { room = room; budget = budget; given = none }) regs
+
+  pub run_resumes : run_at inputs b room budget regs ≡ resume_at inputs b room budget none fresh regs
+  unfolding run_at resume_at
+  run_resumes = run_is_resume binary64 inputs (program_at b) (record { room = room; budget = budget; given = none }) regs
 
   -- all that run promises, from its reply and the path slice
   pub run_promises : (r : Reply) (regs' : List Float) (path path' : List ℕ) → reply_of b r regs' ≡ run_at inputs b room budget regs

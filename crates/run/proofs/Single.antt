@@ -168,7 +168,7 @@ pub result_effect : (inputs : List Float) (b : List ℕ) (regs : List Float) (at
 result_effect inputs b regs at kept none v h R = never R.is_single
 result_effect inputs b regs at kept (some q) v h R =
     let l = at_code inputs b regs at kept (some q) (some v) h in
-    let p : putting q (effect_at inputs b at kept regs) ≡ true = not_false _ (stale_is inputs b regs at kept (some q) (some v) _ l refl ∙ h) in
+    let p : putting q (effect_at inputs b at kept regs) ≡ true = not_false _ (stale_is inputs b regs at kept q (some v) l refl refl ∙ h) in
     single_result inputs b at regs v q R.is_single (subst (λ (k : List Float). putting q (effect_at inputs b at k regs) ≡ true) R.none_kept p)
 
 -- ---- the reply
@@ -185,7 +185,7 @@ pub answered_reaches : (inputs : List Float) (b : List ℕ) (regs : List Float) 
     → effect_at inputs b at (v ∷ []) regs ≡ Work (Value v) → d ≡ destination_at b at → regs' ≡ set regs d v → Reaches inputs b budget at (v ∷ []) regs (budget - 1) (at + 1) [] regs'
 answered_reaches inputs b regs {regs'} budget at d v l h f e ed es =
     let T : Progressed b at (machine_effect inputs b at (v ∷ []) regs) (P.Next (at + 1)) regs regs' = value_done inputs b at (v ∷ []) regs (sym e) v d refl f ed es in
-    reaches_next inputs b (reaches_start inputs b budget at (v ∷ []) regs) (code_count b) (at + 1) l h refl refl T
+    reaches_next inputs b (reaches_start inputs b budget at (v ∷ []) regs) (at + 1) l h T
 
 -- and it counts
 pub answered_reply : (inputs : List Float) (b : List ℕ) (regs regs' regs'' : List Float) (budget at d : ℕ) (v : Float) (r : Reply) → 0 < budget → at < code_count b

@@ -1,42 +1,28 @@
 -- The two calls, by their tests.
-use mathlib.Core.Path.{◌≡◌, refl, ap, sym, ◌∙◌, subst}
+use mathlib.Core.Path.{◌≡◌, refl, ap, sym, ◌∙◌}
 use mathlib.Core.Bool.{Bool, true, false, ◌||◌}
 use mathlib.Core.List.{List, []}
 use mathlib.Core.Logic.{inl, inr, ⊎_elim}
 use mathlib.Core.Option.{Option}
 use Prim.Native.Nat.{ℕ, ◌≤◌, ◌<◌}
 use native.Mathlib.Omega.{arith}
-use borrow.Author.Tests.{lt-ltb, le-ltb, ltb-false, ltb-true, ne_eqb}
+use borrow.Author.Tests.{lt-ltb, le-ltb, ltb-false, ltb-true}
 use lib.Dec.{ltb}
 use lib.Ieee.{Float}
-use Rattle.formula.specs.Path.{placed}
 use Rattle.formula.proofs.Tests.{or_none}
 use Rattle.machine.specs.Program.{valid}
 use Rattle.machine.specs.Machine as Machine
 use Rattle.machine.specs.Machine.{fresh, place_of, refuse}
 use Rattle.layout.specs.Decode.{length_at, path_number, program_at}
 use Rattle.program.proofs.Pass.{valid_at, valid_raw}
-use Rattle.run.specs.Views.{HandsBack, Writable, answer_of, reply_of, state_of}
-use Rattle.run.specs.Calls.{KnownPlace, Settled, refusing, resume_at, run_at, stale_at, steps_at, supplying, unfit_at}
+use Rattle.run.specs.Views.{HandsBack, Writable, reply_of}
+use Rattle.run.specs.Calls.{KnownPlace, Settled, resume_at, run_at, stale_at, steps_at, supplying, unfit_at}
 use Rattle.run.specs.declared.Answer.{Answer}
 use Rattle.run.specs.declared.Answer.TheVariants as A
 use Rattle.run.specs.declared.Reply.{Reply}
 use Rattle.run.specs.declared.State.{State}
 use Rattle.run.proofs.Late.{supplying_is}
 use Rattle.run.proofs.Looping.{not_refused}
-
-pub refused_is : (b : List ℕ) {r : Reply} (n : ℕ) (s : State) (st : Machine.State) (regs : List Float) → r ≡ refusing n s → state_of s ≡ st → reply_of b r regs ≡ refuse n st regs
-refused_is b n s st regs e f = ap (λ x. reply_of b x regs) e ∙ ap (λ x. refuse n x regs) f
-
-pub refused_back : {r : Reply} (n : ℕ) (s : State) → r ≡ refusing n s → HandsBack s r
-refused_back n s e = λ m f. ap (λ (x : Reply). x.state) e
-
--- a refusal without a place writes nothing
-pub refused_plain : (b : List ℕ) (room n : ℕ) {r : Reply} (s : State) → r ≡ refusing n s → (n ≡ 5 → 4 ≤ room) → Writable b room r.answer
-refused_plain b room n {r} s e f = subst (λ (a : Answer). Writable b room a) (sym (ap (λ (x : Reply). x.answer) e)) f
-
-pub refused_unplaced : (b : List ℕ) (n : ℕ) {r : Reply} (s : State) (slice : List ℕ) → r ≡ refusing n s → (n ≡ 5 → ⊥) → slice ≡ placed (place_of (answer_of b r.answer)) slice
-refused_unplaced b n s slice e f = rw (e, ne_eqb n 5 f)
 
 -- what the test before 10 says of a call
 pub settled : (b : List ℕ) (room : ℕ) → (ltb room 8192 || valid (program_at b)) ≡ true → Settled b room
@@ -62,8 +48,7 @@ steps_writable inputs b room budget at kept regs regs' r v l e k = either r.answ
   where
     either : (a : Answer) → r.answer ≡ a → Writable b room a
     either (A.Value x) f = tt
-    either (A.Elementary f x) g = tt
-    either (A.Power x y) f = tt
+    either (A.Question q) f = tt
     either A.Spent f = tt
     either (A.Domain j) f =
         let p = k j f in

@@ -1,27 +1,20 @@
 -- The machine's calls on the program that the bytes are, and the parts of them.
-use Rattle.std.specs.Prelude.{◌≡◌, Bool, true, false, not, ◌||◌, List, [], ◌∷◌, ◌++◌, ◌⊎◌, ℕ, ◌+◌, ◌-◌, ◌≤◌, ◌<◌, get_or, take, eqb, Float}
+use Rattle.std.specs.Prelude.{◌≡◌, Bool, true, false, not, ◌||◌, List, [], ◌∷◌, ◌++◌, ◌⊎◌, ℕ, ◌+◌, ◌-◌, ◌≤◌, ◌<◌, take, eqb, Float}
 use Rattle.std.proofs.Math.Option.{Option, none, some}
 use Rattle.std.specs.Float.{binary64}
-use Rattle.arithmetic.specs.Value.{0f, finite}
+use Rattle.arithmetic.specs.Value.{finite}
 use Rattle.formula.specs.Text.{byte_at}
 use Rattle.formula.specs.Path.{path_room}
-use Rattle.meaning.specs.Work.{Question, elementary, power, same_question}
+use Rattle.meaning.specs.Work as Meaning
+use Rattle.meaning.specs.Work.{elementary, power, same_question}
 use Rattle.machine.specs.Program.{valid}
 use Rattle.machine.specs.Machine as Machine
-use Rattle.layout.specs.Decode.{code_count, path_number, program_at, raw_program, result_at, slot_at}
-use Rattle.work.specs.declared.Kept.{Kept}
+use Rattle.layout.specs.Decode.{code_count, path_number, program_at, raw_program, slot_at}
+use Rattle.work.specs.View.{question_of}
 use Rattle.work.specs.declared.Outcome.TheVariants as Outcome
 use Rattle.instruction.specs.declared.Effect.{Effect}
 use Rattle.instruction.specs.declared.Effect.TheVariants.{Jump, Work}
-use Rattle.instruction.specs.declared.Progress.{Progress}
-use Rattle.instruction.specs.declared.Progress.TheVariants as Progress
 use Rattle.run.specs.declared.Answer.{Answer}
-use Rattle.run.specs.declared.Answer.TheVariants as Answer
-use Rattle.run.specs.declared.Pending.{Pending}
-use Rattle.run.specs.declared.Pending.TheVariants as Pending
-use Rattle.run.specs.declared.State.{State}
-use Rattle.run.specs.declared.Reply.{Reply}
-use Rattle.run.specs.Views.{state_of}
 
 -- ---- the calls
 
@@ -57,64 +50,38 @@ pub record Reaches (inputs : List Float) (b : List ℕ) (budget position : ℕ) 
 unfoldable pub unfit_at : List Float → List ℕ → List Float → ℕ → Bool
 unfit_at inputs b regs budget = Machine.unfit binary64 inputs (raw_program b) regs budget
 
-unfoldable pub stale_at : List Float → List ℕ → List Float → ℕ → List Float → Option Question → Option Float → Bool
+unfoldable pub stale_at : List Float → List ℕ → List Float → ℕ → List Float → Option Meaning.Question → Option Float → Bool
 stale_at inputs b regs at kept pending given =
     Machine.stale binary64 inputs (raw_program b) (record { position = at; kept = kept; pending = pending }) regs given
 
 -- does the effect put this question?
-abbrev pub putting : Question → Effect → Bool
+abbrev pub putting : Meaning.Question → Effect → Bool
 putting q (Work (Outcome.Value v)) = false
 putting q (Work Outcome.Undefined) = false
-putting q (Work (Outcome.Elementary f x)) = same_question binary64 q (elementary f x)
-putting q (Work (Outcome.Power x y)) = same_question binary64 q (power x y)
+putting q (Work (Outcome.Question r)) = same_question binary64 q (question_of r)
 putting q (Jump to) = false
-
--- a value was supplied
-abbrev pub present : Option Float → Bool
-present none = false
-present (some x) = true
 
 -- ---- replies as the code makes them
 
-abbrev pub replying : Answer → ℕ → ℕ → Kept → Pending → Reply
-replying a count at kept pending = record { answer = a; count = count; state = record { position = at; kept = kept; pending = pending } }
-
--- progress that is no step ends the call; what is kept is lost after a Domain
-abbrev pub stopping : Progress → ℕ → ℕ → ℕ → Kept → Kept → Reply
-stopping (Progress.Next to) code done at kept empty = replying Answer.Spent done at kept Pending.Nothing
-stopping (Progress.Domain k) code done at kept empty = replying (Answer.Domain k) done code empty Pending.Nothing
-stopping (Progress.Elementary f x) code done at kept empty = replying (Answer.Elementary f x) done at kept (Pending.Elementary f x)
-stopping (Progress.Power x y) code done at kept empty = replying (Answer.Power x y) done at kept (Pending.Power x y)
-
-abbrev pub refusing : ℕ → State → Reply
-refusing n s = record { answer = Answer.Refused n; count = 0; state = s }
+-- nothing kept or pending
+abbrev pub bare : ℕ → Machine.State
+bare position = record { position = position; kept = []; pending = none }
 
 -- the record of a Domain is that of an instruction's path
 abbrev pub KnownPlace : List ℕ → Answer → Type 0
 KnownPlace b a = (k : ℕ) → a ≡ Answer.Domain k → (n : ℕ) × (n < code_count b) × (k ≡ path_number b n)
 
--- the end of the code: its value, nothing kept and nothing pending
-pub record Finished (b : List ℕ) (done : ℕ) (r : Reply) (regs : List Float) : Type 0 where
-  pub value : r.answer ≡ Answer.Value (get_or regs (result_at b) 0f)
-  pub counted : r.count ≡ done
-  pub ended : state_of r.state ≡ record { position = code_count b; kept = []; pending = none }
-
--- refusal 11, but for the position
-abbrev pub unasked : Effect → Option Question → Option Float → Bool
-unasked e none given = present given
-unasked e (some q) given = not (putting q e)
-
 -- a first question, of whose instruction no other can come: Hill and density begin with a Log
 abbrev pub log_opcode : ℕ
 log_opcode = 21
 
-abbrev pub single : List ℕ → ℕ → Option Question → Bool
+abbrev pub single : List ℕ → ℕ → Option Meaning.Question → Bool
 single b n none = false
 single b n (some (elementary f x)) = not (eqb f 1) || eqb (byte_at b (slot_at n)) log_opcode
 single b n (some (power x y)) = true
 
 -- the value supplied is the instruction's result
-pub record Results (b : List ℕ) (at : ℕ) (kept : List Float) (pending : Option Question) (given : Option Float) (v : Float) : Type 0 where
+pub record Results (b : List ℕ) (at : ℕ) (kept : List Float) (pending : Option Meaning.Question) (given : Option Float) (v : Float) : Type 0 where
   pub given_is : given ≡ some v
   pub is_finite : finite v ≡ true
   pub none_kept : kept ≡ []

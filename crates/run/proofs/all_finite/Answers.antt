@@ -1,17 +1,15 @@
-use mathlib.Core.Path.{refl, sym, ◌∙◌}
-use native.Mathlib.Omega.{arith}
-use lib.Ieee.{nan}
-use Rattle.run.proofs.Late.{finite_bad, finite_end, finite_step}
+-- Each is finite.
+use Rattle.std.proofs.Common.{refl, rules, tests, ◌∙◌, ◌&&◌}
+use Rattle.std.proofs.lemmas.Iterator.{YieldsList-from_slice}
+use Rattle.std.proofs.lemmas.Iterator.Search.{all_from_yields_List}
+use Rattle.std.proofs.lemmas.List.Recursion.{same_from_clauses}
+use Rattle.std.specs.List.{list_all}
+use Rattle.arithmetic.specs.Value.{finite}
+use Rattle.formula.specs.Text.{all}
 use Rattle.run.proofs.all_finite.Goals as goal
 
-pub loop-i-init : goal.loop-i-init
-loop-i-init c = (omega arith, refl)
-
-pub loop-i-preserved : goal.loop-i-preserved
-loop-i-preserved c = (omega arith, finite_step c.args.xs.now c.loop-i.i nan (omega arith) (sym c.is_finite-ok.ensures ∙ c.if-ok.true) c.loop-i.invariant.1)
-
-pub returns-else-ok : goal.returns-else-ok
-returns-else-ok c = finite_bad c.args.xs.now c.loop-i.i nan (omega arith) (sym c.is_finite-ok.ensures ∙ c.if-ok.false) c.loop-i.invariant.1
-
 pub returns : goal.returns
-returns c = finite_end c.args.xs.now c.loop-i.i (omega arith) c.loop-i.invariant.1
+returns c =
+    let xs = c.args.xs.now in
+    all_from_yields_List finite _ _ _ c.all.ensures.ran (YieldsList-from_slice xs cc) (λ x b q k. search (rules, tests))
+    ∙ same_from_clauses (list_all finite) (all finite) (λ x r. finite x && r) refl (λ x xs. refl) (λ x xs. refl) xs

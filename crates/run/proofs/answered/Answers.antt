@@ -1,34 +1,21 @@
-use mathlib.Core.Path.{ap, ◌∙◌}
-use mathlib.Core.List.{List}
-use Prim.Native.Nat.{◌+◌, ◌-◌}
-use native.Mathlib.Omega.{arith}
-use lib.Ieee.{Float}
+-- The instruction's result is stored, and the steps after it go on.
+use Rattle.std.proofs.Common.{arith, ◌+◌, ◌-◌}
 use Rattle.layout.specs.Decode.{destination_at}
-use Rattle.run.specs.Calls.{steps_at}
 use Rattle.run.proofs.Single.{answered_reply, few_counted}
 use Rattle.run.proofs.answered.Goals as goal
 
 pub overflow_add-result : goal.overflow_add-result
 overflow_add-result c =
-    let args = c.args in
-    let pre = c.requires in
-    let fresh = c.fresh-none in
-    let store = c.store in
-    let steps = c.steps-r in
-    let e = steps.ensures.reply ∙ ap (λ (k : List Float). steps_at args.inputs.now args.p.now (args.budget - 1) (args.position + 1) k store.new.xs) fresh.ensures in
-    omega (arith, few_counted args.inputs.now args.p.now (args.budget - 1) (args.position + 1) store.new.xs _ steps.result e, pre.0, c.ranges.budget)
+    let a = c.args in
+    let e = rw (c.next.ensures, c.new.ensures) at c.steps-reply.ensures.reply in
+    let few = few_counted a.inputs.now a.p.now (a.from.left - 1) (a.from.at + 1) c.store.new.xs _ c.steps-reply.result e in
+    omega (arith, few, c.requires.0)
 
-pub returns : goal.returns
+pub returns-clause-reply : goal.returns-clause-reply
 unfolding destination_at
-returns c =
-    let args = c.args in
+returns-clause-reply c =
+    let a = c.args in
     let pre = c.requires in
-    let fresh = c.fresh-none in
-    let store = c.store in
-    let steps = c.steps-r in
-    let e = steps.ensures.reply ∙ ap (λ (k : List Float). steps_at args.inputs.now args.p.now (args.budget - 1) (args.position + 1) k store.new.xs) fresh.ensures in
-    let word = c.word-to in record {
-      reply = answered_reply args.inputs.now args.p.now args.regs.now store.new.xs _ args.budget args.position word.result args.value
-          steps.result pre.0 pre.1 pre.3 pre.4 word.ensures.0 store.ensures e;
-      place = steps.ensures.place;
-    }
+    let e = rw (c.next.ensures, c.new.ensures) at c.steps-reply.ensures.reply in
+    answered_reply a.inputs.now a.p.now a.regs.now c.store.new.xs _ a.from.left a.from.at c.word-to.result a.value c.steps-reply.result pre.0 pre.1 pre.2 pre.3
+    c.word-to.ensures.0 c.store.ensures e

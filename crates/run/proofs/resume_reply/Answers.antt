@@ -1,59 +1,40 @@
-use mathlib.Core.Path.{refl, sym, ◌∙◌}
-use native.Mathlib.Omega.{arith}
+-- 5, then 11, then the steps.
+use Rattle.std.proofs.Common.{ap, arith, refl, sym, ◌∙◌}
 use Rattle.work.specs.View.{kept_values}
-use Rattle.run.specs.Views.{state_of, supplied_of}
 use Rattle.run.specs.Calls.{supplying}
+use Rattle.run.specs.Views.{reply_of, state_of, supplied_of}
 use Rattle.run.proofs.Single.{budget_left}
-use Rattle.run.proofs.Whole.{refused_back, refused_is, refused_plain, resume_5, resume_11, resume_goes, steps_back, steps_writable}
+use Rattle.run.proofs.Whole.{resume_5, resume_11, resume_goes, steps_back, steps_writable}
 use Rattle.run.proofs.resume_reply.Goals as goal
 
-pub returns-then-bad : goal.returns-then-bad
-returns-then-bad c =
-    let args = c.args in
-    let unfit = c.unfit-bad in
-    let refusal = c.refusal in record {
-      reply = λ v room l. refused_is args.p.now 5 args.state (state_of args.state) args.regs.now refusal.ensures refl
-          ∙ resume_5 args.inputs.now args.p.now room args.budget args.regs.now (supplied_of args.supplied) (state_of args.state)
-          l v (sym unfit.ensures ∙ c.if-bad.true);
-      place = λ v. refused_plain args.p.now 8192 5 args.state refusal.ensures (λ z. omega arith);
-      state = refused_back 5 args.state refusal.ensures;
-    }
+pub returns-then-unfit-clause-reply : goal.returns-then-unfit-clause-reply
+returns-then-unfit-clause-reply c =
+    let a = c.args in
+    λ v room l.
+    ap (λ r. reply_of a.p.now r a.regs.now) c.refused.ensures
+    ∙ resume_5 a.inputs.now a.p.now room a.budget a.regs.now (supplied_of a.supplied) (state_of a.state) l v (sym c.unfit.ensures ∙ c.if-unfit.true)
 
-pub returns-then-late : goal.returns-then-late
-returns-then-late c =
-    let args = c.args in
-    let unfit = c.unfit-bad in
-    let if1 = c.if-bad in
-    let stale = c.stale-late in
-    let refusal2 = c.refusal-then-late in record {
-      reply = λ v room l. refused_is args.p.now 11 args.state (state_of args.state) args.regs.now refusal2.ensures refl
-          ∙ resume_11 args.inputs.now args.p.now room args.budget args.regs.now (supplied_of args.supplied) (state_of args.state)
-          l v (sym unfit.ensures ∙ if1.false) (sym stale.ensures ∙ c.if-late.true);
-      place = λ v. refused_plain args.p.now 8192 11 args.state refusal2.ensures (λ z. omega arith);
-      state = refused_back 11 args.state refusal2.ensures;
-    }
+pub returns-then-stale-clause-reply : goal.returns-then-stale-clause-reply
+returns-then-stale-clause-reply c =
+    let a = c.args in
+    λ v room l.
+    ap (λ r. reply_of a.p.now r a.regs.now) c.refused-then-stale.ensures
+    ∙ resume_11 a.inputs.now a.p.now room a.budget a.regs.now (supplied_of a.supplied) (state_of a.state) l v (sym c.unfit.ensures ∙ c.if-unfit.false) (sym c.stale.ensures ∙ c.if-stale.true)
 
 pub goes-requires : goal.goes-requires
 goes-requires c =
-    let args = c.args in (
-      budget_left args.inputs.now args.p.now args.regs.now args.budget (sym c.unfit-bad.ensures ∙ c.if-bad.false),
-      sym c.stale-late.ensures ∙ c.if-late.false,
-    )
+    let a = c.args in
+    (budget_left a.inputs.now a.p.now a.regs.now a.budget (sym c.unfit.ensures ∙ c.if-unfit.false), sym c.stale.ensures ∙ c.if-stale.false)
 
 pub returns : goal.returns
 returns c =
-    let args = c.args in
-    let unfit = c.unfit-bad in
-    let if1 = c.if-bad in
-    let stale = c.stale-late in
-    let if2 = c.if-late in
-    let goes = c.goes in
-    let s = args.state in
-    let ks = supplying (kept_values s.kept) (supplied_of args.supplied) in record {
-      reply = λ v room l. goes.ensures.reply
-          ∙ resume_goes args.inputs.now args.p.now room args.budget args.regs.now (supplied_of args.supplied) (state_of s)
-          ks refl l v (sym unfit.ensures ∙ if1.false) (sym stale.ensures ∙ if2.false);
-      place = λ v. steps_writable args.inputs.now args.p.now 8192 args.budget s.position ks args.regs.now _
-          goes.result v (omega arith) goes.ensures.reply goes.ensures.place;
-      state = steps_back args.inputs.now args.p.now args.budget s.position ks args.regs.now _ goes.result s goes.ensures.reply;
+    let a = c.args in
+    let s = a.state in
+    let kept = supplying (kept_values s.kept) (supplied_of a.supplied) in
+    record {
+      reply = λ v room l.
+          c.goes.ensures.reply
+          ∙ resume_goes a.inputs.now a.p.now room a.budget a.regs.now (supplied_of a.supplied) (state_of s) kept refl l v (sym c.unfit.ensures ∙ c.if-unfit.false) (sym c.stale.ensures ∙ c.if-stale.false);
+      place = λ v. steps_writable a.inputs.now a.p.now 8192 a.budget s.position kept a.regs.now _ c.goes.result v (omega arith) c.goes.ensures.reply c.goes.ensures.place;
+      state = steps_back a.inputs.now a.p.now a.budget s.position kept a.regs.now _ c.goes.result s c.goes.ensures.reply;
     }

@@ -1,11 +1,9 @@
-use mathlib.Core.Path.{◌≡◌}
-use mathlib.Core.List.{[]}
-use lib.ListN.{length}
+use Rattle.std.proofs.Common.{[]}
 use Rattle.run.specs.Calls.{Reaches}
 use Rattle.run.proofs.straight.Given as goal
 
-abbrev pub invariant-loop-left : goal.invariant-loop-left
-invariant-loop-left l = (length l.regs ≡ length l.initial.regs) × Reaches l.inputs l.p l.budget l.position [] l.initial.regs l.left l.at [] l.regs
+abbrev pub invariant-loop-place : goal.invariant-loop-place
+invariant-loop-place l = Reaches l.inputs l.p l.fn.from.left l.fn.from.at [] l.fn.regs l.place.left l.place.at [] l.regs
 
-abbrev pub decreases-loop-left : goal.decreases-loop-left
-decreases-loop-left l = l.left
+abbrev pub decreases-loop-place : goal.decreases-loop-place
+decreases-loop-place l = l.place.left

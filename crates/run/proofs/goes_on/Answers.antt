@@ -1,9 +1,0 @@
-use mathlib.Core.Path.{◌∙◌}
-use borrow.Author.Tests.{le-ltb, lt-ltb}
-use Rattle.run.proofs.goes_on.Goals as goal
-
-pub returns-then-room-lt8192 : goal.returns-then-room-lt8192
-returns-then-room-lt8192 c = rw (lt-ltb c.args.room 8192 c.if-room-lt8192.true)
-
-pub returns-else-room-lt8192 : goal.returns-else-room-lt8192
-returns-else-room-lt8192 c = c.is_program.ensures ∙ rw (le-ltb c.args.room 8192 c.if-room-lt8192.false)
