@@ -1,7 +1,7 @@
 -- A formula within the limits, lowered into memory that is not the caller's.
 use lib.Seq.{length-take-le}
-use mathlib.Core.Path.{◌≡◌, refl, sym, ap, ◌∙◌}
-use mathlib.Core.Bool.{false}
+use mathlib.Core.Path.{◌≡◌, refl, ap, ◌∙◌}
+use mathlib.Core.Bool.{Bool, false}
 use mathlib.Core.List.{List, ◌++◌, append_assoc}
 use mathlib.Core.Option.{Option, none, some}
 use Prim.Native.Nat.{ℕ, ◌-◌, ◌*◌, ◌%◌, ◌≤◌, ◌<◌}
@@ -23,21 +23,12 @@ use Rattle.reader.proofs.Trees.{size_pos}
 use Rattle.lower.specs.Piece.{context_of}
 use Rattle.compile.specs.Outcome.{Fits, answer_to, fault_place, lowered_to, slice_after}
 use Rattle.compile.specs.Preparation.{Formed}
-use Rattle.compile.specs.declared.Answer.{Answer}
-use Rattle.compile.specs.declared.Answer.TheVariants.{Program, Refused, RefusedAt}
-use Rattle.compile.specs.declared.Lowered.{Lowered}
-use Rattle.compile.specs.declared.Lowered.TheVariants as Lows
+use Rattle.std.specs.Prelude.{Result, Ok, Err}
+use Rattle.refusals.specs.declared.Refusal.{Refusal}
+use Rattle.names.specs.declared.Kind.{Kind}
 use Rattle.compile.proofs.Entries.{all_fit, answer_is, few, long, place_is, slice_is}
 
-no_node_in : (o : Option Fault) (n k : ℕ) → RefusedAt n k ≡ answer_to o → ⊥
-no_node_in none n k e = let z : ◌≡◌ {A = ℕ} 0 1 = cc in omega arith
-no_node_in (some x) n k e = let z : ◌≡◌ {A = ℕ} 0 1 = cc in omega arith
-
--- a formula's first fault has a place and no node
-pub no_node : (K b : List ℕ) (n k : ℕ) → RefusedAt n k ≡ answer_to (fault (context_of K false) (term (tree_in 32 b 0)) root) → ⊥
-no_node K b n k e = no_node_in (fault (context_of K false) (term (tree_in 32 b 0)) root) n k e
-
-module _ (b K : List ℕ) (f : Formula) (ss : List Symbol) (F : Formed b K f ss) where
+module _ (b : List ℕ) (K : List Kind) (f : Formula) (ss : List Symbol) (F : Formed b K f ss) where
   pub small : 15 * length b ≤ 61440
   small = omega (arith, few b f F.formed F.limit, long b f F.formed F.limit)
 
@@ -68,7 +59,7 @@ module _ (b K : List ℕ) (f : Formula) (ss : List Symbol) (F : Formed b K f ss)
   O = fault (own_context ss) (term f) root
 
   -- what writing the program came to; own is the slice lent for it, p' its start
-  module _ (w : Answer) (q q' own p' : List ℕ) (ew : w ≡ answer_to (fault (context_of K false) (term (tree_in 32 b 0)) root))
+  module _ (w : Result Unit Refusal) (q q' own p' : List ℕ) (ew : w ≡ answer_to (fault (context_of K false) (term (tree_in 32 b 0)) root))
       (ep : p' ≡ slice_after (context_of K false) (tree_in 32 b 0) (fault (context_of K false) (term (tree_in 32 b 0)) root) (take (15 * length b) own))
       (eq : q' ≡ placed (fault_place (fault (context_of K false) (term (tree_in 32 b 0)) root)) q) where
     own_kind : (rest : List ℕ) → p' ≡ filled (image (own_context ss) f) (take (15 * length b) own) → get_or (p' ++ rest) 20 0 ≡ kind_number (kind (term f))
@@ -76,14 +67,14 @@ module _ (b K : List ℕ) (f : Formula) (ss : List Symbol) (F : Formed b K f ss)
         let z = zeros (length (take (15 * length b) own) - length (image (own_context ss) f)) in
         ap (λ (x : List ℕ). get_or (x ++ rest) 20 0) e ∙ ap (λ (x : List ℕ). get_or x 20 0) (append_assoc (image (own_context ss) f) z rest) ∙ header_kind (z ++ rest)
 
-    kind_at : (o : Option Fault) (rest : List ℕ) → w ≡ Program → w ≡ answer_to o → p' ≡ slice_after (own_context ss) f o (take (15 * length b) own)
-        → Lows.Kind (eqb (get_or (p' ++ rest) 20 0) 1) ≡ lowered_to f o
-    kind_at none rest h a c = ap (λ (x : ℕ). Lows.Kind (eqb x 1)) (own_kind rest c) ∙ ap Lows.Kind (boolean_is (kind (term f)))
+    kind_at : (o : Option Fault) (rest : List ℕ) → w ≡ Ok tt → w ≡ answer_to o → p' ≡ slice_after (own_context ss) f o (take (15 * length b) own)
+        → Ok (eqb (get_or (p' ++ rest) 20 0) 1) ≡ lowered_to f o
+    kind_at none rest h a c = ap (λ (x : ℕ). Ok (eqb x 1)) (own_kind rest c) ∙ ap (λ (x : Bool). Ok x) (boolean_is (kind (term f)))
     kind_at (some x) rest h a c = absurd (let z : ◌≡◌ {A = ℕ} 0 1 = cc in omega arith)
 
-    fault_at : (o : Option Fault) (n : ℕ) → w ≡ Refused n → w ≡ answer_to o → Lows.Refused n ≡ lowered_to f o
+    fault_at : (o : Option Fault) (n : Refusal) → w ≡ Err n → w ≡ answer_to o → Err n ≡ lowered_to f o
     fault_at none n h a = absurd (let z : ◌≡◌ {A = ℕ} 0 1 = cc in omega arith)
-    fault_at (some x) n h a = let e : n ≡ x.number = cc in ap Lows.Refused e
+    fault_at (some x) n h a = cc
 
     path_is : q' ≡ placed (fault_place O) q
     path_is = place_is b f F.formed F.limit K ss F.listed w q q q' (take (15 * length b) own) p' refl ew ep eq
@@ -91,9 +82,9 @@ module _ (b K : List ℕ) (f : Formula) (ss : List Symbol) (F : Formed b K f ss)
     answer_to_own : w ≡ answer_to O
     answer_to_own = answer_is b f F.formed F.limit K ss F.listed w q q q' (take (15 * length b) own) p' refl ew ep eq
 
-    pub lowered_kind : (rest : List ℕ) → w ≡ Program → (Lows.Kind (eqb (get_or (p' ++ rest) 20 0) 1) ≡ lowered_to f O) × (q' ≡ placed (fault_place O) q)
+    pub lowered_kind : (rest : List ℕ) → w ≡ Ok tt → (Ok (eqb (get_or (p' ++ rest) 20 0) 1) ≡ lowered_to f O) × (q' ≡ placed (fault_place O) q)
     lowered_kind rest h =
         (kind_at O rest h answer_to_own (slice_is b f F.formed F.limit K ss F.listed w q q q' (take (15 * length b) own) p' refl ew ep eq), path_is)
 
-    pub lowered_fault : (n : ℕ) → w ≡ Refused n → (Lows.Refused n ≡ lowered_to f O) × (q' ≡ placed (fault_place O) q)
+    pub lowered_fault : (n : Refusal) → w ≡ Err n → (Err n ≡ lowered_to f O) × (q' ≡ placed (fault_place O) q)
     lowered_fault n h = (fault_at O n h answer_to_own, path_is)

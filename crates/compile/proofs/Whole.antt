@@ -25,23 +25,25 @@ use Rattle.writer.proofs.Over.{over_before, over_length, over_over, text_zeroed}
 use Rattle.paths.proofs.Climb.{path_length, path_root}
 use Rattle.reader.proofs.Past.{word_past}
 use Rattle.lower.specs.Bytes.{laid}
-use Rattle.lower.specs.Piece.{Says, Sound, context_of, inner_count, is_boolean, kind_if, kind_of, own_piece, place}
+use Rattle.lower.specs.Piece.{Says, Sound, context_of, inner_count, is_boolean, kind_if, own_piece, place}
 use Rattle.lower.specs.Ready.{Ready}
 use Rattle.lower.specs.declared.Layout.{Layout}
 use Rattle.lower.specs.declared.Cursor.{Cursor}
 use Rattle.lower.specs.declared.Site.{Site}
 use Rattle.lower.specs.declared.Value.{Value}
-use Rattle.lower.specs.declared.Low.{Low}
-use Rattle.lower.specs.declared.Low.TheVariants.{Done, Fault as Faulty}
+use Rattle.lower.specs.Low.{Low, Done, Faulty}
+use Rattle.std.specs.Prelude.{Ok, Err}
+use Rattle.refusals.specs.declared.Refusal.{Refusal}
+use Rattle.names.specs.Lines.{symbol_kind}
+use Rattle.names.specs.declared.Kind.{Kind}
 use Rattle.lower.proofs.Frames.{third_word}
 use Rattle.lower.proofs.Compose.{inner_is}
 use Rattle.lower.proofs.Branches.{kind_back}
 use Rattle.lower.proofs.Says.{Refused, Taken, refused, taken}
 use Rattle.compile.specs.Outcome.{Fits, fault_place, answer_to, slice_after}
-use Rattle.compile.specs.declared.Answer.TheVariants as Answers
 use Rattle.compile.proofs.Faults.{Near, near}
 
-length_map : (xs : List ℕ) → length (map kind_of xs) ≡ length xs
+length_map : (xs : List Kind) → length (map symbol_kind xs) ≡ length xs
 length_map [] = refl
 length_map (x ∷ xs) = ap suc (length_map xs)
 
@@ -65,7 +67,7 @@ record_inside p base k N = go (ltb (base + 12 * k + 8) (length p)) refl
     go true e = ltb-true (base + 12 * k + 8) (length p) e
     go false e = absurd (omega (arith, long, word_past p (base + 12 * k + 8) (omega (arith, ltb-false (base + 12 * k + 8) (length p) e))))
 
-module _ (b : List ℕ) (d m : ℕ) (p ks : List ℕ) (g : Bool) (code records entries : ℕ) (F : Fits b d (length p) m) (ec : code ≡ instruction_count (term (tree_in d b 0)))
+module _ (b : List ℕ) (d m : ℕ) (p : List ℕ) (ks : List Kind) (g : Bool) (code records entries : ℕ) (F : Fits b d (length p) m) (ec : code ≡ instruction_count (term (tree_in d b 0)))
     (er : records ≡ path_count (term (tree_in d b 0))) (ee : entries ≡ entry_count (term (tree_in d b 0))) where
   abbrev f : Formula
   f = tree_in d b 0
@@ -136,7 +138,7 @@ module _ (b : List ℕ) (d m : ℕ) (p ks : List ℕ) (g : Bool) (code records e
     module _ (p₂ : List ℕ) (r : Low) (S : Says (own_piece C t (place L p₁ s) 0 c (0 + node_size * size f)) L c p₁ p₂ r) where
       -- ---- refused
 
-      module _ (n k : ℕ) (e : r ≡ Faulty n k) where
+      module _ (n : Refusal) (k : ℕ) (e : r ≡ Faulty n k) where
         pub R : Refused (own_piece C t (place L p₁ s) 0 c (0 + node_size * size f)) L c p₁ p₂ n k
         R = refused _ L c p₁ p₂ r n k S e
 
@@ -154,10 +156,10 @@ module _ (b : List ℕ) (d m : ℕ) (p ks : List ℕ) (g : Bool) (code records e
         )
 
         pub fault_answers : (p₃ q q' : List ℕ) → length p₂ ≡ length p → p₃ ≡ zeroed p₂ 0 → q' ≡ placed (some (path_in_table p₂ table k)) q
-            → (Answers.Refused n ≡ answer_to O) × (p₃ ≡ slice_after C f O p) × (q' ≡ placed (fault_place O) q)
+            → (Err n ≡ answer_to O) × (p₃ ≡ slice_after C f O p) × (q' ≡ placed (fault_place O) q)
         fault_answers p₃ q q' l e₃ eq =
-            subst (λ (o : Option Fault). (Answers.Refused n ≡ answer_to o) × (p₃ ≡ slice_after C f o p) × (q' ≡ placed (fault_place o) q)) (sym is_fault)
-            (ap Answers.Refused R.number, e₃ ∙ zeroed_all p₂ ∙ ap zeros l, eq ∙ ap (λ (y : Path). placed (some y) q) R.place)
+            subst (λ (o : Option Fault). (Err n ≡ answer_to o) × (p₃ ≡ slice_after C f o p) × (q' ≡ placed (fault_place o) q)) (sym is_fault)
+            (ap (λ (x : Refusal). Err x) R.number, e₃ ∙ zeroed_all p₂ ∙ ap zeros l, eq ∙ ap (λ (y : Path). placed (some y) q) R.place)
 
       -- ---- a program
 
@@ -242,9 +244,9 @@ module _ (b : List ℕ) (d m : ℕ) (p ks : List ℕ) (g : Bool) (code records e
         head_room l = omega (arith, all_room)
 
         pub program_answers : (p₃ p₄ q : List ℕ) → p₃ ≡ over p₂ 0 H → p₄ ≡ zeroed p₃ (table + 12 * records + 4 * entries)
-            → (Answers.Program ≡ answer_to O) × (p₄ ≡ slice_after C f O p) × (q ≡ placed (fault_place O) q)
+            → (Ok tt ≡ answer_to O) × (p₄ ≡ slice_after C f O p) × (q ≡ placed (fault_place O) q)
         program_answers p₃ p₄ q e₃ e₄ =
-            subst (λ (o : Option Fault). (Answers.Program ≡ answer_to o) × (p₄ ≡ slice_after C f o p) × (q ≡ placed (fault_place o) q)) (sym no_fault) (
+            subst (λ (o : Option Fault). (Ok tt ≡ answer_to o) × (p₄ ≡ slice_after C f o p) × (q ≡ placed (fault_place o) q)) (sym no_fault) (
               refl,
               e₄ ∙ text_zeroed p p₃ (image C f) (table + 12 * records + 4 * entries) (sym (length_image C f ∙ (let w : 32 + 24 * instruction_count t + 12 * path_count t + 4 * entry_count t ≡ table + 12 * records + 4 * entries = omega (arith, ec, er, ee) in w))) all_room (assembled p₃ e₃),
               refl,

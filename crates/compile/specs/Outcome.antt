@@ -1,5 +1,5 @@
 -- What writing a formula's program leaves, by the formula's first fault.
-use Rattle.std.specs.Prelude.{◌≡◌, true, List, ℕ, ◌*◌, ◌≤◌, length}
+use Rattle.std.specs.Prelude.{◌≡◌, Bool, true, List, ℕ, ◌*◌, ◌≤◌, length, Result, Ok, Err}
 use Rattle.std.proofs.Math.Option.{Option, none, some}
 use Rattle.formula.specs.Text.{zeros}
 use Rattle.formula.specs.Operator.{Boolean, same_kind}
@@ -11,20 +11,17 @@ use Rattle.machine.specs.Check.{Context, Fault, kind}
 use Rattle.machine.specs.Compile.{filled}
 use Rattle.machine.specs.Paths.{longest_path}
 use Rattle.layout.specs.Image.{image}
-use Rattle.compile.specs.declared.Answer.{Answer}
-use Rattle.compile.specs.declared.Answer.TheVariants.{Program, Refused}
-use Rattle.compile.specs.declared.Lowered.{Lowered}
-use Rattle.compile.specs.declared.Lowered.TheVariants.{Kind}
-use Rattle.compile.specs.declared.Lowered.TheVariants as Lowered_variants
+use Rattle.refusals.specs.Refusals.{refusal_of}
+use Rattle.refusals.specs.declared.Refusal.{Refusal}
 
-abbrev pub answer_to : Option Fault → Answer
-answer_to none = Program
-answer_to (some x) = Refused x.number
+abbrev pub answer_to : Option Fault → Result Unit Refusal
+answer_to none = Ok tt
+answer_to (some x) = Err (refusal_of x.number)
 
 -- whether the formula is Boolean, where it has no fault
-abbrev pub lowered_to : Formula → Option Fault → Lowered
-lowered_to f none = Kind (same_kind (kind (term f)) Boolean)
-lowered_to f (some x) = Lowered_variants.Refused x.number
+abbrev pub lowered_to : Formula → Option Fault → Result Bool Refusal
+lowered_to f none = Ok (same_kind (kind (term f)) Boolean)
+lowered_to f (some x) = Err (refusal_of x.number)
 
 abbrev pub fault_place : Option Fault → Option Path
 fault_place none = none

@@ -119,7 +119,10 @@ abbrev pub repeats : List ℕ → List Name → List ℕ → Bool
 repeats line [] x = false
 repeats line (n ∷ ns) x = same_bytes (text line n) x || repeats line ns x
 
+abbrev pub table_of : List Symbol → Names
+table_of ss = record { count = length ss; kinds = map kind_as (kinds ss) ++ replicate (256 - length ss) Kinds.Parameter }
+
 -- the table of a name line, or none: refusal 3
 abbrev pub names_of : Option (List Symbol) → Std.Option Names
 names_of none = None
-names_of (some ss) = Some (record { count = length ss; kinds = map kind_as (kinds ss) ++ replicate (256 - length ss) Kinds.Parameter })
+names_of (some ss) = Some (table_of ss)

@@ -1,91 +1,57 @@
-use mathlib.Core.Path.{refl, ap}
-use mathlib.Core.Option.{Option, none, some}
+use mathlib.Core.Path.{ap}
+use mathlib.Core.Option.{Option, some}
 use native.Mathlib.Omega.{arith}
-use lib.ListN.{length, take}
+use lib.ListN.{length}
+use Rattle.std.proofs.lemmas.Result.{err_from_is_err_and}
 use Rattle.formula.specs.Formula.{Formula}
 use Rattle.formula.specs.Path.{root}
 use Rattle.reader.specs.Read.{is_some}
-use Rattle.compile.proofs.Entries.{above_limit, all_fit, early, early_at, faults_left, limit_of, node_refusal_of, path_kept, path_rooted, prefix, prefix_long, refusal_of, source_of, within_table, written}
+use Rattle.compile.proofs.Entries.{above_limit, all_fit, counted, early, early_after, early_of, faults_left, limit_of, path_kept, path_rooted, prefix, source_of, written}
 use Rattle.compile.proofs.compile.Goals as goal
+
+pub returns-in_err-table : goal.returns-in_err-table
+returns-in_err-table c =
+    let args = c.args in
+    let given = err_from_is_err_and c.from_residual.result c.from_residual.ensures.1 in
+    rw (given.1, given.2)
+    (early_after _ _ args.path.now args.program.now
+    (early_of args.formula.now args.names.now (length args.path.now) (length args.program.now) _ c.in_err-table.ensures))
 
 pub within-requires : goal.within-requires
 within-requires c =
     let args = c.args in
-    let prepare = c.prepare-prepared in
-    let S = source_of args.formula.now args.names.now (length args.path.now) (length args.program.now) prepare.result
-    prepare.ensures c.in-Symbols.count c.in-Symbols.is in
+    let S = source_of args.formula.now args.names.now (length args.path.now) (length args.program.now) _ c.in_ok-table.ensures in
     (omega (arith, S.places), ap (λ (o : Option Formula). is_some o) S.formed)
 
-pub slice_bounds-kinds-end : goal.slice_bounds-kinds-end
-slice_bounds-kinds-end c =
+pub returns-in_err-within : goal.returns-in_err-within
+returns-in_err-within c =
     let args = c.args in
-    let prepare = c.prepare-prepared in
-    let S = source_of args.formula.now args.names.now (length args.path.now) (length args.program.now) prepare.result
-    prepare.ensures c.in-Symbols.count c.in-Symbols.is in
-    within_table c.in-Symbols.count prepare.result.kinds S.symbols S.count S.kinds_are
+    let S = source_of args.formula.now args.names.now (length args.path.now) (length args.program.now) _ c.in_ok-table.ensures in
+    let given = err_from_is_err_and c.from_residual-in_err-within.result c.from_residual-in_err-within.ensures.1 in
+    let limit = above_limit S _ c.in_err-within.ensures.0 in
+    rw (given.1, given.2)
+    (early _ 4 _ (some root) args.path.now _ args.program.now limit.0 (omega arith) limit.1
+    (path_rooted S _ c.in_err-within.ensures.0 args.path.now _ c.in_err-within.ensures.1))
 
-pub slice_bounds-write-end : goal.slice_bounds-write-end
-slice_bounds-write-end c =
+pub shared_ref_as_front-write : goal.shared_ref_as_front-write
+shared_ref_as_front-write c =
     let args = c.args in
-    let prepare = c.prepare-prepared in
-    let S = source_of args.formula.now args.names.now (length args.path.now) (length args.program.now) prepare.result
-    prepare.ensures c.in-Symbols.count c.in-Symbols.is in
-    prefix_long c.in-Symbols.count prepare.result.kinds S.symbols S.count S.kinds_are
+    let S = source_of args.formula.now args.names.now (length args.path.now) (length args.program.now) _ c.in_ok-table.ensures in
+    omega (arith, counted _ _ S.table, S.few)
 
 pub write-requires : goal.write-requires
 write-requires c =
     let args = c.args in
-    let prepare = c.prepare-prepared in
-    let within = c.within in
-    let if1 = c.if-within in
-    let S = source_of args.formula.now args.names.now (length args.path.now) (length args.program.now) prepare.result
-    prepare.ensures c.in-Symbols.count c.in-Symbols.is in
-    all_fit args.formula.now S.f S.formed (limit_of S within.result within.ensures.0 if1.true) _ _ (omega
-    (arith, S.places, ap length (path_kept args.path.now within.new.path within.result within.ensures.1 if1.true))) S.room
+    let S = source_of args.formula.now args.names.now (length args.path.now) (length args.program.now) _ c.in_ok-table.ensures in
+    let ok = c.in_ok-within.ensures.0 in
+    all_fit args.formula.now S.f S.formed (limit_of S ok) _ _
+    (omega (arith, S.places, ap length (path_kept S ok args.path.now _ c.in_ok-within.ensures.1))) S.room
 
-pub returns-then-within : goal.returns-then-within
-returns-then-within c =
+pub returns : goal.returns
+returns c =
     let args = c.args in
-    let prepare = c.prepare-prepared in
-    let within = c.within in
-    let if1 = c.if-within in
-    let write = c.write in
-    let S =
-    source_of args.formula.now args.names.now (length args.path.now) (length args.program.now) prepare.result prepare.ensures
-    c.in-Symbols.count c.in-Symbols.is in
-    let n = c.in-Symbols.count in
-    let K = prepare.result.kinds in
-    let limit = limit_of S within.result within.ensures.0 if1.true in
-    written args.formula.now S.f S.formed limit (take n K) S.symbols (prefix n K S.symbols S.count S.kinds_are) write.result
-    args.path.now within.new.path write.new.path args.program.now write.new.p
-    (path_kept args.path.now within.new.path within.result within.ensures.1 if1.true) write.ensures.0 write.ensures.1
-    write.ensures.2 _ (faults_left S within.result within.ensures.0 if1.true)
-
-pub returns-in-Refused : goal.returns-in-Refused
-returns-in-Refused c =
-    let args = c.args in
-    let prepare = c.prepare-prepared in
-    let n = c.in-Refused.n in
-    let R = refusal_of args.formula.now args.names.now (length args.path.now) (length args.program.now) prepare.result
-    prepare.ensures n c.in-Refused.is in
-    early _ n none args.path.now _ args.program.now R.0 R.1 refl
-
-pub returns-in-RefusedAt : goal.returns-in-RefusedAt
-returns-in-RefusedAt c =
-    let args = c.args in
-    let prepare = c.prepare-prepared in
-    let n = c.in-RefusedAt.n in
-    let k = c.in-RefusedAt.k in
-    early_at _ n k args.path.now args.program.now
-    (node_refusal_of args.formula.now args.names.now (length args.path.now) (length args.program.now) prepare.result prepare.ensures
-    n k c.in-RefusedAt.is)
-
-pub returns-else-within : goal.returns-else-within
-returns-else-within c =
-    let args = c.args in
-    let prepare = c.prepare-prepared in
-    let S = source_of args.formula.now args.names.now (length args.path.now) (length args.program.now) prepare.result
-    prepare.ensures c.in-Symbols.count c.in-Symbols.is in
-    let within = c.within in
-    early _ 4 (some root) args.path.now _ args.program.now (above_limit S within.result within.ensures.0 c.if-within.false) (omega arith)
-    (path_rooted args.path.now within.new.path within.result within.ensures.1 c.if-within.false)
+    let S = source_of args.formula.now args.names.now (length args.path.now) (length args.program.now) _ c.in_ok-table.ensures in
+    let ok = c.in_ok-within.ensures.0 in
+    written args.formula.now S.f S.formed (limit_of S ok) _ S.symbols (prefix _ S.symbols S.table) c.write.result args.path.now _ c.write.new.path
+    args.program.now c.write.new.p (path_kept S ok args.path.now _ c.in_ok-within.ensures.1) c.write.ensures.0 c.write.ensures.1 c.write.ensures.2 _
+    (faults_left S ok)
