@@ -3,10 +3,11 @@ use Rattle.std.proofs.Common.{◌≡◌, ℕ, zero, suc, ◌+◌, ◌-◌, ◌*�
 use mathlib.Core.Option.{Option, some}
 use lib.Bits.{bit_and, and_block, and_le_r, and_mask, and_zero_r}
 use Rattle.formula.specs.Text.{all_some, byte_at, half_at, joined, little_endian, long_at, word_at}
-use Rattle.names.specs.Lines.{cap, part, place}
+use Rattle.names.specs.Lines.{cap, part}
 use Rattle.std.specs.Prelude.{Some}
 use Rattle.values.specs.Eights.{AllBelow, Numbers, digit_byte}
-use Rattle.names.proofs.Digits.{digit_is}
+use Rattle.names.proofs.Digits as Digits
+use Rattle.names.proofs.Digits.{digit_again}
 use Rattle.names.proofs.Splits.{and_first, and_second}
 use Rattle.formula.specs.Values.{digit_of, digits_in, hex, hex_digits, numbered, of_digits}
 
@@ -100,8 +101,7 @@ byte_is d l = eqb-true (digit_byte d) (byte_of d) (passes (λ i. eqb (digit_byte
 
 -- read again, a digit's byte gives the digit
 byte_again : (d : ℕ) → d < 16 → digit_of (digit_byte d) ≡ some d
-byte_again d l =
-    (digit_is (digit_byte d) d (eqb-true d (place (digit_of (digit_byte d))) (passes (λ i. eqb i (place (digit_of (digit_byte i)))) 16 d refl l)) (λ e. omega arith)).0
+byte_again d l = ap digit_of (Digits.byte_is d l) ∙ digit_again d l
 
 bytes_below : (ds : List ℕ) → AllBelow 16 ds → AllBelow 256 (map byte_of ds)
 bytes_below [] h = tt

@@ -39,8 +39,8 @@ impl Partial {
     fn with_digit(self, b: u8) -> Reading
         ensures { ReadsDigit self b result }
     {
-        let digit = names::digit(b);
-        if digit == 16 || self.digits >= 16 {
+        let digit = names::digit(b)?;
+        if self.digits >= 16 {
             return None;
         }
         Some(Partial {
