@@ -97,6 +97,37 @@ impl<'a> Record<'a> {
     }
 }
 
+#[derive(Clone, Copy)]
+pub enum Kind {
+    Run,
+    Resume,
+    // A resume with a value.
+    Answer(f64),
+}
+
+// What a recorded call is given: 0 for a run, 1 for a resume, 2 for one with a value; the path slice's length; budget; value.
+#[derive(Clone, Copy)]
+pub struct Call {
+    pub kind: Kind,
+    pub room: usize,
+    pub budget: usize,
+}
+
+impl Call {
+    pub fn read(record: &mut Record) -> Call {
+        let number: u64 = record.cell();
+        let room = record.cell();
+        let budget = record.cell();
+        let value = record.cell();
+        let kind = match number {
+            0 => Kind::Run,
+            1 => Kind::Resume,
+            _ => Kind::Answer(value),
+        };
+        Call { kind, room, budget }
+    }
+}
+
 // Whether the cells of some bytes are these numbers, bit for bit.
 pub fn same<T: Cell>(recorded: &[u8], numbers: &[T]) -> bool {
     let mut record = Record::new(recorded);

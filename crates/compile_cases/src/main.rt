@@ -41,18 +41,20 @@ struct Head {
     node: usize,
 }
 
-fn head_of(record: &mut Record) -> Head {
-    Head {
-        formula: record.word(),
-        names: record.word(),
-        path: record.word(),
-        program: record.word(),
-        answer: record.word(),
-        text: record.word(),
-        after_text: record.word(),
-        code: record.word(),
-        after_code: record.word(),
-        node: record.word(),
+impl Head {
+    fn read(record: &mut Record) -> Head {
+        Head {
+            formula: record.word(),
+            names: record.word(),
+            path: record.word(),
+            program: record.word(),
+            answer: record.word(),
+            text: record.word(),
+            after_text: record.word(),
+            code: record.word(),
+            after_code: record.word(),
+            node: record.word(),
+        }
     }
 }
 
@@ -63,7 +65,7 @@ fn byte(word: usize) -> u8 {
 // Compiles the next case's formula; whether the answer and the slices are as recorded, and none where the record ends before
 // or asks for longer slices.
 fn compiled(record: &mut Record, path: &mut [u8], program: &mut [u8]) -> Option<bool> {
-    let head = head_of(record);
+    let head = Head::read(record);
     let formula = record.bytes(head.formula)?;
     let names = record.bytes(head.names)?;
     let text = record.bytes(head.text)?;

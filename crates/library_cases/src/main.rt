@@ -7,7 +7,7 @@
 // names, path text, tree, list of records and program, and for its calls the inputs. A call has 38 numbers: 0 for a run, 1 for a
 // resume, 2 for one with a value, the path slice's length, budget, value, the state's cells before, the answer, the cells after,
 // the length of the path's text; then that text and the registers before and after.
-use cases::{FILL, HELD, Record, Tally, is_left, is_reported, same, take, take_cells};
+use cases::{Call, FILL, HELD, Kind, Record, Tally, is_left, is_reported, same, take, take_cells};
 use std::io;
 use std::io::Stdin;
 use std::ops::ControlFlow;
@@ -38,27 +38,29 @@ struct Head {
     node: u64,
 }
 
-fn head_of(head: &[u8]) -> Head {
-    let mut record = Record::new(head);
-    Head {
-        formula: record.cell(),
-        names: record.cell(),
-        symbol: u32::try_from(record.cell::<u64>()).ok(),
-        path: record.cell(),
-        tree: record.cell(),
-        list: record.cell(),
-        program: record.cell(),
-        answer: record.cell(),
-        text: record.cell(),
-        tree_text: record.cell(),
-        list_text: record.cell(),
-        program_text: record.cell(),
-        tree_zero: record.cell::<u64>() == 1,
-        program_zero: record.cell::<u64>() == 1,
-        inputs: record.cell(),
-        registers: record.cell(),
-        calls: record.cell(),
-        node: record.cell(),
+impl Head {
+    fn read(head: &[u8]) -> Head {
+        let mut record = Record::new(head);
+        Head {
+            formula: record.cell(),
+            names: record.cell(),
+            symbol: u32::try_from(record.cell::<u64>()).ok(),
+            path: record.cell(),
+            tree: record.cell(),
+            list: record.cell(),
+            program: record.cell(),
+            answer: record.cell(),
+            text: record.cell(),
+            tree_text: record.cell(),
+            list_text: record.cell(),
+            program_text: record.cell(),
+            tree_zero: record.cell::<u64>() == 1,
+            program_zero: record.cell::<u64>() == 1,
+            inputs: record.cell(),
+            registers: record.cell(),
+            calls: record.cell(),
+            node: record.cell(),
+        }
     }
 }
 
@@ -130,56 +132,37 @@ fn is_made(
 
 // ---- calls
 
+// A call with the cells before it, and what is recorded after it.
 #[derive(Clone, Copy)]
-enum Kind {
-    Run,
-    Resume,
-    Answer(f64),
-}
-
-fn kind_of(number: u64, value: f64) -> Kind {
-    match number {
-        0 => Kind::Run,
-        1 => Kind::Resume,
-        _ => Kind::Answer(value),
-    }
-}
-
-#[derive(Clone, Copy)]
-struct Call {
-    kind: Kind,
-    room: usize,
-    budget: usize,
+struct Recorded {
+    call: Call,
     before: [u64; 16],
     answer: usize,
     after: [u64; 16],
     text: usize,
 }
 
-fn call_of(record: &[u8]) -> Call {
-    let mut record = Record::new(record);
-    let number = record.cell();
-    let room = record.cell();
-    let budget = record.cell();
-    let value = record.cell();
-    let mut before = [0u64; 16];
-    record.cells(&mut before);
-    let answer = record.cell();
-    let mut after = [0u64; 16];
-    record.cells(&mut after);
-    Call {
-        kind: kind_of(number, value),
-        room,
-        budget,
-        before,
-        answer,
-        after,
-        text: record.cell(),
+impl Recorded {
+    fn read(record: &[u8]) -> Recorded {
+        let mut record = Record::new(record);
+        let call = Call::read(&mut record);
+        let mut before = [0u64; 16];
+        record.cells(&mut before);
+        let answer = record.cell();
+        let mut after = [0u64; 16];
+        record.cells(&mut after);
+        Recorded {
+            call,
+            before,
+            answer,
+            after,
+            text: record.cell(),
+        }
     }
 }
 
 fn called(
-    call: &Call,
+    call: Call,
     program: &[u8],
     inputs: &[f64],
     registers: &mut [f64],
@@ -223,16 +206,20 @@ fn is_called(
     let mut record = [0; 304];
     let mut text = [0; 512];
     let mut after = [0; 2048];
-    let call = call_of(take(stdin, &mut record, 304)?);
-    let text = take(stdin, &mut text, call.text)?;
+    let recorded = Recorded::read(take(stdin, &mut record, 304)?);
+    let text = take(stdin, &mut text, recorded.text)?;
     take_cells(stdin, registers)?;
     let after = take(stdin, &mut after, registers.len().checked_mul(8)?)?;
-    let path = path.get_mut(..call.room)?;
+    let path = path.get_mut(..recorded.call.room)?;
     path.fill(FILL);
-    let mut cells = call.before;
-    let answer = called(&call, program, inputs, registers, path, &mut cells);
-    let told = answer == call.answer && cells == call.after;
-    Some(told && is_left(path, text, false) && same(after, registers))
+    let mut cells = recorded.before;
+    let answer = called(recorded.call, program, inputs, registers, path, &mut cells);
+    Some(
+        answer == recorded.answer
+            && cells == recorded.after
+            && is_left(path, text, false)
+            && same(after, registers),
+    )
 }
 
 // Whether the calls of a case are as recorded.
@@ -278,7 +265,7 @@ fn main(rt: HostRuntime) -> io::Result<()> {
     let stdout = rt.stdout();
     let mut tally = Tally::default();
     cases::each_head(stdin, &mut [0; 144], |head| {
-        let head = head_of(head);
+        let head = Head::read(head);
         let right = is_right(stdin, &head).unwrap_or(false);
         tally.count(stdout, right, head.calls)?;
         // What comes after a case that is not as recorded can't be told from it.

@@ -6,234 +6,195 @@
 // Standard input is cells of 8 bytes, the least first. The first is the number of lists. A list has the program's length
 // in bytes, the numbers of inputs, registers and calls, then those bytes, inputs and registers. A call has 14 cells, the
 // text that the path slice begins with, and the registers after it.
-use cases::{
-    Tally, all, cell, cut, fill, is_left, place, plus, read_values, same_values, say, size,
-};
-use floats::value::{bits_of, of_bits};
-use run::{Answer, Pending, Reply, State, Supplied};
+use cases::{Call, FILL, Kind, Record, Tally, is_left, same};
+use floats::value::bits_of;
+use run::{Answer, Reply, State};
 use std::io;
 use std::io::Stdout;
+use work::Question;
 
-// An answer or a question as recorded: its case and two numbers.
-fn is_recorded(b: &[u8], at: usize, tag: u64, x: u64, y: u64) -> bool {
-    cell(b, at) == tag && (cell(b, plus(at, 1)) == x && cell(b, plus(at, 2)) == y)
+// ---- a call
+
+// What is recorded after a call.
+#[derive(Drop)]
+struct After<'a> {
+    answer: [u64; 3],
+    count: usize,
+    position: usize,
+    kept: usize,
+    pending: [u64; 3],
+    text: &'a [u8],
+    registers: &'a [u8],
 }
 
-fn same_answer(b: &[u8], at: usize, answer: Answer) -> bool {
+// Text of n bytes and what fills it up to cells, one byte at least.
+fn padded<'a>(record: &mut Record<'a>, n: usize) -> Option<&'a [u8]> {
+    let text = record.bytes(n)?;
+    record.bytes(8 - n % 8)?;
+    Some(text)
+}
+
+fn three(record: &mut Record) -> [u64; 3] {
+    let mut cells = [0; 3];
+    record.cells(&mut cells);
+    cells
+}
+
+impl<'a> After<'a> {
+    fn read(record: &mut Record<'a>, registers: usize) -> Option<After<'a>> {
+        let answer = three(record);
+        let count = record.cell();
+        let position = record.cell();
+        let kept = record.cell();
+        let pending = three(record);
+        let length = record.cell();
+        Some(After {
+            answer,
+            count,
+            position,
+            kept,
+            pending,
+            text: padded(record, length)?,
+            registers: record.bytes(registers.checked_mul(8)?)?,
+        })
+    }
+}
+
+// A question and an answer as recorded: the case and two numbers.
+fn asked(question: Question) -> [u64; 3] {
+    match question {
+        Question::Elementary(f, x) => [1, u64::from(f), bits_of(x)],
+        Question::Power(x, y) => [2, bits_of(x), bits_of(y)],
+    }
+}
+
+fn told(answer: Answer) -> [u64; 3] {
     match answer {
-        Answer::Value(v) => is_recorded(b, at, 0, bits_of(v), 0),
-        Answer::Elementary(f, x) => is_recorded(b, at, 1, f as u64, bits_of(x)),
-        Answer::Power(x, y) => is_recorded(b, at, 2, bits_of(x), bits_of(y)),
-        Answer::Spent => is_recorded(b, at, 3, 0, 0),
-        Answer::Domain(k) => is_recorded(b, at, 4, 9, 0),
-        Answer::Refused(n) => is_recorded(b, at, 4, n as u64, 0),
+        Answer::Value(v) => [0, bits_of(v), 0],
+        Answer::Question(question) => asked(question),
+        Answer::Spent => [3, 0, 0],
+        Answer::Domain(_) => [4, 9, 0],
+        Answer::Refused(refusal) => [4, u64::from(refusal.number()), 0],
     }
 }
 
-fn same_pending(b: &[u8], at: usize, pending: Pending) -> bool {
-    match pending {
-        Pending::Nothing => is_recorded(b, at, 0, 0, 0),
-        Pending::Elementary(f, x) => is_recorded(b, at, 1, f as u64, bits_of(x)),
-        Pending::Power(x, y) => is_recorded(b, at, 2, bits_of(x), bits_of(y)),
-    }
+fn same_reply(after: &After, reply: Reply) -> bool {
+    let state = reply.state;
+    let pending = match state.pending {
+        Some(question) => asked(question),
+        None => [0; 3],
+    };
+    told(reply.answer) == after.answer
+        && reply.count == after.count
+        && state.position == after.position
+        && state.kept.count == after.kept
+        && pending == after.pending
 }
 
-// Cells 4 to 12 of a call: the answer, the count, the position, how many values are kept, the pending question.
-fn same_reply(b: &[u8], at: usize, r: Reply) -> bool {
-    let answer = r.answer;
-    let state = r.state;
-    let kept = state.kept;
-    let pending = state.pending;
-    same_answer(b, plus(at, 4), answer)
-        && (size(b, plus(at, 7)) == r.count
-            && (size(b, plus(at, 8)) == state.position
-                && (size(b, plus(at, 9)) == kept.count && same_pending(b, plus(at, 10), pending))))
-}
-
-fn supplied(b: &[u8], at: usize) -> Supplied {
-    if size(b, at) == 2 {
-        return Supplied::Value(of_bits(cell(b, plus(at, 3))));
-    }
-    Supplied::Nothing
-}
-
-// Cells 0 to 3 of a call: 0 for a run, 1 for a resume, 2 for one with a value; the path slice's length; budget; value.
-fn call(
-    b: &[u8],
-    at: usize,
-    p: &[u8],
+fn reply_to(
+    call: &Call,
+    program: &[u8],
     inputs: &[f64],
-    regs: &mut [f64],
+    registers: &mut [f64],
     path: &mut [u8],
     state: State,
 ) -> Reply {
-    let budget = size(b, plus(at, 2));
-    if size(b, at) == 0 {
-        return run::run(p, inputs, regs, path, budget);
-    }
-    run::resume(p, inputs, regs, path, budget, state, supplied(b, at))
-}
-
-fn same_call(b: &[u8], at: usize, regs: &[f64], path: &[u8], r: Reply) -> bool {
-    let length = size(b, plus(at, 13));
-    let text = plus(at, 14);
-    same_reply(b, at, r)
-        && (is_left(path, b, place(text), length, false)
-            && same_values(b, plus(text, length / 8 + 1), regs))
-}
-
-// Where the next call stands in the record, the state that the last one left, and the calls so far.
-#[derive(Drop)]
-struct Replayed {
-    at: usize,
-    state: State,
-    tally: Tally,
-}
-
-fn one_call(
-    stdout: Stdout,
-    b: &[u8],
-    before: Replayed,
-    p: &[u8],
-    inputs: &[f64],
-    regs: &mut [f64],
-    path: &mut [u8],
-    fits: bool,
-) -> io::Result<Replayed> {
-    let at = before.at;
-    let state = before.state;
-    let tally = before.tally;
-    fill(path);
-    let r = call(b, at, p, inputs, regs, path, state);
-    let t = cases::counted(stdout, tally, all(fits, same_call(b, at, regs, path, r)), 0)?;
-    let after = r.state;
-    Ok(Replayed {
-        at: plus(plus(at, 15), plus(size(b, plus(at, 13)) / 8, regs.len())),
-        state: after,
-        tally: t,
-    })
-}
-
-fn with_path(
-    stdout: Stdout,
-    b: &[u8],
-    before: Replayed,
-    p: &[u8],
-    inputs: &[f64],
-    regs: &mut [f64],
-) -> io::Result<Replayed> {
-    let mut path = [0u8; 8200];
-    let length = size(b, plus(before.at, 1));
-    let room = cut(length, 8200);
-    one_call(
-        stdout,
-        b,
-        before,
-        p,
-        inputs,
-        regs,
-        &mut path[0..room],
-        room == length,
-    )
-}
-
-fn replay(
-    stdout: Stdout,
-    b: &[u8],
-    from: Replayed,
-    calls: usize,
-    p: &[u8],
-    inputs: &[f64],
-    regs: &mut [f64],
-) -> io::Result<Replayed> {
-    let mut r = from;
-    let mut i = 0;
-    while i < calls {
-        r = with_path(stdout, b, r, p, inputs, regs)?;
-        i += 1;
-    }
-    Ok(r)
-}
-
-// Where the inputs, the registers and the first call of a list stand.
-fn inputs_at(b: &[u8], at: usize) -> usize {
-    plus(plus(at, 5), size(b, at) / 8)
-}
-
-fn registers_at(b: &[u8], at: usize) -> usize {
-    plus(inputs_at(b, at), size(b, plus(at, 1)))
-}
-
-fn calls_at(b: &[u8], at: usize) -> usize {
-    plus(registers_at(b, at), size(b, plus(at, 2)))
-}
-
-// A list that asks for more than 64 inputs or registers counts as a call that came out otherwise.
-fn checked(stdout: Stdout, b: &[u8], at: usize, t: Tally) -> io::Result<Tally> {
-    if size(b, plus(at, 1)) <= 64 && size(b, plus(at, 2)) <= 64 {
-        return Ok(t);
-    }
-    cases::counted(stdout, t, false, 0)
-}
-
-// A list whose inputs and registers are in the beginnings of the slices.
-fn list_in(
-    stdout: Stdout,
-    b: &[u8],
-    at: usize,
-    t: Tally,
-    inputs: &[f64],
-    regs: &mut [f64],
-) -> io::Result<Replayed> {
-    let n = cut(size(b, plus(at, 1)), inputs.len());
-    let m = cut(size(b, plus(at, 2)), regs.len());
-    let from = place(plus(at, 4));
-    let end = cut(plus(from, size(b, at)), b.len());
-    let start = cut(from, end);
-    let state = run::fresh_state();
-    let before = Replayed {
-        at: calls_at(b, at),
-        state: state,
-        tally: t,
+    let budget = call.budget;
+    let supplied = match call.kind {
+        Kind::Run => return run::run(program, inputs, registers, path, budget),
+        Kind::Resume => None,
+        Kind::Answer(value) => Some(value),
     };
-    replay(
-        stdout,
-        b,
-        before,
-        size(b, plus(at, 3)),
-        &b[start..end],
-        &inputs[0..n],
-        &mut regs[0..m],
+    run::resume(program, inputs, registers, path, budget, state, supplied)
+}
+
+// Whether the next call is as recorded; none where there is no room for its path. Leaves the state after it.
+fn is_right(
+    call: &Call,
+    after: &After,
+    program: &[u8],
+    inputs: &[f64],
+    registers: &mut [f64],
+    state: &mut State,
+) -> Option<bool> {
+    let mut path = [0; 8200];
+    let path = path.get_mut(..call.room)?;
+    path.fill(FILL);
+    let reply = reply_to(call, program, inputs, registers, path, *state);
+    *state = reply.state;
+    Some(
+        same_reply(after, reply)
+            && is_left(path, after.text, false)
+            && same(after.registers, registers),
     )
 }
 
-fn list(stdout: Stdout, b: &[u8], at: usize, t: Tally) -> io::Result<Replayed> {
-    let mut inputs = [0.0; 64];
-    let mut regs = [0.0; 64];
-    read_values(b, inputs_at(b, at), &mut inputs);
-    read_values(b, registers_at(b, at), &mut regs);
-    let t = checked(stdout, b, at, t)?;
-    list_in(stdout, b, at, t, &inputs, &mut regs)
+// ---- lists of calls
+
+#[derive(Clone, Copy)]
+struct List<'a> {
+    program: &'a [u8],
+    inputs: &'a [u8],
+    registers: &'a [u8],
+    calls: u64,
 }
 
-fn all_lists(stdout: Stdout, b: &[u8], lists: usize) -> io::Result<Tally> {
-    let mut t = cases::begin();
-    let mut at = 1;
-    let mut i = 0;
-    while i < lists {
-        let r = list(stdout, b, at, t)?;
-        at = r.at;
-        t = r.tally;
-        i += 1;
+impl<'a> List<'a> {
+    fn read(record: &mut Record<'a>) -> Option<List<'a>> {
+        let length = record.cell();
+        let inputs: usize = record.cell();
+        let registers: usize = record.cell();
+        let calls = record.cell();
+        Some(List {
+            program: padded(record, length)?,
+            inputs: record.bytes(inputs.checked_mul(8)?)?,
+            registers: record.bytes(registers.checked_mul(8)?)?,
+            calls,
+        })
     }
-    Ok(t)
+}
+
+// Counts the calls of the next list; none where the record ends before, or there is no room for its inputs or registers.
+fn count_list(stdout: Stdout, record: &mut Record, tally: &mut Tally) -> io::Result<Option<()>> {
+    let Some(list) = List::read(record) else {
+        return Ok(None);
+    };
+    let mut inputs = [0.0; 64];
+    let mut registers = [0.0; 64];
+    let Some(inputs) = inputs.get_mut(..list.inputs.len() / 8) else {
+        return Ok(None);
+    };
+    let Some(registers) = registers.get_mut(..list.registers.len() / 8) else {
+        return Ok(None);
+    };
+    Record::new(list.inputs).cells(inputs);
+    Record::new(list.registers).cells(registers);
+    let mut state = State::fresh();
+    for _ in 0..list.calls {
+        let call = Call::read(record);
+        let Some(after) = After::read(record, registers.len()) else {
+            return Ok(None);
+        };
+        let right = is_right(&call, &after, list.program, inputs, registers, &mut state);
+        tally.count(stdout, right.unwrap_or(false), 0)?;
+    }
+    Ok(Some(()))
 }
 
 fn main(rt: HostRuntime) -> io::Result<()> {
     let stdout = rt.stdout();
-    let mut b = [0u8; 131072];
-    cases::read_full(rt.stdin(), &mut b);
-    let t = all_lists(stdout, &b, size(&b, 0))?;
-    say(stdout, t.cases, b" calls\n")?;
-    cases::verdict(stdout, t)
+    let mut room = [0; 131072];
+    let n = cases::read_full(rt.stdin(), &mut room);
+    let mut record = Record::new(&room[0..n]);
+    let mut tally = Tally::default();
+    let lists: u64 = record.cell();
+    for _ in 0..lists {
+        // What comes after a list that is not all there can't be told from it.
+        if count_list(stdout, &mut record, &mut tally)?.is_none() {
+            tally.count(stdout, false, 0)?;
+            break;
+        }
+    }
+    println!(stdout; "{} calls", tally.cases)?;
+    tally.verdict(stdout)
 }
