@@ -3,7 +3,7 @@ use mathlib.Core.Path.{◌≡◌, refl, sym, ap, ap₂, ◌∙◌, subst}
 use mathlib.Core.Bool.{Bool, true, false, cond, not, ◌&&◌, ◌||◌}
 use mathlib.Core.List.{List, ◌++◌}
 use mathlib.Core.Option.{none, some}
-use Prim.Native.Nat.{ℕ, ◌+◌, ◌-◌, ◌*◌, ◌≤◌}
+use Prim.Native.Nat.{ℕ, ◌+◌, ◌*◌, ◌≤◌}
 use native.Mathlib.Omega.{arith}
 use lib.ListN.{length, length-append}
 use Rattle.refusals.specs.declared.Refusal.TheVariants.{WrongType, Unsupported}
@@ -13,7 +13,7 @@ use Rattle.formula.specs.Path.{Path, ◌▸◌, else_arm, then_arm}
 use Rattle.formula.specs.Term.{Term}
 use Rattle.machine.specs.Check.{Context, Fault, dynamic, fault, kind}
 use Rattle.machine.specs.Lower.{instruction_count, register_count, result_register}
-use Rattle.layout.specs.Image.{below, entry_count, lists, path_count, path_record, slot}
+use Rattle.layout.specs.Image.{below, entry_count, path_count, path_record, slot}
 use Rattle.layout.proofs.Lengths.{length_below, length_lists, length_slots}
 use Rattle.writer.specs.Over.{over}
 use Rattle.writer.proofs.Over.{over_length}

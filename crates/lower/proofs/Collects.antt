@@ -3,7 +3,7 @@ use mathlib.Core.Path.{◌≡◌, refl, sym, ap, ap₂, ◌∙◌, subst}
 use mathlib.Core.Bool.{Bool, true, false, cond, ◌&&◌, ◌||◌}
 use mathlib.Core.List.{List, [], ◌++◌}
 use mathlib.Core.Option.{Option, none, some}
-use Prim.Native.Nat.{ℕ, suc, ◌+◌, ◌-◌, ◌*◌, ◌≤◌}
+use Prim.Native.Nat.{ℕ, suc, ◌+◌, ◌*◌, ◌≤◌}
 use native.Mathlib.Omega.{arith}
 use lib.ListN.{length, get_or, length-append}
 use Rattle.refusals.specs.declared.Refusal.{Refusal}
@@ -14,7 +14,7 @@ use Rattle.formula.specs.Path.{Path, ◌▸◌, argument}
 use Rattle.formula.specs.Term.{Term, Terms, ◌and◌, end, term_count}
 use Rattle.machine.specs.Check.{Context, Fault, all_kind, any_dynamic, dynamic, fault, faults, kind}
 use Rattle.machine.specs.Lower.{instruction_count, instruction_counts, register_count, register_counts, result_register, result_registers}
-use Rattle.layout.specs.Image.{below, below_all, entries, entry_count, entry_counts, lists, lists_all, path_count, path_counts, path_record, slots_all}
+use Rattle.layout.specs.Image.{below, below_all, entries, entry_count, entry_counts, lists_all, path_count, path_counts, path_record, slots_all}
 use Rattle.layout.proofs.Lengths.{length_below, length_below_all, length_entries, length_lists, length_lists_all, length_result_registers, length_slots, length_slots_all}
 use Rattle.writer.specs.Over.{over}
 use Rattle.paths.specs.Table.{Linked, path_in_table}

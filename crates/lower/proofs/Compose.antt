@@ -2,7 +2,7 @@
 use mathlib.Core.Path.{◌≡◌, refl, sym, ap, ap₂, ◌∙◌, subst}
 use mathlib.Core.List.{List, [], ◌++◌}
 use mathlib.Core.Option.{Option, none, some}
-use Prim.Native.Nat.{ℕ, zero, suc, ◌+◌, ◌-◌, ◌*◌, ◌^◌, ◌≤◌, ◌<◌}
+use Prim.Native.Nat.{ℕ, suc, ◌+◌, ◌-◌, ◌*◌, ◌^◌, ◌≤◌, ◌<◌}
 use native.Mathlib.Omega.{arith}
 use lib.ListN.{length, length-append}
 use Rattle.refusals.specs.declared.Refusal.{Refusal}
@@ -16,7 +16,7 @@ use Rattle.layout.specs.Image.{below, entry_count, lists, path_count, path_recor
 use Rattle.layout.proofs.Lengths.{length_below, length_lists, length_slots}
 use Rattle.paths.proofs.Steps.{step_length_le}
 use Rattle.writer.specs.Over.{over}
-use Rattle.paths.specs.Table.{length_in, linked}
+use Rattle.paths.specs.Table.{length_in}
 use Rattle.writer.proofs.Over.{over_length, over_nil}
 use Rattle.lower.specs.Bytes.{Chunk, laid, written}
 use Rattle.lower.specs.Piece.{Kept, Piece, Says, SaysAt, Sound, inner_count, own_piece, place, term_piece}

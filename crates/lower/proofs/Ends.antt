@@ -1,6 +1,6 @@
 -- The answers of a leaf and of an operation's last step.
 use mathlib.Core.Path.{◌≡◌, refl, sym, ap, ◌∙◌, subst}
-use mathlib.Core.Bool.{Bool, true, false, cond, not, ◌&&◌, ◌||◌}
+use mathlib.Core.Bool.{Bool, true, false, not, ◌&&◌, ◌||◌}
 use mathlib.Core.List.{List, [], ◌∷◌, map}
 use mathlib.Core.Option.{none}
 use Prim.Native.Nat.{ℕ, zero, suc, ◌+◌, ◌*◌, ◌≤◌}
@@ -11,13 +11,12 @@ use borrow.Author.Tests.{eq-eqb, ne_eqb}
 use lib.Ieee.{Float, binary64, of_bits}
 use Rattle.refusals.specs.declared.Refusal.TheVariants.{InvalidInput, UnknownSymbol, WrongType, Unsupported, OutsideDomain}
 use Rattle.arithmetic.specs.Value.{finite}
-use Rattle.arithmetic.specs.Constant as Constant
 use Rattle.formula.specs.Names.{Parameter, varies}
 use Rattle.names.specs.Lines.{symbol_kind}
 use Rattle.names.specs.declared.Kind.{Kind}
 use Rattle.names.specs.declared.Kind.TheVariants as Kinds
 use Rattle.formula.specs.Term.{Term, literal, symbol, truth}
-use Rattle.machine.specs.Check.{Context, fault}
+use Rattle.machine.specs.Check.{Context}
 use Rattle.layout.specs.Image.{below, constant_slot, lists, slot, slots, truth_bits}
 use Rattle.writer.specs.Over.{over}
 use Rattle.reader.specs.declared.Fields.{Fields}

@@ -13,9 +13,8 @@ use Rattle.formula.specs.Operator.{And, Junction, Operation, Or, argument_kind, 
 use Rattle.formula.specs.Formula.{Head, all_well_formed, conditional, ifelse, is_node, junction, last, next, number, operation, size, sizes, well_formed}
 use Rattle.formula.specs.Formula as Written
 use Rattle.formula.specs.Node.{Fields, binaries, booleans, calls, compares, fields_at, head_at, head_of, heads, inner_head, rooted, tree_in, unaries, node_size}
-use Rattle.formula.specs.Term.{◌and◌, branch, chain, end, symbol, term, truth}
+use Rattle.formula.specs.Term.{branch, chain, end, term, truth}
 use Rattle.layout.specs.Opcode.{listing, operation_number}
-use Rattle.reader.specs.declared.Fields as Read
 use Rattle.lower.specs.Operators.{arity_at, chooses_at, gives_boolean, listing_at, opcode_at, stepped_at, takes_boolean}
 use Rattle.lower.specs.Piece.{arm, ends, is_boolean, junction_of, kids, past}
 

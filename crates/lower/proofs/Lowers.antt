@@ -12,7 +12,7 @@ use Rattle.formula.specs.Path.{Path, ◌▸◌, condition, step_text}
 use Rattle.formula.specs.Formula.{all_well_formed, size}
 use Rattle.formula.specs.Node.{tree_in, node_size}
 use Rattle.formula.specs.Term.{Term, ◌and◌, branch, term, terms, truth}
-use Rattle.machine.specs.Check.{Context, fault}
+use Rattle.machine.specs.Check.{Context}
 use Rattle.machine.specs.Lower.{instruction_count, register_count}
 use Rattle.machine.proofs.Laws.{instruction_count_pos}
 use Rattle.layout.specs.Opcode.{step_of}

@@ -9,7 +9,7 @@ use Rattle.refusals.specs.declared.Refusal.{Refusal}
 use Rattle.refusals.specs.Refusals.{refusal_of}
 use Rattle.machine.specs.Check.{Fault}
 use Rattle.writer.specs.Over.{over}
-use Rattle.paths.specs.Table.{Linked, linked, path_in_table}
+use Rattle.paths.specs.Table.{Linked, path_in_table}
 use Rattle.writer.proofs.Over.{over_nil}
 use Rattle.lower.specs.Bytes.{Chunk, laid, written}
 use Rattle.lower.specs.Piece.{Kept, Piece, Says, SaysAt, Sound, place}

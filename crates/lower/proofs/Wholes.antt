@@ -3,7 +3,7 @@ use mathlib.Core.Path.{◌≡◌, refl, sym, ap, ap₂, ◌∙◌, subst}
 use mathlib.Core.Bool.{Bool, true, false, cond}
 use mathlib.Core.List.{List, [], ◌++◌, append-nil}
 use mathlib.Core.Option.{Option, none, some}
-use mathlib.Core.Logic.{◌⊎◌, ⊎_elim}
+use mathlib.Core.Logic.{⊎_elim}
 use Prim.Native.Nat.{ℕ, zero, suc, ◌+◌, ◌-◌, ◌*◌, ◌≤◌, ◌<◌}
 use native.Mathlib.Omega.{arith}
 use lib.ListN.{length, get_or, length-append}
@@ -17,7 +17,7 @@ use Rattle.formula.specs.Formula as Written
 use Rattle.formula.specs.Node.{fields_at, head_of, tree_in, node_size}
 use Rattle.formula.specs.Node as Node
 use Rattle.formula.specs.Term.{Term, Terms, ◌and◌, apply, branch, branch_term, end, junction_term, literal, miscounted, symbol, term, term_count, term_from, terms, truth}
-use Rattle.machine.specs.Check.{Context, Fault, all_kind, any_dynamic, dynamic, fault, faults, kind}
+use Rattle.machine.specs.Check.{Context, Fault, all_kind, any_dynamic, faults}
 use Rattle.machine.specs.Lower.{instruction_count, instruction_counts, register_count, register_counts, result_registers}
 use Rattle.layout.specs.Opcode.{listing, operation_number}
 use Rattle.layout.specs.Image.{below, entries, entry_count, entry_counts, lists, operation_slot, own_entries, path_counts, slots}

@@ -1,12 +1,12 @@
 -- The nodes one after another: what each needs by itself, and what the trees that are left need.
 use mathlib.Core.Path.{◌≡◌, refl, sym, ap, ◌∙◌, subst}
-use mathlib.Core.Bool.{Bool, true, false, cond, not, ◌&&◌}
+use mathlib.Core.Bool.{Bool, true, false, not, ◌&&◌}
 use mathlib.Core.List.{List}
 use Prim.Native.Nat.{ℕ, zero, suc, ◌+◌, ◌-◌, ◌*◌, ◌^◌, ◌≤◌, ◌<◌}
 use native.Mathlib.Omega.{arith}
 use lib.ListN.{length}
 use lib.Dec.{eqb, ltb}
-use borrow.Author.Tests.{eqb-false, eqb-true, ltb-false, ltb-true}
+use borrow.Author.Tests.{ltb-true}
 use Rattle.formula.specs.Formula.{Formula, Formulas, all_well_formed, last, next, size, sizes, well_formed}
 use Rattle.formula.specs.Node.{children_at, fields_at, node_size, tree_in}
 use Rattle.formula.specs.Term.{term, terms}
@@ -16,12 +16,12 @@ use Rattle.reader.specs.Read.{written}
 use Rattle.reader.specs.declared.Fields.{Fields}
 use Rattle.reader.proofs.Trees.{count_le, levels_enough, more_levels}
 use Rattle.lower.specs.Operators.{chooses_at, listing_at}
-use Rattle.lower.specs.Piece.{kids, past}
+use Rattle.lower.specs.Piece.{kids}
 use Rattle.lower.proofs.Kids.{first_well, kids_none, kids_step, one_well, rest_well, stands}
 use Rattle.lower.proofs.Wholes as wholes
 use Rattle.tally.specs.declared.Counts.{Counts}
-use Rattle.tally.specs.Weight.{drops_at, more, one, weight}
-use Rattle.tally.proofs.Weights.{Small, bounded, counts, kids_end, node_counts, small, tree_end, weight_is}
+use Rattle.tally.specs.Weight.{drops_at, weight}
+use Rattle.tally.proofs.Weights.{bounded, counts, kids_end, node_counts, small, tree_end, weight_is}
 
 -- ---- levels enough for every tree in the bytes
 

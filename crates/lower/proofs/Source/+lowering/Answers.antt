@@ -8,7 +8,6 @@ use Rattle.formula.specs.Node.{node_size, tree_in}
 use Rattle.formula.specs.Term.{apply, term, terms}
 use Rattle.machine.proofs.Laws.{instruction_count_pos}
 use lib.Dec.{eqb}
-use Rattle.lower.specs.Low.{low_of}
 use Rattle.lower.specs.Piece.{arm, context_of, further, kids, leaf, past}
 use Rattle.lower.proofs.Answers.{arm_at, arm_from, arm_ready, arms_of, as_node, at_argument, leaf_ready, lists_as, miscounted_here, operands_as, operands_asked, operands_ready, ready_moved, ready_term, ready_to, rest_as, rest_ready, three_past, three_well, two_well, well_to}
 use Rattle.lower.proofs.Choices as choices
