@@ -36,36 +36,16 @@ module _ (b : List ℕ) (at : ℕ) (kept regs : List Float) where
   abbrev of_op : ℕ → Effect
   of_op op = shown_effect [] (get_or (ops b 0 (half_at b (at + 2)) (word_at b (at + 8)) (word_at b (at + 12)) (word_at b (at + 16))) op (jump 0)) 0 kept regs
 
-  -- two registers at most
-  pub pair_effect : (op i j : ℕ) (x y : Float) {w : Outcome} → 5 ≤ op → op < 20 → i ≡ word_at b (at + 8) → x ≡ get_or regs i 0f → j ≡ word_at b (at + 12) → y ≡ get_or regs j 0f
-      → w ≡ shown (advance (work_of op x y 0f) kept) → Work w ≡ operation_at b at op kept regs
+  -- an operation on its three registers, of which it may not look at all; Min and Max have a list
+  pub operands_effect : (op : ℕ) (x y z : Float) {w : Outcome} → 5 ≤ op → op < 35 → (op ≡ 31 → ⊥) → (op ≡ 32 → ⊥)
+      → x ≡ get_or regs (word_at b (at + 8)) 0f → y ≡ get_or regs (word_at b (at + 12)) 0f → z ≡ get_or regs (word_at b (at + 16)) 0f
+      → w ≡ shown (advance (work_of op x y z) kept) → Work w ≡ operation_at b at op kept regs
   unfolding operation_at
-  pair_effect op i j x y l h ei ex ej ey e =
-      let x' : x ≡ get_or regs (word_at b (at + 8)) 0f = ex ∙ ap (λ (k : ℕ). get_or regs k 0f) ei in
-      let y' : y ≡ get_or regs (word_at b (at + 12)) 0f = ey ∙ ap (λ (k : ℕ). get_or regs k 0f) ej in
-      ap Work (rw (x', y') at e)
-      ∙ one_of (λ (m : ℕ). Work (shown (advance (work_of m (get_or regs (word_at b (at + 8)) 0f) (get_or regs (word_at b (at + 12)) 0f) 0f) kept)) ≡ of_op m) 15 5 op l h
-      (refl, (refl, (refl, (refl, (refl, (refl, (refl, (refl, (refl, (refl, (refl, (refl, (refl, (refl, (refl, tt)))))))))))))))
-
-  pub single_effect : (op i : ℕ) (x : Float) {w : Outcome} → 20 ≤ op → op < 31 → i ≡ word_at b (at + 8) → x ≡ get_or regs i 0f
-      → w ≡ shown (advance (work_of op x 0f 0f) kept) → Work w ≡ operation_at b at op kept regs
-  unfolding operation_at
-  single_effect op i x l h ei ex e =
-      let x' : x ≡ get_or regs (word_at b (at + 8)) 0f = ex ∙ ap (λ (k : ℕ). get_or regs k 0f) ei in
-      ap Work (rw x' at e)
-      ∙ one_of (λ (m : ℕ). Work (shown (advance (work_of m (get_or regs (word_at b (at + 8)) 0f) 0f 0f) kept)) ≡ of_op m) 11 20 op l h
-      (refl, (refl, (refl, (refl, (refl, (refl, (refl, (refl, (refl, (refl, (refl, tt)))))))))))
-
-  pub triple_effect : (op i j k : ℕ) (x y z : Float) {w : Outcome} → 33 ≤ op → op < 35 → i ≡ word_at b (at + 8) → x ≡ get_or regs i 0f → j ≡ word_at b (at + 12) → y ≡ get_or regs j 0f
-      → k ≡ word_at b (at + 16) → z ≡ get_or regs k 0f → w ≡ shown (advance (work_of op x y z) kept) → Work w ≡ operation_at b at op kept regs
-  unfolding operation_at
-  triple_effect op i j k x y z l h ei ex ej ey ek ez e =
-      let x' : x ≡ get_or regs (word_at b (at + 8)) 0f = ex ∙ ap (λ (k : ℕ). get_or regs k 0f) ei in
-      let y' : y ≡ get_or regs (word_at b (at + 12)) 0f = ey ∙ ap (λ (k : ℕ). get_or regs k 0f) ej in
-      let z' : z ≡ get_or regs (word_at b (at + 16)) 0f = ez ∙ ap (λ (k : ℕ). get_or regs k 0f) ek in
-      ap Work (rw (x', y', z') at e)
-      ∙ one_of (λ (m : ℕ). Work (shown (advance (work_of m (get_or regs (word_at b (at + 8)) 0f) (get_or regs (word_at b (at + 12)) 0f) (get_or regs (word_at b (at + 16)) 0f)) kept)) ≡ of_op m) 2 33 op l h
-      (refl, (refl, tt))
+  operands_effect op x y z l h no_min no_max ex ey ez e =
+      ap Work (rw (ex, ey, ez) at e)
+      ∙ one_of (λ (m : ℕ). (m ≡ 31 → ⊥) → (m ≡ 32 → ⊥)
+      → Work (shown (advance (work_of m (get_or regs (word_at b (at + 8)) 0f) (get_or regs (word_at b (at + 12)) 0f) (get_or regs (word_at b (at + 16)) 0f)) kept)) ≡ of_op m) 30 5 op l h
+      (λ a b. refl, (λ a b. refl, (λ a b. refl, (λ a b. refl, (λ a b. refl, (λ a b. refl, (λ a b. refl, (λ a b. refl, (λ a b. refl, (λ a b. refl, (λ a b. refl, (λ a b. refl, (λ a b. refl, (λ a b. refl, (λ a b. refl, (λ a b. refl, (λ a b. refl, (λ a b. refl, (λ a b. refl, (λ a b. refl, (λ a b. refl, (λ a b. refl, (λ a b. refl, (λ a b. refl, (λ a b. refl, (λ a b. refl, (λ a b. absurd (a refl), (λ a b. absurd (b refl), (λ a b. refl, (λ a b. refl, tt)))))))))))))))))))))))))))))) no_min no_max
 
   pub least_effect : (op count a : ℕ) (v : Float) → op ≡ 31 → count ≡ half_at b (at + 2) → a ≡ word_at b (at + 8) → v ≡ extremum_at false b count a regs
       → Work (Value v) ≡ operation_at b at op kept regs
@@ -120,25 +100,25 @@ module _ (inputs : List Float) (b : List ℕ) (n : ℕ) (kept regs : List Float)
   unfolding op_of
   load_is op i v eo z ei e = by_op op eo (rw (z, e, ei))
 
-  pub copy_is : (op i : ℕ) (v : Float) → op ≡ byte_at b (slot_at n) → op ≡ 2 → i ≡ word_at b (slot_at n + 8) → v ≡ get_or regs i 0f → Work (Value v) ≡ effect_at inputs b n kept regs
+  pub copy_is : (op : ℕ) (v : Float) → op ≡ byte_at b (slot_at n) → op ≡ 2 → v ≡ get_or regs (word_at b (slot_at n + 8)) 0f → Work (Value v) ≡ effect_at inputs b n kept regs
   unfolding op_of
-  copy_is op i v eo z ei e = by_op op eo (rw (z, e, ei))
+  copy_is op v eo z e = by_op op eo (rw (z, e))
 
   pub jump_is : (op t : ℕ) → op ≡ byte_at b (slot_at n) → op ≡ 4 → t ≡ word_at b (slot_at n + 16) → Jump t ≡ effect_at inputs b n kept regs
   unfolding op_of
   jump_is op t eo z et = by_op op eo (rw (z, et))
 
-  branch : (op i t : ℕ) (v : Float) (x : Bool) → op ≡ byte_at b (slot_at n) → op ≡ 3 → i ≡ word_at b (slot_at n + 8) → v ≡ get_or regs i 0f → is_zero v ≡ x → t ≡ cond x (word_at b (slot_at n + 16)) (suc n)
+  branch : (op t : ℕ) (v : Float) (x : Bool) → op ≡ byte_at b (slot_at n) → op ≡ 3 → v ≡ get_or regs (word_at b (slot_at n + 8)) 0f → is_zero v ≡ x → t ≡ cond x (word_at b (slot_at n + 16)) (suc n)
       → Jump t ≡ effect_at inputs b n kept regs
   unfolding op_of
-  branch op i t v x eo z ei e ex et =
-      let q : is_zero (get_or regs (word_at b (slot_at n + 8)) 0f) ≡ x = ap (λ (k : ℕ). is_zero (get_or regs k 0f)) (sym ei) ∙ ap is_zero (sym e) ∙ ex in
+  branch op t v x eo z e ex et =
+      let q : is_zero (get_or regs (word_at b (slot_at n + 8)) 0f) ≡ x = ap is_zero (sym e) ∙ ex in
       by_op op eo (rw (z, q, et))
 
-  pub taken_is : (op i t : ℕ) (v : Float) → op ≡ byte_at b (slot_at n) → op ≡ 3 → i ≡ word_at b (slot_at n + 8) → v ≡ get_or regs i 0f → is_zero v ≡ true → t ≡ word_at b (slot_at n + 16)
+  pub taken_is : (op t : ℕ) (v : Float) → op ≡ byte_at b (slot_at n) → op ≡ 3 → v ≡ get_or regs (word_at b (slot_at n + 8)) 0f → is_zero v ≡ true → t ≡ word_at b (slot_at n + 16)
       → Jump t ≡ effect_at inputs b n kept regs
-  taken_is op i t v eo z ei e ex et = branch op i t v true eo z ei e ex et
+  taken_is op t v eo z e ex et = branch op t v true eo z e ex et
 
-  pub passed_is : (op i t : ℕ) (v : Float) → op ≡ byte_at b (slot_at n) → op ≡ 3 → i ≡ word_at b (slot_at n + 8) → v ≡ get_or regs i 0f → is_zero v ≡ false → t ≡ suc n
+  pub passed_is : (op t : ℕ) (v : Float) → op ≡ byte_at b (slot_at n) → op ≡ 3 → v ≡ get_or regs (word_at b (slot_at n + 8)) 0f → is_zero v ≡ false → t ≡ suc n
       → Jump t ≡ effect_at inputs b n kept regs
-  passed_is op i t v eo z ei e ex et = branch op i t v false eo z ei e ex et
+  passed_is op t v eo z e ex et = branch op t v false eo z e ex et

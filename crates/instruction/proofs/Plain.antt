@@ -14,7 +14,7 @@ use lib.Ieee.{Float, nan, inf, fin, up, down, lt, eq, ne}
 use lib.Ieee.Fits.{up_pos, down_pos, and_l, and_r}
 use Rattle.arithmetic.specs.Value.{0f}
 use Rattle.arithmetic.specs.Extremum.{extremum, held, hold, zero_of}
-use Rattle.instruction.specs.Effects.{beyond, strictly}
+use Rattle.floats.specs.Extremum.{beyond, strictly}
 
 -- ---- the order does not tell one zero from another
 data Zero : Float → Type 0 where

@@ -23,7 +23,7 @@ use Rattle.instruction.specs.Effects.{effect_at, extremum_at, operation_at, show
 use Rattle.instruction.specs.declared.Effect.{Effect}
 use Rattle.instruction.specs.declared.Effect.TheVariants.{Jump, Work}
 use Rattle.instruction.proofs.Done.{jump_done, value_done}
-use Rattle.instruction.proofs.Opcodes.{jump_is, least_effect, most_effect, operation_is, pair_effect, passed_is, single_effect, taken_is}
+use Rattle.instruction.proofs.Opcodes.{jump_is, least_effect, most_effect, operands_effect, operation_is, passed_is, taken_is}
 
 -- ---- by the opcode
 
@@ -71,16 +71,18 @@ module _ (b : List ℕ) (at op : ℕ) (regs : List Float) where
   of_opcode : (o : ℕ) (v : Float) → op ≡ o → 4 < o → (finite v ≡ true → (kept : List Float) → Work (Value v) ≡ operation_at b at o kept regs) → Works b at op regs v
   of_opcode o v e l h = λ f. (omega arith, λ kept. h f kept ∙ ap (λ (k : ℕ). operation_at b at k kept regs) (sym e))
 
-  pub single_works : (o i : ℕ) (x v : Float) → op ≡ o → 20 ≤ o → o < 31 → i ≡ word_at b (at + 8) → x ≡ get_or regs i 0f → ((kept : List Float) → Value v ≡ shown (advance (work_of o x 0f 0f) kept)) → Works b at op regs v
-  single_works o i x v e l h ei ex g = of_opcode o v e (omega arith) (λ f kept. single_effect b at kept regs o i x l h ei ex (g kept))
+  pub single_works : (o : ℕ) (x v : Float) → op ≡ o → 5 ≤ o → o < 31 → x ≡ get_or regs (word_at b (at + 8)) 0f → ((kept : List Float) (y z : Float) → Value v ≡ shown (advance (work_of o x y z) kept))
+      → Works b at op regs v
+  single_works o x v e l h ex g =
+      of_opcode o v e (omega arith) (λ f kept. operands_effect b at kept regs o x _ _ l (omega arith) (omega arith) (omega arith) ex refl refl (g kept _ _))
 
   remaining : (t : Bool) (x y v : Float) (kept : List Float) → lt 0f y ≡ t → v ≡ cond t (modulo binary64 x y) nan → finite v ≡ true → Value v ≡ shown (advance (modulo_work binary64 x y) kept)
   remaining true x y v kept e f g = rw (e, f) (given _ kept)
   remaining false x y v kept e f g = absurd (true≢false (sym g ∙ ap finite f))
 
-  pub modulo_works : (i j : ℕ) (x y v : Float) → op ≡ 13 → i ≡ word_at b (at + 8) → x ≡ get_or regs i 0f → j ≡ word_at b (at + 12) → y ≡ get_or regs j 0f → v ≡ cond (lt 0f y) (modulo binary64 x y) nan → Works b at op regs v
-  modulo_works i j x y v e ei ex ej ey g =
-      of_opcode 13 v e (omega arith) (λ f kept. pair_effect b at kept regs 13 i j x y (omega arith) (omega arith) ei ex ej ey (remaining (lt 0f y) x y v kept refl g f))
+  pub modulo_works : (x y v : Float) → op ≡ 13 → x ≡ get_or regs (word_at b (at + 8)) 0f → y ≡ get_or regs (word_at b (at + 12)) 0f → v ≡ cond (lt 0f y) (modulo binary64 x y) nan → Works b at op regs v
+  modulo_works x y v e ex ey g =
+      of_opcode 13 v e (omega arith) (λ f kept. operands_effect b at kept regs 13 x y _ (omega arith) (omega arith) (omega arith) (omega arith) ex ey refl (remaining (lt 0f y) x y v kept refl g f))
 
   pub least_works : (count a : ℕ) (v : Float) → op ≡ 31 → count ≡ half_at b (at + 2) → a ≡ word_at b (at + 8) → v ≡ extremum_at false b count a regs → Works b at op regs v
   least_works count a v e ec ea g = λ f. (omega arith, λ kept. least_effect b at kept regs op count a v e ec ea g)
@@ -125,7 +127,7 @@ module _ (inputs : List Float) (b : List ℕ) (n : ℕ) (regs : List Float) wher
 
   pub went_taken : (op i t : ℕ) (v : Float) → op ≡ byte_at b (slot_at n) → op ≡ 3 → i ≡ word_at b (slot_at n + 8) → v ≡ get_or regs i 0f → is_zero v ≡ true → t ≡ word_at b (slot_at n + 16)
       → Went inputs b n regs (Some t) regs
-  went_taken op i t v eo z ei ev f e = went_to t (λ kept. taken_is inputs b n kept regs op i t v eo z ei ev f e)
+  went_taken op i t v eo z ei ev f e = went_to t (λ kept. taken_is inputs b n kept regs op t v eo z (ev ∙ ap (λ (k : ℕ). get_or regs k 0f) ei) f e)
 
   pub went_on : (op i : ℕ) (v : Float) → op ≡ byte_at b (slot_at n) → op ≡ 3 → i ≡ word_at b (slot_at n + 8) → v ≡ get_or regs i 0f → is_zero v ≡ false → Went inputs b n regs (Some (n + 1)) regs
-  went_on op i v eo z ei ev f = went_to (n + 1) (λ kept. passed_is inputs b n kept regs op i (n + 1) v eo z ei ev f (add-one n))
+  went_on op i v eo z ei ev f = went_to (n + 1) (λ kept. passed_is inputs b n kept regs op (n + 1) v eo z (ev ∙ ap (λ (k : ℕ). get_or regs k 0f) ei) f (add-one n))

@@ -1,9 +1,9 @@
 -- What an instruction does, before a register is changed.
-use Rattle.std.specs.Prelude.{Bool, true, false, cond, List, [], ℕ, suc, ◌+◌, get_or, Float}
+use Rattle.std.specs.Prelude.{Bool, cond, List, [], ℕ, suc, ◌+◌, get_or, Float}
 use Rattle.std.specs.Float.{binary64}
-use Rattle.std.specs.Float.Ieee.{lt}
 use Rattle.arithmetic.specs.Value.{0f, is_zero}
-use Rattle.arithmetic.specs.Extremum.{above, below, extremum}
+use Rattle.arithmetic.specs.Extremum.{extremum}
+use Rattle.floats.specs.Extremum.{beyond}
 use Rattle.formula.specs.Text.{half_at, word_at}
 use Rattle.meaning.specs.Work.{advance, work}
 use Rattle.machine.specs.Program.{Op, constant, copy, jump, jump_if_false, load, perform}
@@ -25,16 +25,6 @@ shown_effect inputs (jump t) n kept regs = Jump t
 -- of the instruction n of the bytes
 unfoldable pub effect_at : List Float → List ℕ → ℕ → List Float → List Float → Effect
 effect_at inputs b n kept regs = shown_effect inputs (op_at b n) n kept regs
-
--- Max takes what is above, Min what is below
-abbrev pub beyond : Bool → Float → Float → Bool
-beyond true = above
-beyond false = below
-
--- strictly above, or below; zeros are equal
-abbrev pub strictly : Bool → Float → Float → Bool
-strictly true x y = lt y x
-strictly false x y = lt x y
 
 -- Min or Max of the registers in a list of the bytes
 unfoldable pub extremum_at : Bool → List ℕ → ℕ → ℕ → List Float → Float

@@ -7,7 +7,7 @@ ghost use Rattle.formula.specs.Text.{word_at};
 ghost use Rattle.layout.specs.Decode.{slot_at, slot_size};
 ghost use Rattle.instruction.specs.Common.{Stores, Went};
 
-use crate::{store, value_at};
+use crate::{A, B, C, DESTINATION, store, value_at};
 use layout::{HEADER_SIZE, SLOT_SIZE};
 use reader::known_word;
 use work::truth_value;
@@ -16,10 +16,11 @@ use work::truth_value;
 fn quotient(x: f64, y: f64) -> f64
     ensures { result ≡ cond (ne y 0f) (div binary64 x y) nan }
 {
-    if y != 0.0 { x / y } else { 0.0 / 0.0 }
+    if y != 0.0 { x / y } else { f64::NAN }
 }
 
 // What an instruction with the fields a and b stores, if it is finite; a NaN for one that is not common.
+// The registers are read in each arm: read before the match, they cost a constant or an input eight machine instructions more.
 fn value(op: u8, a: usize, b: usize, inputs: &[f64], regs: &[f64]) -> f64
     requires { (a < 4294967296) × (b < 4294967296) }
     ensures { Stores op a b inputs.now regs.now result }
@@ -41,7 +42,7 @@ fn value(op: u8, a: usize, b: usize, inputs: &[f64], regs: &[f64]) -> f64
         17 => truth_value(value_at(regs, a) >= value_at(regs, b)),
         18 => truth_value(value_at(regs, a) == value_at(regs, b)),
         19 => truth_value(value_at(regs, a) != value_at(regs, b)),
-        _ => 0.0 / 0.0,
+        _ => f64::NAN,
     }
 }
 
@@ -53,21 +54,19 @@ pub fn step(p: &[u8], n: usize, inputs: &[f64], regs: &mut [f64]) -> Option<usiz
 {
     let at = HEADER_SIZE + SLOT_SIZE * n;
     let op = p[at];
-    let a = known_word(p, at + 8);
-    let b = known_word(p, at + 12);
-    if op == 3 {
-        if value_at(regs, a) == 0.0 {
-            return Some(known_word(p, at + 16));
+    let a = known_word(p, at + A);
+    let b = known_word(p, at + B);
+    match op {
+        3 if value_at(regs, a) == 0.0 => Some(known_word(p, at + C)),
+        3 => Some(n + 1),
+        4 => Some(known_word(p, at + C)),
+        _ => {
+            let v = value(op, a, b, inputs, regs);
+            if !floats::value::is_finite(v) {
+                return None;
+            }
+            store(regs, known_word(p, at + DESTINATION), v);
+            Some(n + 1)
         }
-        return Some(n + 1);
     }
-    if op == 4 {
-        return Some(known_word(p, at + 16));
-    }
-    let v = value(op, a, b, inputs, regs);
-    if floats::value::is_finite(v) {
-        store(regs, known_word(p, at + 4), v);
-        return Some(n + 1);
-    }
-    None
 }

@@ -3,19 +3,20 @@
 pub mod common;
 pub mod longer;
 
-ghost use Rattle.std.specs.Prelude.{◌≡◌, true, false, ℕ, ◌+◌, ◌*◌, ◌<◌, ◌≤◌, get_or, length, set};
-ghost use Rattle.std.specs.Float.Ieee.{ne};
+ghost use Rattle.std.specs.Prelude.{◌≡◌, true, ℕ, ◌+◌, ◌*◌, ◌<◌, ◌≤◌, IfSome, get_or, length, set};
 ghost use Rattle.arithmetic.specs.Value.{0f};
-ghost use Rattle.arithmetic.specs.Extremum.{extremum, held};
+ghost use Rattle.arithmetic.specs.Extremum.{extremum};
 ghost use Rattle.formula.specs.Text.{word_at};
 ghost use Rattle.machine.specs.Machine.{read_all};
 ghost use Rattle.layout.specs.Decode.{entries_from, entry_at};
 ghost use Rattle.work.specs.View.{kept_values};
-ghost use Rattle.instruction.specs.Effects.{beyond, effect_at, extremum_at, operation_at, strictly};
+ghost use Rattle.floats.specs.Extremum.{strictly};
+ghost use Rattle.instruction.specs.Effects.{effect_at, extremum_at, operation_at};
 ghost use Rattle.instruction.specs.Progressing.{Progressed, machine_effect};
 
+use floats::extremum::{hold, is_beyond};
 use layout::{CODE_AT, ENTRY_SIZE, HEADER_SIZE, PATHS_AT, RECORD_SIZE, SLOT_SIZE};
-use reader::{byte, half, long, word};
+use reader::{byte, half, known_word, long, word};
 use work::{Kept, Outcome, Question};
 
 // What an instruction does: a node's work, or a jump.
@@ -33,13 +34,23 @@ pub enum Progress {
     Question(Question),
 }
 
+// Where the fields of an instruction stand in its slot, after its opcode.
+const COUNT: usize = 2;
+
+const DESTINATION: usize = 4;
+
+const A: usize = 8;
+
+const B: usize = 12;
+
+const C: usize = 16;
+
+const PATH: usize = 20;
+
 pub fn value_at(xs: &[f64], i: usize) -> f64
     ensures { result ≡ get_or xs.now i 0f }
 {
-    if i < xs.len() {
-        return xs[i];
-    }
-    0.0
+    if i < xs.len() { xs[i] } else { 0.0 }
 }
 
 pub fn store(xs: &mut [f64], i: usize, v: f64)
@@ -50,116 +61,86 @@ pub fn store(xs: &mut [f64], i: usize, v: f64)
     }
 }
 
-fn hold(most: bool, earlier: f64, next: f64) -> f64
-    ensures { result ≡ held (beyond most) earlier next }
+// The register whose number stands at a byte.
+fn register(p: &[u8], at: usize, regs: &[f64]) -> f64
+    ensures { result ≡ get_or regs.now (word_at p.now at) 0f }
 {
-    if most {
-        return floats::extremum::hold_above(earlier, next);
-    }
-    floats::extremum::hold_below(earlier, next)
+    value_at(regs, word(p, at))
 }
 
-// A number of 4 bytes; where they are known to be there, no test is made.
-fn entry(p: &[u8], at: usize, there: bool) -> usize
+// The same where the number is known to be there: no test is made.
+fn known_register(p: &[u8], at: usize, regs: &[f64]) -> f64
+    requires { at + 4 ≤ length p.now }
+    ensures { result ≡ get_or regs.now (word_at p.now at) 0f }
+{
+    value_at(regs, known_word(p, at))
+}
+
+fn entry(p: &[u8], at: usize, regs: &[f64], there: bool) -> f64
     requires { there ≡ true → at + 4 ≤ length p.now }
-    ensures { result ≡ word_at p.now at }
+    ensures { result ≡ get_or regs.now (word_at p.now at) 0f }
 {
     if there {
-        return reader::known_word(p, at);
+        known_register(p, at, regs)
+    } else {
+        register(p, at, regs)
     }
-    word(p, at)
 }
 
-// The next value where it is strictly below the earlier one; zeros are equal.
-fn lesser(earlier: f64, next: f64) -> f64
-    ensures { result ≡ held (strictly false) earlier next }
-{
-    if next < earlier {
-        return next;
-    }
-    earlier
-}
-
-// The next value where it is strictly above the earlier one; zeros are equal.
-fn greater(earlier: f64, next: f64) -> f64
-    ensures { result ≡ held (strictly true) earlier next }
-{
-    if next > earlier {
-        return next;
-    }
-    earlier
-}
-
-// Min of the registers of a list whose `count` entries begin at a byte and are there; zeros are equal.
-// Min and Max have a loop each: one loop with a test of `most` in it is slow.
-fn least(p: &[u8], at: usize, count: usize, regs: &[f64]) -> f64
+// Max of the registers of a list whose `count` entries begin at a byte and are there, or Min where `MOST` is false; zeros are equal.
+// `MOST` is a const parameter: one loop with a test of it at run time is slow.
+fn plain_extremum<const MOST: bool>(p: &[u8], at: usize, count: usize, regs: &[f64]) -> f64
     requires { (0 < count) × (at + 4 * count ≤ length p.now) }
-    ensures { (a : ℕ) → at ≡ entry_at p.now a → result ≡ extremum (strictly false) (read_all regs.now (entries_from p.now count a)) }
+    ensures { (a : ℕ) → at ≡ entry_at p.now a → result ≡ extremum (strictly MOST) (read_all regs.now (entries_from p.now count a)) }
 {
-    let mut extreme = value_at(regs, reader::known_word(p, at));
-    let mut i = 1;
-    while i < count {
-        extreme = lesser(
-            extreme,
-            value_at(regs, reader::known_word(p, at + ENTRY_SIZE * i)),
-        );
-        i += 1;
-    }
-    extreme
-}
-
-// The same for Max.
-fn greatest(p: &[u8], at: usize, count: usize, regs: &[f64]) -> f64
-    requires { (0 < count) × (at + 4 * count ≤ length p.now) }
-    ensures { (a : ℕ) → at ≡ entry_at p.now a → result ≡ extremum (strictly true) (read_all regs.now (entries_from p.now count a)) }
-{
-    let mut extreme = value_at(regs, reader::known_word(p, at));
-    let mut i = 1;
-    while i < count {
-        extreme = greater(
-            extreme,
-            value_at(regs, reader::known_word(p, at + ENTRY_SIZE * i)),
-        );
-        i += 1;
-    }
-    extreme
-}
-
-// Min or Max of a list that begins at a byte; a result that is a zero says nothing.
-fn strict(most: bool, p: &[u8], at: usize, count: usize, regs: &[f64], there: bool) -> f64
-    requires { (0 < count) × (there ≡ true → at + 4 * count ≤ length p.now) }
-    ensures { (a : ℕ) → at ≡ entry_at p.now a → ne result 0f ≡ true → result ≡ extremum_at most p.now count a regs.now }
-{
-    if there {
-        if most {
-            return greatest(p, at, count, regs);
+    let mut extreme = known_register(p, at, regs);
+    for i in 1..count {
+        let next = known_register(p, at + ENTRY_SIZE * i, regs);
+        if is_beyond::<MOST>(next, extreme) {
+            extreme = next;
         }
-        return least(p, at, count, regs);
     }
-    0.0
+    extreme
 }
 
-// Min or Max of the registers of a list in the program: `count` entries from the entry `a` on.
+// The same of a list that may not be there. A zero is no answer, as -0 is not told from +0.
+fn strict<const MOST: bool>(
+    p: &[u8],
+    at: usize,
+    count: usize,
+    regs: &[f64],
+    there: bool,
+) -> Option<f64>
+    requires { (0 < count) × (there ≡ true → at + 4 * count ≤ length p.now) }
+    ensures { (a : ℕ) → at ≡ entry_at p.now a → IfSome result (λ v. v ≡ extremum_at MOST p.now count a regs.now) }
+{
+    if there {
+        let x = plain_extremum::<MOST>(p, at, count, regs);
+        if x != 0.0 {
+            return Some(x);
+        }
+    }
+    None
+}
+
+// Max or Min of the registers of a list in the program: `count` entries from the entry `a` on.
 // Only a zero needs the loop here, which tells -0 from +0.
-fn extremum(most: bool, p: &[u8], count: usize, a: usize, regs: &[f64]) -> f64
+fn extremum<const MOST: bool>(p: &[u8], count: usize, a: usize, regs: &[f64]) -> f64
     requires { (count < 65536) × (a < 4294967296) }
-    ensures { result ≡ extremum_at most p.now count a regs.now }
+    ensures { result ≡ extremum_at MOST p.now count a regs.now }
 {
     if count == 0 {
-        return 0.0 / 0.0;
+        return f64::NAN;
     }
     let first = HEADER_SIZE + SLOT_SIZE * word(p, CODE_AT) + RECORD_SIZE * word(p, PATHS_AT);
     let there = first + ENTRY_SIZE * (a + count) <= p.len();
-    let x = strict(most, p, first + ENTRY_SIZE * a, count, regs, there);
-    if x != 0.0 {
+    if let Some(x) = strict::<MOST>(p, first + ENTRY_SIZE * a, count, regs, there) {
         return x;
     }
-    let mut extreme = value_at(regs, entry(p, first + ENTRY_SIZE * a, there));
-    let mut i = 1;
-    while i < count {
-        let next = value_at(regs, entry(p, first + ENTRY_SIZE * (a + i), there));
-        extreme = hold(most, extreme, next);
-        i += 1;
+    let mut extreme = entry(p, first + ENTRY_SIZE * a, regs, there);
+    for i in 1..count {
+        let next = entry(p, first + ENTRY_SIZE * (a + i), regs, there);
+        extreme = hold::<MOST>(extreme, next);
     }
     extreme
 }
@@ -169,26 +150,23 @@ fn operation(op: usize, p: &[u8], at: usize, regs: &[f64], kept: Kept) -> Effect
     requires { (4 < op) × (at < 1099511627776) }
     ensures { result ≡ operation_at p.now at op (kept_values kept) regs.now }
 {
-    let a = word(p, at + 8);
-    if op == 31 {
-        return Effect::Work(Outcome::Value(extremum(false, p, half(p, at + 2), a, regs)));
+    match op {
+        31 => {
+            let least = extremum::<false>(p, half(p, at + COUNT), word(p, at + A), regs);
+            Effect::Work(Outcome::Value(least))
+        }
+        32 => {
+            let most = extremum::<true>(p, half(p, at + COUNT), word(p, at + A), regs);
+            Effect::Work(Outcome::Value(most))
+        }
+        35.. => Effect::Jump(0),
+        _ => {
+            let x = register(p, at + A, regs);
+            let y = register(p, at + B, regs);
+            let z = register(p, at + C, regs);
+            Effect::Work(work::work(op, x, y, z, kept))
+        }
     }
-    if op == 32 {
-        return Effect::Work(Outcome::Value(extremum(true, p, half(p, at + 2), a, regs)));
-    }
-    let x = value_at(regs, a);
-    let y = value_at(regs, word(p, at + 12));
-    if op < 20 {
-        return Effect::Work(work::work(op, x, y, 0.0, kept));
-    }
-    if op < 31 {
-        return Effect::Work(work::work(op, x, 0.0, 0.0, kept));
-    }
-    if op < 35 {
-        let z = value_at(regs, word(p, at + 16));
-        return Effect::Work(work::work(op, x, y, z, kept));
-    }
-    Effect::Jump(0)
 }
 
 // What the instruction n does; no register is changed yet.
@@ -197,21 +175,21 @@ pub fn effect_at(p: &[u8], n: usize, inputs: &[f64], regs: &[f64], kept: Kept) -
     ensures { result ≡ effect_at inputs.now p.now n (kept_values kept) regs.now }
 {
     let at = HEADER_SIZE + SLOT_SIZE * n;
-    let op = byte(p, at) as usize;
-    if 4 < op {
-        return operation(op, p, at, regs, kept);
-    }
+    let op = usize::from(byte(p, at));
     match op {
-        0 => Effect::Work(Outcome::Value(floats::value::of_bits(long(p, at + 8)))),
-        1 => Effect::Work(Outcome::Value(value_at(inputs, word(p, at + 8)))),
-        2 => Effect::Work(Outcome::Value(value_at(regs, word(p, at + 8)))),
+        0 => Effect::Work(Outcome::Value(floats::value::of_bits(long(p, at + A)))),
+        1 => Effect::Work(Outcome::Value(value_at(inputs, word(p, at + A)))),
+        2 => Effect::Work(Outcome::Value(register(p, at + A, regs))),
         3 => {
-            if value_at(regs, word(p, at + 8)) == 0.0 {
-                return Effect::Jump(word(p, at + 16));
+            let condition = register(p, at + A, regs);
+            if condition == 0.0 {
+                Effect::Jump(word(p, at + C))
+            } else {
+                Effect::Jump(n + 1)
             }
-            Effect::Jump(n + 1)
         }
-        _ => Effect::Jump(word(p, at + 16)),
+        4 => Effect::Jump(word(p, at + C)),
+        _ => operation(op, p, at, regs, kept),
     }
 }
 
@@ -221,19 +199,14 @@ pub fn step(p: &[u8], n: usize, inputs: &[f64], regs: &mut [f64], kept: Kept) ->
     ensures { Progressed p.now n (machine_effect inputs.now p.now n (kept_values kept) regs.old) result regs.old regs.new }
 {
     let at = HEADER_SIZE + SLOT_SIZE * n;
-    let e = effect_at(p, n, inputs, regs, kept);
-    match e {
+    match effect_at(p, n, inputs, regs, kept) {
         Effect::Jump(to) => Progress::Next(to),
-        Effect::Work(w) => match w {
-            Outcome::Value(v) => {
-                if floats::value::is_finite(v) {
-                    store(regs, word(p, at + 4), v);
-                    return Progress::Next(n + 1);
-                }
-                Progress::Domain(word(p, at + 20))
-            }
-            Outcome::Undefined => Progress::Domain(word(p, at + 20)),
-            Outcome::Question(q) => Progress::Question(q),
-        },
+        Effect::Work(Outcome::Value(v)) if floats::value::is_finite(v) => {
+            store(regs, word(p, at + DESTINATION), v);
+            Progress::Next(n + 1)
+        }
+        Effect::Work(Outcome::Value(_)) => Progress::Domain(word(p, at + PATH)),
+        Effect::Work(Outcome::Undefined) => Progress::Domain(word(p, at + PATH)),
+        Effect::Work(Outcome::Question(q)) => Progress::Question(q),
     }
 }

@@ -7,7 +7,7 @@ ghost use Rattle.arithmetic.specs.Modulo.{modulo};
 ghost use Rattle.layout.specs.Decode.{slot_at, slot_size};
 ghost use Rattle.instruction.specs.Common.{Went, Works};
 
-use crate::{extremum, store, value_at};
+use crate::{A, B, COUNT, DESTINATION, extremum, known_register, store};
 use layout::{HEADER_SIZE, SLOT_SIZE};
 use reader::{half, known_word};
 
@@ -18,7 +18,7 @@ fn remainder(a: f64, b: f64) -> f64
     if 0.0 < b {
         floats::modulo::modulo(a, b)
     } else {
-        0.0 / 0.0
+        f64::NAN
     }
 }
 
@@ -27,16 +27,18 @@ fn value(op: u8, p: &[u8], at: usize, regs: &[f64]) -> f64
     requires { (at < 1099511627776) × (at + slot_size ≤ length p.now) }
     ensures { Works p.now at op regs.now result }
 {
-    let a = known_word(p, at + 8);
     match op {
-        13 => remainder(value_at(regs, a), value_at(regs, known_word(p, at + 12))),
-        23 => floats::root::sqrt(value_at(regs, a)),
-        28 => floats::value::abs(value_at(regs, a)),
-        29 => floats::whole::floor(value_at(regs, a)),
-        30 => floats::whole::ceil(value_at(regs, a)),
-        31 => extremum(false, p, half(p, at + 2), a, regs),
-        32 => extremum(true, p, half(p, at + 2), a, regs),
-        _ => 0.0 / 0.0,
+        13 => remainder(
+            known_register(p, at + A, regs),
+            known_register(p, at + B, regs),
+        ),
+        23 => floats::root::sqrt(known_register(p, at + A, regs)),
+        28 => floats::value::abs(known_register(p, at + A, regs)),
+        29 => floats::whole::floor(known_register(p, at + A, regs)),
+        30 => floats::whole::ceil(known_register(p, at + A, regs)),
+        31 => extremum::<false>(p, half(p, at + COUNT), known_word(p, at + A), regs),
+        32 => extremum::<true>(p, half(p, at + COUNT), known_word(p, at + A), regs),
+        _ => f64::NAN,
     }
 }
 
@@ -49,7 +51,7 @@ pub fn step(p: &[u8], n: usize, regs: &mut [f64]) -> Option<usize>
     let op = p[at];
     let v = value(op, p, at, regs);
     if floats::value::is_finite(v) {
-        store(regs, known_word(p, at + 4), v);
+        store(regs, known_word(p, at + DESTINATION), v);
         return Some(n + 1);
     }
     None

@@ -5,43 +5,29 @@ use Rattle.instruction.specs.declared.Effect.TheVariants.{Work}
 use Rattle.instruction.proofs.Done.{infinite_done, jump_done, question_done, undefined_done, value_done}
 use Rattle.instruction.proofs.step.Goals as goal
 
-pub returns-then-is_finite : goal.returns-then-is_finite
-unfolding destination_at
-returns-then-is_finite c =
-    let args = c.args in
-    let effect_at = c.effect_at-e in
-    let is_finite = c.is_finite in
-    let if1 = c.if-is_finite in
-    let word = c.word in
-    let store = c.store in
-    value_done args.inputs.now args.p.now args.n (kept_values args.kept) args.regs.now effect_at.ensures c.in-Value.v
-    word.result (c.in-Work.is ∙ ap Work c.in-Value.is) (sym is_finite.ensures ∙ if1.true) word.ensures.0 store.ensures
-
 pub returns-in-Jump : goal.returns-in-Jump
 returns-in-Jump c =
-    let args = c.args in
-    let effect_at = c.effect_at-e in
-    jump_done args.inputs.now args.p.now args.n (kept_values args.kept) args.regs.now effect_at.ensures c.in-Jump.to
-    c.in-Jump.is
+    jump_done c.args.inputs.now c.args.p.now c.args.n (kept_values c.args.kept) c.args.regs.now c.effect_at.ensures c.in-Jump.to c.in-Jump.is
 
-pub returns-else-is_finite : goal.returns-else-is_finite
+pub returns-in-Work-Value : goal.returns-in-Work-Value
+unfolding destination_at
+returns-in-Work-Value c =
+    value_done c.args.inputs.now c.args.p.now c.args.n (kept_values c.args.kept) c.args.regs.now c.effect_at.ensures c.in-Work-Value.v c.word.result
+    (c.in-Work-Value.is ∙ ap Work c.in-Work-Value.field-0-is) (sym c.is_finite.ensures ∙ c.if-is_finite.true) c.word.ensures.0 c.store.ensures
+
+pub returns-in-Work-Value-2 : goal.returns-in-Work-Value-2
 unfolding path_number
-returns-else-is_finite c =
-    let args = c.args in
-    let effect_at = c.effect_at-e in
-    let is_finite = c.is_finite in
-    infinite_done args.inputs.now args.p.now args.n (kept_values args.kept) args.regs.now effect_at.ensures c.in-Value.v
-    c.word-in-Value.result (c.in-Work.is ∙ ap Work c.in-Value.is) (sym is_finite.ensures ∙ c.if-is_finite.false) c.word-in-Value.ensures.0
+returns-in-Work-Value-2 c =
+    infinite_done c.args.inputs.now c.args.p.now c.args.n (kept_values c.args.kept) c.args.regs.now c.effect_at.ensures c.in-Work-Value.v c.word-in-Work-Value-2.result
+    (c.in-Work-Value.is ∙ ap Work c.in-Work-Value.field-0-is) (sym c.is_finite.ensures ∙ c.if-is_finite.false) c.word-in-Work-Value-2.ensures.0
 
-pub returns-in-Undefined : goal.returns-in-Undefined
+pub returns-in-Work-Undefined : goal.returns-in-Work-Undefined
 unfolding path_number
-returns-in-Undefined c =
-    let args = c.args in
-    let effect_at = c.effect_at-e in
-    undefined_done args.inputs.now args.p.now args.n (kept_values args.kept) args.regs.now effect_at.ensures c.word-in-Undefined.result
-    (c.in-Work.is ∙ ap Work c.in-Undefined.is) c.word-in-Undefined.ensures.0
+returns-in-Work-Undefined c =
+    undefined_done c.args.inputs.now c.args.p.now c.args.n (kept_values c.args.kept) c.args.regs.now c.effect_at.ensures c.word-in-Work-Undefined.result
+    (c.in-Work-Undefined.is ∙ ap Work c.in-Work-Undefined.field-0-is) c.word-in-Work-Undefined.ensures.0
 
-pub returns-in-Question : goal.returns-in-Question
-returns-in-Question c =
-    question_done c.args.inputs.now c.args.p.now c.args.n (kept_values c.args.kept) c.args.regs.now c.effect_at-e.ensures c.in-Question.q
-    (c.in-Work.is ∙ ap Work c.in-Question.is)
+pub returns-in-Work-Question : goal.returns-in-Work-Question
+returns-in-Work-Question c =
+    question_done c.args.inputs.now c.args.p.now c.args.n (kept_values c.args.kept) c.args.regs.now c.effect_at.ensures c.in-Work-Question.q
+    (c.in-Work-Question.is ∙ ap Work c.in-Work-Question.field-0-is)
