@@ -7,25 +7,8 @@
 // program's length and the byte after the program; one more than the node of a refusal, 0 without one. Then come the formula, the
 // name line, the text and the program. Numbers have 4 bytes, the least first.
 use cases::{FILL, Record, holds};
-use compile::Answer;
+use refusals::Refusal;
 use std::io;
-
-fn number(a: Answer) -> usize {
-    match a {
-        Answer::Program => 0,
-        Answer::Refused(n) => n as usize,
-        Answer::RefusedAt(n, k) => n as usize,
-    }
-}
-
-// One more than the node of a refusal, 0 without one.
-fn node(a: Answer) -> usize {
-    match a {
-        Answer::Program => 0,
-        Answer::Refused(n) => 0,
-        Answer::RefusedAt(n, k) => k.wrapping_add(1),
-    }
-}
 
 #[derive(Clone, Copy)]
 struct Head {
@@ -38,7 +21,7 @@ struct Head {
     after_text: usize,
     code: usize,
     after_code: usize,
-    node: usize,
+    node: Option<usize>,
 }
 
 impl Head {
@@ -53,13 +36,21 @@ impl Head {
             after_text: record.word(),
             code: record.word(),
             after_code: record.word(),
-            node: record.word(),
+            node: record.word().checked_sub(1),
         }
     }
 }
 
 fn byte(word: usize) -> u8 {
     (word % 256) as u8
+}
+
+// An answer as recorded: 0 or a refusal's number, and its node.
+fn told(answer: Result<(), Refusal>) -> (usize, Option<usize>) {
+    match answer {
+        Ok(()) => (0, None),
+        Err(refusal) => (usize::from(refusal.number()), refusal.node()),
+    }
 }
 
 // Compiles the next case's formula; whether the answer and the slices are as recorded, and none where the record ends before
@@ -75,9 +66,9 @@ fn compiled(record: &mut Record, path: &mut [u8], program: &mut [u8]) -> Option<
     path.fill(FILL);
     program.fill(FILL);
     let answer = compile::compile(formula, names, path, program);
-    let told = number(answer) == head.answer && node(answer) == head.node;
     Some(
-        told && holds(path, text, byte(head.after_text))
+        told(answer) == (head.answer, head.node)
+            && holds(path, text, byte(head.after_text))
             && holds(program, code, byte(head.after_code)),
     )
 }
