@@ -24,7 +24,9 @@ fn known_bytes<const N: usize>(b: &[u8], at: usize) -> [u8; N]
     requires { at + N ≤ length b.now }
     ensures { result ≡ take N (drop at b.now) }
 {
-    *b[at..].first_chunk::<N>().unwrap()
+    let mut bytes = [0; N];
+    bytes.copy_from_slice(&b[at..at + N]);
+    bytes
 }
 
 // The little-endian number of 2, 4 or 8 bytes that are all there.
@@ -49,27 +51,28 @@ fn known_long(b: &[u8], at: usize) -> u64
     u64::from_le_bytes(known_bytes::<8>(b, at))
 }
 
-// The first N bytes, with 0 for each past the end. Bytes that are all there take one load.
-fn first_bytes<const N: usize>(b: &[u8]) -> [u8; N]
+// Fewer bytes than N, and zeros.
+#[cold]
+fn padded<const N: usize>(b: &[u8]) -> [u8; N]
+    requires { length b.now < N }
     ensures { result ≡ take N (b.now ++ zeros N) }
 {
-    if let Some(first) = b.first_chunk::<N>() {
-        return *first;
-    }
-    let mut padded = [0; N];
-    padded[..b.len()].copy_from_slice(b);
-    padded
+    let mut bytes = [0; N];
+    bytes[..b.len()].copy_from_slice(b);
+    bytes
 }
 
-// N bytes from a place on, which may be past the end.
+// N bytes, with 0 for each past the end. Those that are all there take one load.
 fn bytes_from<const N: usize>(b: &[u8], at: usize) -> [u8; N]
     ensures { result ≡ take N (drop at b.now ++ zeros N) }
 {
-    if at < b.len() {
-        first_bytes(&b[at..])
-    } else {
-        [0; N]
+    if at >= b.len() {
+        return [0; N];
     }
+    if N <= b.len() - at {
+        return known_bytes(b, at);
+    }
+    padded(&b[at..])
 }
 
 // The little-endian number of 1, 2, 4 or 8 bytes, with 0 for each past the end.
