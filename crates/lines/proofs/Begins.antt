@@ -20,20 +20,17 @@ use Rattle.names.proofs.Told.{kinds_length, names_few}
 use Rattle.program.proofs.Pass.{valid_raw}
 use Rattle.compile.specs.Entry.{answer}
 use Rattle.compile.specs.declared.Answer.{Answer}
-use Rattle.compile.specs.declared.Answer.TheVariants as Answer
 use Rattle.compile.proofs.Back.{accepted_parts, reads_back}
 use Rattle.listing.specs.Legs.{compiled, node_line, place_text, printed, refused_as}
 use Rattle.listing.specs.Totals.{nothing}
 use Rattle.lines.specs.declared.Begun.{Begun}
 use Rattle.lines.specs.declared.Stage.{Stage}
-use Rattle.lines.specs.declared.Stage.TheVariants as Stage
 use Rattle.lines.specs.declared.sums.Totals.{Totals}
-use Rattle.values.specs.declared.Reading.{Reading}
-use Rattle.values.specs.Reading.{Starts}
+use Rattle.values.specs.Reading.{Reading, Starts}
 use Rattle.lines.specs.Record.{Ready}
 use Rattle.lines.specs.Text.{Wrote}
 use Rattle.lines.specs.Sums.{totals_of}
-use Rattle.lines.specs.Owed.{CompiledAs, Compiles, TextLength}
+use Rattle.lines.specs.Owed.{CompiledAs, Compiles, EndsWith, TextLength}
 use Rattle.lines.proofs.Places.{free_place, place_stands, place_taken}
 
 -- ---- a program that compile wrote
@@ -81,7 +78,7 @@ node_no_program : (n k : ℕ) → Answer.RefusedAt n k ≡ Answer.Program → �
 node_no_program n k e = let z : ◌≡◌ {A = ℕ} 0 1 = cc in omega arith
 
 module _ (formula names path slice path' program' out out' : List ℕ) (r : Begun) (a : Answer)
-    (told : a ≡ answer (compile formula names (length path) (length slice))) (t : Totals) (none_yet : totals_of t ≡ nothing) where
+    (told : a ≡ answer (compile formula names (length path) (length slice))) where
   -- compile's slices are as long as `legs` has them
   same_rooms : path ≡ zeros 8192 → length slice ≡ 61440 → compile formula names (length path) (length slice) ≡ compiled formula names
   same_rooms z l =
@@ -89,64 +86,65 @@ module _ (formula names path slice path' program' out out' : List ℕ) (r : Begu
 
   refused_by : (X : Compiled) → compile formula names (length path) (length slice) ≡ X → (n m len : ℕ) → a ≡ Answer.Refused n → path ≡ zeros 8192
       → path' ≡ path_after (compile formula names (length path) (length slice)) path → length path' ≡ length path → TextLength path' m
-      → Wrote out 0 (printed 0 (refused_as n (take m path'))) out' len → r ≡ record { stage = Stage.Finished t; length = len } → Compiles X program' r out out'
-  refused_by (accepted f ss) e n m len b z w l y v s = absurd (no_program n (sym b ∙ told ∙ ap answer e))
-  refused_by (Compile.refused_at k j) e n m len b z w l y v s = absurd (no_node n k j (sym b ∙ told ∙ ap answer e))
-  refused_by (Compile.refused k place) e n m len b z w l y v s =
+      → Wrote out 0 (printed 0 (refused_as n (take m path'))) out' len → EndsWith nothing r.stage → r.length ≡ len → Compiles X program' r out out'
+  refused_by (accepted f ss) e n m len b z w l y v s u = absurd (no_program n (sym b ∙ told ∙ ap answer e))
+  refused_by (Compile.refused_at k j) e n m len b z w l y v s u = absurd (no_node n k j (sym b ∙ told ∙ ap answer e))
+  refused_by (Compile.refused k place) e n m len b z w l y v s u =
       let q : Answer.Refused n ≡ Answer.Refused k = sym b ∙ told ∙ ap answer e in
       let nk : n ≡ k = cc in
       let h = place_stands place path path' z (w ∙ ap (λ (X : Compiled). path_after X path) e) l in
       let c = place_taken place path' h.0 m h.1 (y.2 (place_text place) h.0 h.1 (free_place place) h.2) in
       let text : printed 0 (refused_as n (take m path')) ≡ printed 0 (refused_as k (place_text place)) =
       ap (λ (x : ℕ). printed 0 (refused_as x (take m path'))) nk ∙ ap (λ (xs : List ℕ). printed 0 (refused_as k xs)) c in (
-        (t, ap (λ (x : Begun). x.stage) s, none_yet),
-        subst (λ (x : ℕ). Wrote out 0 (printed 0 (refused_as k (place_text place))) out' x) (sym (ap (λ (x : Begun). x.length) s))
+        s,
+        subst (λ (x : ℕ). Wrote out 0 (printed 0 (refused_as k (place_text place))) out' x) (sym u)
             (subst (λ (xs : List ℕ). Wrote out 0 xs out' len) text v),
       )
 
   pub begins_refused : (n m len : ℕ) → a ≡ Answer.Refused n → path' ≡ path_after (compile formula names (length path) (length slice)) path → length path' ≡ length path
-      → TextLength path' m → Wrote out 0 (printed 0 (refused_as n (take m path'))) out' len → r ≡ record { stage = Stage.Finished t; length = len }
+      → TextLength path' m → Wrote out 0 (printed 0 (refused_as n (take m path'))) out' len → EndsWith nothing r.stage → r.length ≡ len
       → CompiledAs formula names path slice program' r out out'
-  begins_refused n m len b w l y v s z k =
+  begins_refused n m len b w l y v s u z k =
       subst (λ (X : Compiled). Compiles X program' r out out') (same_rooms z k)
-      (refused_by (compile formula names (length path) (length slice)) refl n m len b z w l y v s)
+      (refused_by (compile formula names (length path) (length slice)) refl n m len b z w l y v s u)
 
   node_by : (X : Compiled) → compile formula names (length path) (length slice) ≡ X → (n k len : ℕ) → a ≡ Answer.RefusedAt n k
-      → Wrote out 0 (node_line n k) out' len → r ≡ record { stage = Stage.Finished t; length = len } → Compiles X program' r out out'
-  node_by (accepted f ss) e n k len b v s = absurd (node_no_program n k (sym b ∙ told ∙ ap answer e))
-  node_by (Compile.refused m place) e n k len b v s = absurd (no_node m n k (sym (sym b ∙ told ∙ ap answer e)))
-  node_by (Compile.refused_at m j) e n k len b v s =
+      → Wrote out 0 (node_line n k) out' len → EndsWith nothing r.stage → r.length ≡ len → Compiles X program' r out out'
+  node_by (accepted f ss) e n k len b v s u = absurd (node_no_program n k (sym b ∙ told ∙ ap answer e))
+  node_by (Compile.refused m place) e n k len b v s u = absurd (no_node m n k (sym (sym b ∙ told ∙ ap answer e)))
+  node_by (Compile.refused_at m j) e n k len b v s u =
       let q : Answer.RefusedAt n k ≡ Answer.RefusedAt m j = sym b ∙ told ∙ ap answer e in
       let nm : n ≡ m = cc in
       let kj : k ≡ j = cc in (
-        (t, ap (λ (x : Begun). x.stage) s, none_yet),
-        subst (λ (x : ℕ). Wrote out 0 (node_line m j) out' x) (sym (ap (λ (x : Begun). x.length) s))
+        s,
+        subst (λ (x : ℕ). Wrote out 0 (node_line m j) out' x) (sym u)
             (subst (λ (x : ℕ). Wrote out 0 (node_line m x) out' len) kj (subst (λ (x : ℕ). Wrote out 0 (node_line x k) out' len) nm v)),
       )
 
-  pub begins_node : (n k len : ℕ) → a ≡ Answer.RefusedAt n k → Wrote out 0 (node_line n k) out' len → r ≡ record { stage = Stage.Finished t; length = len }
+  pub begins_node : (n k len : ℕ) → a ≡ Answer.RefusedAt n k → Wrote out 0 (node_line n k) out' len → EndsWith nothing r.stage → r.length ≡ len
       → CompiledAs formula names path slice program' r out out'
-  begins_node n k len b v s z l =
-      subst (λ (X : Compiled). Compiles X program' r out out') (same_rooms z l) (node_by (compile formula names (length path) (length slice)) refl n k len b v s)
+  begins_node n k len b v s u z l =
+      subst (λ (X : Compiled). Compiles X program' r out out') (same_rooms z l) (node_by (compile formula names (length path) (length slice)) refl n k len b v s u)
 
   accepted_by : (X : Compiled) → compile formula names (length path) (length slice) ≡ X → a ≡ Answer.Program → ((i : ℕ) → byte_at formula i < 256)
-      → program' ≡ program_after image (compile formula names (length path) (length slice)) slice → (s : Reading) → Starts s
-      → r ≡ record { stage = Stage.Values 1 s t; length = 0 } → Compiles X program' r out out'
-  accepted_by (Compile.refused k place) e b bytes w s f q = absurd (no_program k (sym (ap answer e) ∙ sym told ∙ b))
-  accepted_by (Compile.refused_at k j) e b bytes w s f q = absurd (node_no_program k j (sym (ap answer e) ∙ sym told ∙ b))
-  accepted_by (accepted g ss) e b bytes w s f q = (
+      → program' ≡ program_after image (compile formula names (length path) (length slice)) slice → (s : Reading) → Starts s → (t : Totals) → totals_of t ≡ nothing
+      → r ≡ record { stage = Stage.Values (record { number = 1; reading = s; totals = t }); length = 0 } → Compiles X program' r out out'
+  accepted_by (Compile.refused k place) e b bytes w s f t z q = absurd (no_program k (sym (ap answer e) ∙ sym told ∙ b))
+  accepted_by (Compile.refused_at k j) e b bytes w s f t z q = absurd (node_no_program k j (sym (ap answer e) ∙ sym told ∙ b))
+  accepted_by (accepted g ss) e b bytes w s f t z q = (
     s,
     t,
     ap (λ (x : Begun). x.stage) q,
     f,
-    none_yet,
+    z,
     ap (λ (x : Begun). x.length) q,
     ready formula names (length path) (length slice) bytes g ss e slice program' w,
     written formula names (length path) (length slice) bytes g ss e slice program' w,
   )
 
   pub begins_accepted : a ≡ Answer.Program → ((i : ℕ) → byte_at formula i < 256) → program' ≡ program_after image (compile formula names (length path) (length slice)) slice
-      → (s : Reading) → Starts s → r ≡ record { stage = Stage.Values 1 s t; length = 0 } → CompiledAs formula names path slice program' r out out'
-  begins_accepted b bytes w s f q z k =
+      → (s : Reading) → Starts s → (t : Totals) → totals_of t ≡ nothing → r ≡ record { stage = Stage.Values (record { number = 1; reading = s; totals = t }); length = 0 }
+      → CompiledAs formula names path slice program' r out out'
+  begins_accepted b bytes w s f t y q z k =
       subst (λ (X : Compiled). Compiles X program' r out out') (same_rooms z k)
-      (accepted_by (compile formula names (length path) (length slice)) refl b bytes w s f q)
+      (accepted_by (compile formula names (length path) (length slice)) refl b bytes w s f t y q)

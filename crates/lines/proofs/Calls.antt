@@ -11,10 +11,9 @@ use Rattle.lines.specs.declared.Advanced.{Advanced}
 use Rattle.lines.specs.declared.Begun.{Begun}
 use Rattle.lines.specs.declared.Listed.{Listed}
 use Rattle.lines.specs.declared.Stage.{Stage}
-use Rattle.lines.specs.declared.Stage.TheVariants as Stage
 use Rattle.lines.specs.declared.record.Recorded.{Recorded}
 use Rattle.lines.specs.declared.sums.Totals.{Totals}
-use Rattle.values.specs.declared.Reading.{Reading}
+use Rattle.lines.specs.declared.Line.{Line}
 use Rattle.lines.specs.Record.{Ready, Records}
 use Rattle.values.specs.Reading.{TellsEmpty}
 use Rattle.lines.specs.Text.{Wrote, WroteSome}
@@ -223,16 +222,16 @@ module _ (formula : List ℕ) (k : ℕ) (names path program₀ out : List ℕ) (
 
 -- ---- lines of values
 
-module _ (n : ℕ) (s : Reading) (t : Totals) (program₀ : List ℕ) (values regs : List Float) (out : List ℕ) (room : output_room ≤ length out) (formula names path : List ℕ) where
+module _ (ln : Line) (program₀ : List ℕ) (values regs : List Float) (out : List ℕ) (room : output_room ≤ length out) (formula names path : List ℕ) where
   pub values_advance : (input : List ℕ) (values' regs' : List Float) (out' : List ℕ) (l : Listed) → Ready program₀ (length values) (length regs) → length values' ≡ length values → length regs' ≡ length regs
-      → ListingBlock (program_at program₀) n s t values input out l values' out' → (s' : Stage) → s' ≡ stage_at l.number l.reading l.totals
-      → Advancing formula input (memory names path program₀ values regs) (Stage.Values n s t) out (record { stage = s'; used = l.used; length = l.length })
+      → ListingBlock (program_at program₀) ln values input out l values' out' → (s' : Stage) → s' ≡ stage_at l.line
+      → Advancing formula input (memory names path program₀ values regs) (Stage.Values ln) out (record { stage = s'; used = l.used; length = l.length })
       (memory names path program₀ values' regs') out'
   values_advance input values' regs' out' l ready lv lr b s' e =
-      subst (λ (x : Stage). Advancing formula input (memory names path program₀ values regs) (Stage.Values n s t) out (record { stage = x; used = l.used; length = l.length })
+      subst (λ (x : Stage). Advancing formula input (memory names path program₀ values regs) (Stage.Values ln) out (record { stage = x; used = l.used; length = l.length })
       (memory names path program₀ values' regs') out') (sym e)
       (record {
-        advances = values_on n s t program₀ values regs formula names path values' regs' lv lr (take l.used input) (take l.length out') l.number l.reading l.totals b.lists;
+        advances = values_on ln program₀ values regs formula names path values' regs' lv lr (take l.used input) (take l.length out') l.line.number l.line.reading l.line.totals b.lists;
         goes_on = λ st. b.goes_on st.1.within;
         inside = b.inside;
         room = b.room;
@@ -241,11 +240,11 @@ module _ (n : ℕ) (s : Reading) (t : Totals) (program₀ : List ℕ) (values re
         idle = λ y. absurd (omega arith);
       })
 
-  pub values_unfit : (input : List ℕ) → (Ready program₀ (length values) (length regs) → ⊥) → (r : Advanced) → r ≡ record { stage = Stage.Values n s t; used = 0; length = 0 }
-      → Advancing formula input (memory names path program₀ values regs) (Stage.Values n s t) out r (memory names path program₀ values regs) out
+  pub values_unfit : (input : List ℕ) → (Ready program₀ (length values) (length regs) → ⊥) → (r : Advanced) → r ≡ record { stage = Stage.Values ln; used = 0; length = 0 }
+      → Advancing formula input (memory names path program₀ values regs) (Stage.Values ln) out r (memory names path program₀ values regs) out
   values_unfit input h r e =
       let m = memory names path program₀ values regs in
-      subst (λ (x : Advanced). Advancing formula input m (Stage.Values n s t) out x m out) (sym e)
+      subst (λ (x : Advanced). Advancing formula input m (Stage.Values ln) out x m out) (sym e)
       (record {
         advances = λ g o. (g, o, λ rest. refl);
         goes_on = λ st. absurd (h st.1.ready);
@@ -257,20 +256,20 @@ module _ (n : ℕ) (s : Reading) (t : Totals) (program₀ : List ℕ) (values re
       })
 
   -- no byte of a last line
-  pub values_last_none : (b : Bool) → TellsEmpty s b → b ≡ true → Ready program₀ (length values) (length regs) → (out' : List ℕ) (len : ℕ) → Wrote out 0 (total_line (totals_of t)) out' len → len ≤ 0 + 111
-      → Finishing formula (memory names path program₀ values regs) (Stage.Values n s t) out len (memory names path program₀ values regs) out'
+  pub values_last_none : (b : Bool) → TellsEmpty ln.reading b → b ≡ true → Ready program₀ (length values) (length regs) → (out' : List ℕ) (len : ℕ) → Wrote out 0 (total_line (totals_of ln.totals)) out' len → len ≤ 0 + 111
+      → Finishing formula (memory names path program₀ values regs) (Stage.Values ln) out len (memory names path program₀ values regs) out'
   values_last_none b h e ready out' len w k =
       let l : len ≤ length out = omega arith in
       record {
-        ends = λ y. values_none n s t program₀ values regs formula names path b h e out out' len l w;
+        ends = λ y. values_none ln program₀ values regs formula names path b h e out out' len l w;
         room = l;
-        beyond = drop_wrote out 0 (total_line (totals_of t)) out' len w l;
+        beyond = drop_wrote out 0 (total_line (totals_of ln.totals)) out' len w l;
         leaves = λ y. record { texts = record { names = refl; path = refl; program = refl }; unfit = λ u. absurd (u ready) };
         idle = λ y. absurd (omega arith);
       }
 
   pub values_last_unfit : (Ready program₀ (length values) (length regs) → ⊥)
-      → Finishing formula (memory names path program₀ values regs) (Stage.Values n s t) out 0 (memory names path program₀ values regs) out
+      → Finishing formula (memory names path program₀ values regs) (Stage.Values ln) out 0 (memory names path program₀ values regs) out
   values_last_unfit h =
       record {
         ends = λ y g o. absurd (h o.ready);
@@ -281,15 +280,15 @@ module _ (n : ℕ) (s : Reading) (t : Totals) (program₀ : List ℕ) (values re
       }
 
   -- its record, and the total line
-  pub values_last_line : (b : Bool) → TellsEmpty s b → b ≡ false → Ready program₀ (length values) (length regs) → length (program_at program₀).code ≤ 4294967296 → (values' regs' : List Float) (out' : List ℕ) (put : Recorded) → put.end ≤ 0 + 8242
-      → Records program₀ s values n t out 0 out' put → WroteSome out 0 out' put.end → length out' ≡ length out
+  pub values_last_line : (b : Bool) → TellsEmpty ln.reading b → b ≡ false → Ready program₀ (length values) (length regs) → length (program_at program₀).code ≤ 4294967296 → (values' regs' : List Float) (out' : List ℕ) (put : Recorded) → put.end ≤ 0 + 8242
+      → Records program₀ ln.reading values ln.number ln.totals out 0 out' put → WroteSome out 0 out' put.end → length out' ≡ length out
       → (out'' : List ℕ) (len : ℕ) → Wrote out' put.end (total_line (totals_of put.totals)) out'' len → len ≤ put.end + 111
-      → Finishing formula (memory names path program₀ values regs) (Stage.Values n s t) out len (memory names path program₀ values' regs') out''
+      → Finishing formula (memory names path program₀ values regs) (Stage.Values ln) out len (memory names path program₀ values' regs') out''
   values_last_line b h e ready short values' regs' out' put k w v same out'' len x j =
       let q = x.ends in
       let i : len ≤ length out' = omega arith in
       record {
-        ends = λ y. values_last n s t program₀ values regs formula names path b h e short out out' put (omega arith) w out'' len i x;
+        ends = λ y. values_last ln program₀ values regs formula names path b h e short out out' put (omega arith) w out'' len i x;
         room = omega arith;
         beyond = drop_wrote out' put.end (total_line (totals_of put.totals)) out'' len x i ∙ drop_later out' out put.end len (omega arith) v.beyond;
         leaves = λ y. record { texts = record { names = refl; path = refl; program = refl }; unfit = λ u. absurd (u ready) };

@@ -1,5 +1,5 @@
 -- What `legs` prints for a formula file that was cut, lengthened or spoilt in transfer, whatever its input.
-use Rattle.std.proofs.Common.{◌≡◌, ℕ, suc, ◌*◌, ◌/◌, ◌<◌, ◌≤◌, Bool, false, cond, List, [], ◌∷◌, ◌++◌, length, take, drop, refl, ap, ◌∙◌, arith, length-take-le, le-ltb}
+use Rattle.std.proofs.Common.{◌≡◌, ℕ, suc, ◌*◌, ◌/◌, ◌<◌, ◌≤◌, Bool, false, cond, List, [], ◌∷◌, ◌++◌, length, take, drop, ap, ◌∙◌, arith, length-take-le, le-ltb}
 use mathlib.Core.Option.{none, some}
 use Rattle.refusals.specs.Numbers.{ended_early, left_over, wrong_field}
 use Rattle.formula.specs.Formula.{Formula, size}

@@ -13,8 +13,8 @@ use Rattle.listing.proofs.Fields.{of_line}
 use Rattle.lines.specs.declared.Listed.{Listed}
 use Rattle.lines.specs.declared.record.Recorded.{Recorded}
 use Rattle.lines.specs.declared.sums.Totals.{Totals}
-use Rattle.values.specs.declared.Reading.{Reading}
-use Rattle.values.specs.Reading.{Reads, ReadsOn, Starts}
+use Rattle.lines.specs.declared.Line.{Line}
+use Rattle.values.specs.Reading.{Reading, Reads, ReadsOn, Starts}
 use Rattle.lines.specs.Record.{Records}
 use Rattle.lines.specs.Text.{WroteSome}
 use Rattle.lines.specs.Sums.{Few, totals_of}
@@ -89,26 +89,26 @@ lt_of e n h k = lt_by (ltb e n) refl
     lt_by false q = let l = ltb-false e n q in absurd (k (omega arith))
 
 -- what a call gives back
-module _ (P : Program) (input : List ℕ) (n₀ : ℕ) (s₀ : Reading) (t₀ : Totals) (values₀ values : List Float) (out₀ out : List ℕ) (n : ℕ) (s : Reading) (t : Totals) (used len : ℕ) where
-  so_far_is : used ≤ length input → len ≤ length out → length out ≡ length out₀ → Lists P n₀ s₀ t₀ values₀ (take used input) (take len out) n s t values
-      → drop len out ≡ drop len out₀ → (n₀ ≤ line_limit → GoesOn input out₀ used)
-      → (r : Listed) → r ≡ record { number = n; reading = s; totals = t; used = used; length = len } → ListingBlock P n₀ s₀ t₀ values₀ input out₀ r values out
+module _ (P : Program) (input : List ℕ) (ln₀ : Line) (values₀ values : List Float) (out₀ out : List ℕ) (ln : Line) (used len : ℕ) where
+  so_far_is : used ≤ length input → len ≤ length out → length out ≡ length out₀ → Lists P ln₀.number ln₀.reading ln₀.totals values₀ (take used input) (take len out) ln.number ln.reading ln.totals values
+      → drop len out ≡ drop len out₀ → (ln₀.number ≤ line_limit → GoesOn input out₀ used)
+      → (r : Listed) → r ≡ record { line = ln; used = used; length = len } → ListingBlock P ln₀ values₀ input out₀ r values out
   so_far_is h k l g d z r e =
-      subst (λ (x : Listed). ListingBlock P n₀ s₀ t₀ values₀ input out₀ x values out) (sym e)
+      subst (λ (x : Listed). ListingBlock P ln₀ values₀ input out₀ x values out) (sym e)
       (record { lists = g; goes_on = z; inside = h; room = omega arith; beyond = d })
 
-pub record ListingOn (p input : List ℕ) (n₀ : ℕ) (s₀ : Reading) (t₀ : Totals) (values₀ regs₀ : List Float) (out₀ : List ℕ) (values regs : List Float) (out : List ℕ) (at length' n : ℕ) (s : Reading) (t : Totals) : Type 0 where
+pub record ListingOn (p input : List ℕ) (ln₀ : Line) (values₀ regs₀ : List Float) (out₀ : List ℕ) (values regs : List Float) (out : List ℕ) (at length' : ℕ) (ln : Line) : Type 0 where
   pub inside : at ≤ length input
   pub short : length' ≤ length out
-  pub first : at ≡ 0 → (n ≡ n₀) × (length' ≡ 0)
+  pub first : at ≡ 0 → (ln.number ≡ ln₀.number) × (length' ≡ 0)
   pub same_values : length values ≡ length values₀
   pub same_regs : length regs ≡ length regs₀
   pub same_out : length out ≡ length out₀
   pub beyond : drop length' out ≡ drop length' out₀
-  pub lists : Lists (program_at p) n₀ s₀ t₀ values₀ (take at input) (take length' out) n s t values
+  pub lists : Lists (program_at p) ln₀.number ln₀.reading ln₀.totals values₀ (take at input) (take length' out) ln.number ln.reading ln.totals values
 
-pub on_start : (p input : List ℕ) (n : ℕ) (s : Reading) (t : Totals) (values regs : List Float) (out : List ℕ) → ListingOn p input n s t values regs out values regs out 0 0 n s t
-on_start p input n s t values regs out =
+pub on_start : (p input : List ℕ) (ln : Line) (values regs : List Float) (out : List ℕ) → ListingOn p input ln values regs out values regs out 0 0 ln
+on_start p input ln values regs out =
     record {
       inside = omega arith;
       short = omega arith;
@@ -117,7 +117,7 @@ on_start p input n s t values regs out =
       same_regs = refl;
       same_out = refl;
       beyond = refl;
-      lists = lists_start (program_at p) n s t values (take 0 input) (take 0 out) refl refl;
+      lists = lists_start (program_at p) ln.number ln.reading ln.totals values (take 0 input) (take 0 out) refl refl;
     }
 
 -- a call that has done nothing yet can't stop
@@ -125,48 +125,51 @@ some_used : (at end len n n₀ : ℕ) → at ≤ end → (at ≡ 0 → (n ≡ n�
 some_used zero end len n n₀ h f x = absurd (x (f refl).0 (f refl).1)
 some_used (suc at) end len n n₀ h f x = omega arith
 
-module _ (p input : List ℕ) (n₀ : ℕ) (s₀ : Reading) (t₀ : Totals) (values₀ regs₀ : List Float) (out₀ : List ℕ) (values regs : List Float) (out : List ℕ) (at len n : ℕ) (s : Reading) (t : Totals)
-    (g : ListingOn p input n₀ s₀ t₀ values₀ regs₀ out₀ values regs out at len n s t) where
-  module _ (r : Listed) (e : r ≡ record { number = n; reading = s; totals = t; used = at; length = len }) where
+module _ (p input : List ℕ) (ln₀ : Line) (values₀ regs₀ : List Float) (out₀ : List ℕ) (values regs : List Float) (out : List ℕ) (at len : ℕ) (ln : Line)
+    (g : ListingOn p input ln₀ values₀ regs₀ out₀ values regs out at len ln) where
+  module _ (r : Listed) (e : r ≡ record { line = ln; used = at; length = len }) where
     -- the input is used up
-    pub on_done : length input ≤ at → ListingBlock (program_at p) n₀ s₀ t₀ values₀ input out₀ r values out
+    pub on_done : length input ≤ at → ListingBlock (program_at p) ln₀ values₀ input out₀ r values out
     on_done h =
-        so_far_is (program_at p) input n₀ s₀ t₀ values₀ values out₀ out n s t at len g.inside g.short g.same_out g.lists g.beyond
+        so_far_is (program_at p) input ln₀ values₀ values out₀ out ln at len g.inside g.short g.same_out g.lists g.beyond
         (λ w x y. omega arith) r e
 
     -- the last line was listed
-    pub on_over : 1000000 < n → ListingBlock (program_at p) n₀ s₀ t₀ values₀ input out₀ r values out
+    pub on_over : 1000000 < ln.number → ListingBlock (program_at p) ln₀ values₀ input out₀ r values out
     unfolding line_limit
     on_over h =
-        so_far_is (program_at p) input n₀ s₀ t₀ values₀ values out₀ out n s t at len g.inside g.short g.same_out g.lists g.beyond
-        (λ w x y. some_used at at len n n₀ (omega arith) g.first (λ u v. omega arith)) r e
+        so_far_is (program_at p) input ln₀ values₀ values out₀ out ln at len g.inside g.short g.same_out g.lists g.beyond
+        (λ w x y. some_used at at len ln.number ln₀.number (omega arith) g.first (λ u v. omega arith)) r e
 
-  module _ (end : ℕ) (s' : Reading) (values' : List Float) (from : at ≤ end) (f : free 10 (part input at end) ≡ true) (r : ReadsOn s values (part input at end) s' values') where
+  abbrev pub after : Reading → Line
+  after r = record ln { reading = r }
+
+  module _ (end : ℕ) (s' : Reading) (values' : List Float) (from : at ≤ end) (f : free 10 (part input at end) ≡ true) (r : ReadsOn ln.reading values (part input at end) s' values') where
     -- what was read when a call stops
-    on_read : Lists (program_at p) n₀ s₀ t₀ values₀ (take end input) (take len out) n s' t values'
+    on_read : Lists (program_at p) ln₀.number ln₀.reading ln₀.totals values₀ (take end input) (take len out) ln.number s' ln.totals values'
     on_read =
-        subst (λ (xs : List ℕ). Lists (program_at p) n₀ s₀ t₀ values₀ xs (take len out) n s' t values') (sym (take_part input at end from))
-        (lists_read (program_at p) n₀ s₀ t₀ values₀ (take at input) (take len out) n s t values g.lists (part input at end) s' values' f r)
+        subst (λ (xs : List ℕ). Lists (program_at p) ln₀.number ln₀.reading ln₀.totals values₀ xs (take len out) ln.number s' ln.totals values') (sym (take_part input at end from))
+        (lists_read (program_at p) ln₀.number ln₀.reading ln₀.totals values₀ (take at input) (take len out) ln.number ln.reading ln.totals values g.lists (part input at end) s' values' f r)
 
-    module _ (inside : end ≤ length input) (l : Listed) (e : l ≡ record { number = n; reading = s'; totals = t; used = end; length = len }) where
-      on_stop : (n₀ ≤ line_limit → GoesOn input out₀ end) → ListingBlock (program_at p) n₀ s₀ t₀ values₀ input out₀ l values' out
-      on_stop z = so_far_is (program_at p) input n₀ s₀ t₀ values₀ values' out₀ out n s' t end len inside g.short g.same_out on_read g.beyond z l e
+    module _ (inside : end ≤ length input) (l : Listed) (e : l ≡ record { line = after s'; used = end; length = len }) where
+      on_stop : (ln₀.number ≤ line_limit → GoesOn input out₀ end) → ListingBlock (program_at p) ln₀ values₀ input out₀ l values' out
+      on_stop z = so_far_is (program_at p) input ln₀ values₀ values' out₀ out (after s') end len inside g.short g.same_out on_read g.beyond z l e
 
       -- the input ends in the line
-      pub on_end : end ≡ length input → ListingBlock (program_at p) n₀ s₀ t₀ values₀ input out₀ l values' out
+      pub on_end : end ≡ length input → ListingBlock (program_at p) ln₀ values₀ input out₀ l values' out
       on_end h = on_stop (λ w x y. omega arith)
 
       -- a record might not fit
-      pub on_full : length out - len < 8242 → ListingBlock (program_at p) n₀ s₀ t₀ values₀ input out₀ l values' out
-      on_full h = on_stop (λ w x y. some_used at end len n n₀ from g.first (λ u v. let z = g.same_out in omega arith))
+      pub on_full : length out - len < 8242 → ListingBlock (program_at p) ln₀ values₀ input out₀ l values' out
+      on_full h = on_stop (λ w x y. some_used at end len ln.number ln₀.number from g.first (λ u v. let z = g.same_out in omega arith))
 
     -- the next line
-    pub on_line : length (program_at p).code ≤ 4294967296 → n ≤ 1000000 → end < length input → get_or input end 0 ≡ 10 → length values' ≡ length values → (values'' regs' : List Float) (out' : List ℕ) (put : Recorded) (n' : ℕ) (u : Reading) → n' ≡ n + 1
-        → length values'' ≡ length values' → length regs' ≡ length regs → Records p s' values' n t out len out' put → WroteSome out len out' put.end → length out' ≡ length out → put.end ≤ length out → Starts u
-        → ListingOn p input n₀ s₀ t₀ values₀ regs₀ out₀ values'' regs' out' (end + 1) put.end n' u put.totals
+    pub on_line : length (program_at p).code ≤ 4294967296 → ln.number ≤ 1000000 → end < length input → get_or input end 0 ≡ 10 → length values' ≡ length values → (values'' regs' : List Float) (out' : List ℕ) (put : Recorded) (n' : ℕ) (u : Reading) → n' ≡ ln.number + 1
+        → length values'' ≡ length values' → length regs' ≡ length regs → Records p s' values' ln.number ln.totals out len out' put → WroteSome out len out' put.end → length out' ≡ length out → put.end ≤ length out → Starts u
+        → ListingOn p input ln₀ values₀ regs₀ out₀ values'' regs' out' (end + 1) put.end (record { number = n'; reading = u; totals = put.totals })
     unfolding line_limit
     on_line short within h e l values'' regs' out' put n' u q lv lr w v lo k b =
-        let z : suc n ≡ n' = omega arith in
+        let z : suc ln.number ≡ n' = omega arith in
         let P = program_at p in
         record {
           inside = omega arith;
@@ -176,11 +179,11 @@ module _ (p input : List ℕ) (n₀ : ℕ) (s₀ : Reading) (t₀ : Totals) (val
           same_regs = lr ∙ g.same_regs;
           same_out = lo ∙ g.same_out;
           beyond = v.beyond ∙ drop_later out out₀ len put.end v.from g.beyond;
-          lists = subst (λ (m : ℕ). Lists P n₀ s₀ t₀ values₀ (take (end + 1) input) (take put.end out') m u put.totals values'') z
-              (subst (λ (xs : List ℕ). Lists P n₀ s₀ t₀ values₀ xs (take put.end out') (suc n) u put.totals values'') (sym (take_byte input end 10 h e))
-              (lists_line P n₀ s₀ t₀ values₀ (take end input) (take len out) n s' t values' on_read short within (take put.end out') u put.totals values''
+          lists = subst (λ (m : ℕ). Lists P ln₀.number ln₀.reading ln₀.totals values₀ (take (end + 1) input) (take put.end out') m u put.totals values'') z
+              (subst (λ (xs : List ℕ). Lists P ln₀.number ln₀.reading ln₀.totals values₀ xs (take put.end out') (suc ln.number) u put.totals values'') (sym (take_byte input end 10 h e))
+              (lists_line P ln₀.number ln₀.reading ln₀.totals values₀ (take end input) (take len out) ln.number s' ln.totals values' on_read short within (take put.end out') u put.totals values''
               (λ seen r' few. (
-                take_wrote out len (printed n (value_record P (values_of seen))) out' put.end (w seen r').wrote k,
-                entered P short n t (values_of seen) few within out len out' put (w seen r'),
+                take_wrote out len (printed ln.number (value_record P (values_of seen))) out' put.end (w seen r').wrote k,
+                entered P short ln.number ln.totals (values_of seen) few within out len out' put (w seen r'),
               )) b));
         }

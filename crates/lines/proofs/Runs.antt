@@ -1,9 +1,8 @@
 -- The run of a line's values, as `legs` has it.
-use Rattle.std.proofs.Common.{◌≡◌, ℕ, suc, ◌+◌, ◌<◌, ◌≤◌, Bool, true, false, cond, not, ◌&&◌, eqb, ltb, leb, List, [], ◌∷◌, ◌++◌, length, take, set, replicate, sym, refl, ap, ◌∙◌, subst, arith, take-suc-set, ltb-false, ltb-true, le-ltb, lt-ltb, ne_eqb}
+use Rattle.std.proofs.Common.{◌≡◌, ℕ, suc, ◌<◌, ◌≤◌, Bool, true, false, cond, not, ◌&&◌, eqb, ltb, leb, List, [], ◌∷◌, ◌++◌, length, take, replicate, sym, refl, ap, ◌∙◌, arith, ltb-false, ltb-true, le-ltb, lt-ltb, ne_eqb, drop, length-append, length-take-le, take_at}
 use mathlib.Core.Option.{Option, none, some}
-use lib.ListN.{replicate-append-replicate}
 use lib.Ieee.{Float, binary64}
-use Rattle.refusals.specs.Numbers.{invalid_input, malformed_line}
+use Rattle.refusals.specs.Numbers.{invalid_input}
 use Rattle.arithmetic.specs.Value.{0f, finite}
 use Rattle.formula.specs.Text.{all, byte_at, half_at, word_at}
 use Rattle.formula.specs.Path.{path_room}
@@ -14,27 +13,26 @@ use Rattle.names.proofs.Splits.{no_true}
 use Rattle.program.proofs.Body.{code_length}
 use Rattle.program.proofs.Pass.{valid_raw}
 use Rattle.run.specs.declared.Reply.{Reply}
-use Rattle.run.specs.declared.Answer.TheVariants.{Refused}
 use Rattle.run.specs.Views.{answer_of, reply_of}
 use Rattle.run.specs.Calls.{run_at, unfit_at}
 use Rattle.run.proofs.Whole.{run_5}
 use Rattle.listing.specs.Legs.{Line, bad, line_of, run_line, value_record, zero_registers}
-use Rattle.values.specs.declared.Found.{Found}
-use Rattle.values.specs.declared.Found.TheVariants.{Malformed, Values}
+use Rattle.std.specs.Prelude.{Option as Maybe, Some, None}
 use Rattle.lines.specs.declared.record.Outcome.{Outcome}
 use Rattle.values.specs.Reading.{Finds, Kept, floats}
 use Rattle.lines.specs.Record.{Answers, Ready, Runs, found_line}
 
--- ---- registers
+-- ---- registers, of which the first n are filled with zeros
 
-pub zeros_more : (regs : List Float) (i : ℕ) (x : Float) → x ≡ 0f → i < length regs → take i regs ≡ replicate i 0f → take (i + 1) (set regs i x) ≡ replicate (i + 1) 0f
-zeros_more regs i x z h e =
-    let s : suc i ≡ i + 1 = omega arith in
-    ap (λ (n : ℕ). take n (set regs i x)) (sym s)
-    ∙ take-suc-set regs i x h
-    ∙ ap (λ (xs : List Float). xs ++ (x ∷ [])) e
-    ∙ ap (λ (y : Float). replicate i 0f ++ (y ∷ [])) z
-    ∙ replicate-append-replicate i 1 0f
+module _ (regs : List Float) (n : ℕ) (zeros : List Float) (h : n ≤ length regs) (l : length zeros ≡ length (take n regs)) where
+  pub zeroed_long : length zeros ≡ n
+  zeroed_long = l ∙ length-take-le n regs h
+
+  pub zeroed_room : n ≤ length (zeros ++ drop n regs)
+  zeroed_room = omega (arith, length-append zeros (drop n regs), zeroed_long)
+
+  pub zeroed_first : take n (zeros ++ drop n regs) ≡ zeros
+  zeroed_first = take_at zeros (drop n regs) n zeroed_long
 
 -- ---- a run from fresh
 
@@ -92,20 +90,12 @@ code_short b ok h = omega (arith, budget_is b ok, h 4, h 5, h 6, h 7)
 abbrev found_by : Program → List Float → ℕ → Bool → Line
 found_by P values n t = cond t (bad invalid_input) (run_line P (take n values))
 
--- the kinds of found lines
-pub found_malformed : (b : List ℕ) (found : Found) (values : List Float) (o : Outcome) → found ≡ Malformed → o ≡ record { answer = Refused malformed_line; count = 0 } → Answers b found values o
-found_malformed b found values o e q =
-    subst (λ (x : Found). Answers b x values o) (sym e) (ap (λ (x : Outcome). line_of (answer_of b x.answer) x.count) q)
+-- what a line was found to be
+pub found_many : (b : List ℕ) (values : List Float) (n : ℕ) → length values < n → bad invalid_input ≡ found_line (program_at b) (Some n) values
+found_many b values n l = ap (found_by (program_at b) values n) (sym (lt-ltb (length values) n l))
 
-pub found_many : (b : List ℕ) (found : Found) (values : List Float) (n : ℕ) (o : Outcome) → found ≡ Values n → length values < n
-    → o ≡ record { answer = Refused invalid_input; count = 0 } → Answers b found values o
-found_many b found values n o e l q =
-    subst (λ (x : Found). Answers b x values o) (sym e)
-    (ap (λ (x : Outcome). line_of (answer_of b x.answer) x.count) q ∙ ap (found_by (program_at b) values n) (sym (lt-ltb (length values) n l)))
-
-pub found_run : (b : List ℕ) (found : Found) (values : List Float) (n : ℕ) (o : Outcome) → found ≡ Values n → n ≤ length values → Runs b (take n values) o → Answers b found values o
-found_run b found values n o e l r =
-    subst (λ (x : Found). Answers b x values o) (sym e) (r ∙ ap (found_by (program_at b) values n) (sym (le-ltb (length values) n l)))
+pub found_run : (b : List ℕ) (values : List Float) (n : ℕ) (o : Outcome) → n ≤ length values → Runs b (take n values) o → Answers b (Some n) values o
+found_run b values n o l r = r ∙ ap (found_by (program_at b) values n) (sym (le-ltb (length values) n l))
 
 -- they are the definition's record of the line
 module _ (b : List ℕ) (values : List Float) (k : ℕ) (ready : Ready b (length values) k) where
@@ -123,11 +113,11 @@ module _ (b : List ℕ) (values : List Float) (k : ℕ) (ready : Ready b (length
       let z : n ≡ length vs = omega arith in
       ap (run_line (program_at b)) (ap (λ (i : ℕ). take i values) z ∙ f.stand (omega arith))
 
-  pub found_record : (line : Option (List ℕ)) (found : Found) → Finds line found values → found_line (program_at b) found values ≡ value_record (program_at b) line
-  found_record none Malformed f = refl
-  found_record none (Values n) f = absurd f
-  found_record (some vs) Malformed f = absurd f
-  found_record (some vs) (Values n) f = record_by vs n f (ltb (length values) n) refl
+  pub found_record : (line : Option (List ℕ)) (found : Maybe ℕ) → Finds line found values → found_line (program_at b) found values ≡ value_record (program_at b) line
+  found_record none None f = refl
+  found_record none (Some n) f = absurd f
+  found_record (some vs) None f = absurd f
+  found_record (some vs) (Some n) f = record_by vs n f (ltb (length values) n) refl
 
 -- lengths that stay
 pub ready_same : (b : List ℕ) (n k n' k' : ℕ) → n' ≡ n → k' ≡ k → Ready b n k → Ready b n' k'

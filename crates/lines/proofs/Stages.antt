@@ -19,11 +19,10 @@ use Rattle.listing.proofs.Fields.{of_line}
 use Rattle.listing.proofs.Sums.{node_total, refused_total}
 use Rattle.lines.specs.declared.Begun.{Begun}
 use Rattle.lines.specs.declared.Stage.{Stage}
-use Rattle.lines.specs.declared.Stage.TheVariants as Stage
 use Rattle.lines.specs.declared.record.Recorded.{Recorded}
 use Rattle.lines.specs.declared.sums.Totals.{Totals}
-use Rattle.values.specs.declared.Reading.{Reading}
-use Rattle.values.specs.Reading.{TellsEmpty}
+use Rattle.lines.specs.declared.Line.{Line}
+use Rattle.values.specs.Reading.{Reading, TellsEmpty}
 use Rattle.lines.specs.Record.{Ready, Records}
 use Rattle.lines.specs.Text.{Wrote}
 use Rattle.lines.specs.Sums.{totals_of}
@@ -190,12 +189,12 @@ module _ (formula : List ℕ) (k : ℕ) (names path program₀ : List ℕ) (valu
 
 -- ---- lines of values
 
-module _ (n : ℕ) (s : Reading) (t : Totals) (program₀ : List ℕ) (values regs : List Float) (formula names path : List ℕ) where
+module _ (ln : Line) (program₀ : List ℕ) (values regs : List Float) (formula names path : List ℕ) where
   -- lines of values, up to the last that is listed
   module _ (values' regs' : List Float) (lv : length values' ≡ length values) (lr : length regs' ≡ length regs) (fed text : List ℕ) (n' : ℕ) (s' : Reading) (t' : Totals)
-      (l : Lists (program_at program₀) n s t values fed text n' s' t' values') where
-    staged : (g : List ℕ → List ℕ) → Listing (memory names path program₀ values regs) n s t g → (b : Bool) → leb n' line_limit ≡ b
-        → (g' : List ℕ → List ℕ) × Owed formula (memory names path program₀ values' regs') (cond b (Stage.Values n' s' t') (Stage.Finished t')) g' × ((rest : List ℕ) → g (fed ++ rest) ≡ text ++ g' rest)
+      (l : Lists (program_at program₀) ln.number ln.reading ln.totals values fed text n' s' t' values') where
+    staged : (g : List ℕ → List ℕ) → Listing (memory names path program₀ values regs) ln.number ln.reading ln.totals g → (b : Bool) → leb n' line_limit ≡ b
+        → (g' : List ℕ → List ℕ) × Owed formula (memory names path program₀ values' regs') (cond b (Stage.Values (record { number = n'; reading = s'; totals = t' })) (Stage.Finished t')) g' × ((rest : List ℕ) → g (fed ++ rest) ≡ text ++ g' rest)
     staged g o true e =
         let a = l o.seen o.no_newline o.read o.few in (
           λ rest. output_from (program_at program₀) n' (totals_of t') (lines_of (a.now_seen ++ rest)),
@@ -224,43 +223,43 @@ module _ (n : ℕ) (s : Reading) (t : Totals) (program₀ : List ℕ) (values re
               ∙ ap (λ (xs : List ℕ). text ++ xs) (output_over (program_at program₀) n' (totals_of t') (leb-false n' line_limit e) (lines_of (a.now_seen ++ rest))),
         )
 
-    pub values_on : Advances formula (memory names path program₀ values regs) (Stage.Values n s t) fed (memory names path program₀ values' regs') (stage_at n' s' t') text
+    pub values_on : Advances formula (memory names path program₀ values regs) (Stage.Values ln) fed (memory names path program₀ values' regs') (stage_at (record { number = n'; reading = s'; totals = t' })) text
     values_on g o = staged g o (leb n' line_limit) refl
 
-  owed_end : (g : List ℕ → List ℕ) (o : Listing (memory names path program₀ values regs) n s t g) → g [] ≡ output_from (program_at program₀) n (totals_of t) (last_line o.seen)
+  owed_end : (g : List ℕ → List ℕ) (o : Listing (memory names path program₀ values regs) ln.number ln.reading ln.totals g) → g [] ≡ output_from (program_at program₀) ln.number (totals_of ln.totals) (last_line o.seen)
   owed_end g o =
       o.owes []
-      ∙ ap (λ (xs : List ℕ). output_from (program_at program₀) n (totals_of t) (lines_of xs)) (append-nil o.seen)
-      ∙ ap (output_from (program_at program₀) n (totals_of t)) (lines_last o.seen o.no_newline)
+      ∙ ap (λ (xs : List ℕ). output_from (program_at program₀) ln.number (totals_of ln.totals) (lines_of xs)) (append-nil o.seen)
+      ∙ ap (output_from (program_at program₀) ln.number (totals_of ln.totals)) (lines_last o.seen o.no_newline)
 
   -- no byte of a line
-  pub values_none : (b : Bool) → TellsEmpty s b → b ≡ true → (out out' : List ℕ) (len : ℕ) → len ≤ length out → Wrote out 0 (total_line (totals_of t)) out' len
-      → Ends formula (memory names path program₀ values regs) (Stage.Values n s t) (take len out')
+  pub values_none : (b : Bool) → TellsEmpty ln.reading b → b ≡ true → (out out' : List ℕ) (len : ℕ) → len ≤ length out → Wrote out 0 (total_line (totals_of ln.totals)) out' len
+      → Ends formula (memory names path program₀ values regs) (Stage.Values ln) (take len out')
   values_none b h e out out' len k w g o =
       owed_end g o
-      ∙ ap (λ (xs : List ℕ). output_from (program_at program₀) n (totals_of t) (last_line xs)) ((h o.seen values o.read).0 e)
-      ∙ output_none (program_at program₀) n (totals_of t)
-      ∙ sym (take_wrote out 0 (total_line (totals_of t)) out' len w k)
+      ∙ ap (λ (xs : List ℕ). output_from (program_at program₀) ln.number (totals_of ln.totals) (last_line xs)) ((h o.seen values o.read).0 e)
+      ∙ output_none (program_at program₀) ln.number (totals_of ln.totals)
+      ∙ sym (take_wrote out 0 (total_line (totals_of ln.totals)) out' len w k)
 
   one_line : (seen : List ℕ) → (seen ≡ [] → ⊥) → last_line seen ≡ seen ∷ []
   one_line [] h = absurd (h refl)
   one_line (b ∷ bs) h = refl
 
   -- a last line
-  pub values_last : (b : Bool) → TellsEmpty s b → b ≡ false → length (program_at program₀).code ≤ 4294967296 → (out out' : List ℕ) (put : Recorded) → put.end ≤ length out
-      → Records program₀ s values n t out 0 out' put → (out'' : List ℕ) (len : ℕ) → len ≤ length out' → Wrote out' put.end (total_line (totals_of put.totals)) out'' len
-      → Ends formula (memory names path program₀ values regs) (Stage.Values n s t) (take len out'')
+  pub values_last : (b : Bool) → TellsEmpty ln.reading b → b ≡ false → length (program_at program₀).code ≤ 4294967296 → (out out' : List ℕ) (put : Recorded) → put.end ≤ length out
+      → Records program₀ ln.reading values ln.number ln.totals out 0 out' put → (out'' : List ℕ) (len : ℕ) → len ≤ length out' → Wrote out' put.end (total_line (totals_of put.totals)) out'' len
+      → Ends formula (memory names path program₀ values regs) (Stage.Values ln) (take len out'')
   values_last b h e short out out' put k w out'' len fits v g o =
       let P = program_at program₀ in
       let line = values_of o.seen in
-      let x = printed n (value_record P line) in
+      let x = printed ln.number (value_record P line) in
       let r = w o.seen o.read in
-      let u = plus (totals_of t) (of_line (value_record P line)) in
+      let u = plus (totals_of ln.totals) (of_line (value_record P line)) in
       owed_end g o
-      ∙ ap (output_from P n (totals_of t)) (one_line o.seen ((h o.seen values o.read).1 e))
-      ∙ output_next P n (totals_of t) o.within o.seen []
-      ∙ ap (λ (xs : List ℕ). x ++ xs) (output_none P (suc n) u)
-      ∙ ap (λ (y : Total.Totals). x ++ total_line y) (sym (entered P short n t line o.few o.within out 0 out' put r))
+      ∙ ap (output_from P ln.number (totals_of ln.totals)) (one_line o.seen ((h o.seen values o.read).1 e))
+      ∙ output_next P ln.number (totals_of ln.totals) o.within o.seen []
+      ∙ ap (λ (xs : List ℕ). x ++ xs) (output_none P (suc ln.number) u)
+      ∙ ap (λ (y : Total.Totals). x ++ total_line y) (sym (entered P short ln.number ln.totals line o.few o.within out 0 out' put r))
       ∙ ap (λ (xs : List ℕ). xs ++ total_line (totals_of put.totals)) (sym (take_wrote out 0 x out' put.end r.wrote k))
       ∙ sym (take_wrote out' put.end (total_line (totals_of put.totals)) out'' len v fits)
 

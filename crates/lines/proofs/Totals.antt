@@ -1,5 +1,5 @@
 -- Totals carried from line to line, and the output that is left from a line on.
-use Rattle.std.proofs.Common.{◌≡◌, ℕ, zero, suc, ◌+◌, ◌-◌, ◌<◌, ◌≤◌, Bool, cond, List, [], ◌∷◌, ◌++◌, length, take, sym, refl, ap, ◌∙◌, subst, append_assoc, arith, le-leb}
+use Rattle.std.proofs.Common.{◌≡◌, ℕ, zero, suc, ◌-◌, ◌<◌, ◌≤◌, Bool, cond, List, [], ◌∷◌, ◌++◌, length, take, sym, refl, ap, ◌∙◌, subst, append_assoc, arith, le-leb}
 use mathlib.Core.Option.{Option}
 use borrow.Author.Tests.{lt-leb}
 use Rattle.formula.specs.Values.{lines_of, values_of}
@@ -7,14 +7,13 @@ use Rattle.machine.specs.Program.{Program}
 use Rattle.run.specs.declared.Answer.{Answer}
 use Rattle.run.specs.Views.{answer_of}
 use Rattle.listing.specs.Legs.{Line, line_limit, line_of, printed, records, value_record}
-use Rattle.listing.specs.Totals.{Totals, add_up, counted, nothing, plus, total_line, with_total}
+use Rattle.listing.specs.Totals.{Totals, add_up, nothing, plus, total_line, with_total}
 use Rattle.listing.proofs.Fields.{Plain, counted_is, line_plain, of_line}
 use Rattle.listing.proofs.Sums.{few_steps, lines_in, nothing_plus, one_column, plus_assoc, plus_nothing, record_adds, same_totals, value_plain}
 use Rattle.lines.specs.declared.record.Recorded.{Recorded}
 use Rattle.lines.specs.declared.Stage.{Stage}
-use Rattle.lines.specs.declared.Stage.TheVariants as Stage
 use Rattle.lines.specs.declared.sums.Totals as Code
-use Rattle.values.specs.declared.Reading.{Reading}
+use Rattle.lines.specs.declared.Line as Read
 use Rattle.lines.specs.Record.{Entered}
 use Rattle.lines.specs.Sums.{Adds, Few, totals_of, wrapped}
 use Rattle.lines.specs.Owed.{output_from, stage_at, under}
@@ -94,13 +93,13 @@ module _ (P : Program) (n : ℕ) (t : Totals) where
 
 -- ---- the stage after some lines
 
-pub listed_stage : (n : ℕ) (s : Reading) (t : Code.Totals) → n ≤ 1000000 → Stage.Values n s t ≡ stage_at n s t
+pub listed_stage : (l : Read.Line) → l.number ≤ 1000000 → Stage.Values l ≡ stage_at l
 unfolding line_limit
-listed_stage n s t h = ap (λ (b : Bool). cond b (Stage.Values n s t) (Stage.Finished t)) (sym (le-leb n line_limit h))
+listed_stage l h = ap (λ (b : Bool). cond b (Stage.Values l) (Stage.Finished l.totals)) (sym (le-leb l.number line_limit h))
 
-pub ended_stage : (n : ℕ) (s : Reading) (t : Code.Totals) → 1000000 < n → Stage.Finished t ≡ stage_at n s t
+pub ended_stage : (l : Read.Line) → 1000000 < l.number → Stage.Finished l.totals ≡ stage_at l
 unfolding line_limit
-ended_stage n s t h = ap (λ (b : Bool). cond b (Stage.Values n s t) (Stage.Finished t)) (sym (lt-leb n line_limit h))
+ended_stage l h = ap (λ (b : Bool). cond b (Stage.Values l) (Stage.Finished l.totals)) (sym (lt-leb l.number line_limit h))
 
 pub first_listed : 1 ≤ line_limit
 unfolding line_limit

@@ -13,10 +13,24 @@ use Rattle.lines.specs.declared.Begun.{Begun}
 use Rattle.lines.specs.declared.Listed.{Listed}
 use Rattle.lines.specs.declared.Stage.{Stage}
 use Rattle.lines.specs.declared.Stage.TheVariants.{Finished, Names, Values}
-use Rattle.lines.specs.declared.sums.Totals.{Totals}
-use Rattle.values.specs.declared.Reading.{Reading}
+use Rattle.lines.specs.declared.Line.{Line}
+use Rattle.lines.specs.declared.Memory as Lent
 use Rattle.lines.specs.Record.{Ready}
 use Rattle.lines.specs.Owed.{Advances, Begins, CompiledAs, Ends, EndsWith, Lists, Memory, Stands, memory, output_room}
+
+-- ---- the memory that the code has
+
+abbrev pub held : Lent.Memory → Memory
+held m = memory m.names.now m.path.now m.program.now m.values.now m.regs.now
+
+-- the slices are those that were lent
+pub record SameSlices (m m' : Lent.Memory) : Type 0 where
+  pub names : (m'.names.ghost_name ≡ m.names.ghost_name) × (length m'.names.now ≡ length m.names.now)
+  pub path : (m'.path.ghost_name ≡ m.path.ghost_name) × (length m'.path.now ≡ length m.path.now)
+  pub program : (m'.program.ghost_name ≡ m.program.ghost_name) × (length m'.program.now ≡ length m.program.now)
+  pub values : (m'.values.ghost_name ≡ m.values.ghost_name) × (length m'.values.now ≡ length m.values.now)
+  pub regs : (m'.regs.ghost_name ≡ m.regs.ghost_name) × (length m'.regs.now ≡ length m.regs.now)
+  pub out : (m'.out.ghost_name ≡ m.out.ghost_name) × (length m'.out.now ≡ length m.out.now)
 
 -- ---- the memory after
 
@@ -57,13 +71,13 @@ pub record NamesLeave (formula input : List ℕ) (k : ℕ) (m : Memory) (r : Adv
   pub unfit : length m.names < k → (r ≡ record { stage = Names k; used = 0; length = 0 }) × (m'.path ≡ m.path) × (m'.program ≡ m.program)
 
 -- after a part of the lines of values; nothing is done without a program that fits the slices
-pub record ValuesLeave (n : ℕ) (s : Reading) (t : Totals) (m : Memory) (r : Advanced) (m' : Memory) : Type 0 where
+pub record ValuesLeave (l : Line) (m : Memory) (r : Advanced) (m' : Memory) : Type 0 where
   pub texts : SameTexts m m'
-  pub unfit : (Fits m → ⊥) → (r ≡ record { stage = Values n s t; used = 0; length = 0 }) × (m' ≡ m)
+  pub unfit : (Fits m → ⊥) → (r ≡ record { stage = Values l; used = 0; length = 0 }) × (m' ≡ m)
 
 abbrev pub Leaves : List ℕ → List ℕ → Memory → Stage → Advanced → Memory → Type 0
 Leaves formula input m (Names k) r m' = NamesLeave formula input k m r m'
-Leaves formula input m (Values n s t) r m' = ValuesLeave n s t m r m'
+Leaves formula input m (Values l) r m' = ValuesLeave l m r m'
 Leaves formula input m (Finished t) r m' = (r ≡ record { stage = Finished t; used = length input; length = 0 }) × (m' ≡ m)
 
 -- at the input's end: a name line is compiled, a line of values is run
@@ -79,7 +93,7 @@ pub record ValuesLeaveLast (m : Memory) (r : ℕ) (m' : Memory) : Type 0 where
 
 abbrev pub LeavesLast : List ℕ → Memory → Stage → ℕ → Memory → Type 0
 LeavesLast formula m (Names k) r m' = NamesLeaveLast formula k m r m'
-LeavesLast formula m (Values n s t) r m' = ValuesLeaveLast m r m'
+LeavesLast formula m (Values l) r m' = ValuesLeaveLast m r m'
 LeavesLast formula m (Finished t) r m' = m' ≡ m
 
 -- ---- the calls
@@ -127,25 +141,9 @@ pub record Beginning (formula line path program path' program' : List ℕ) (r : 
   pub program_is : program' ≡ program_after image (compile formula line (length path) (length program)) program
 
 -- lines of values are listed
-pub record ListingBlock (P : Program) (n : ℕ) (s : Reading) (t : Totals) (values : List Float) (input out : List ℕ) (r : Listed) (values' : List Float) (out' : List ℕ) : Type 0 where
-  pub lists : Lists P n s t values (take r.used input) (take r.length out') r.number r.reading r.totals values'
-  pub goes_on : n ≤ line_limit → GoesOn input out r.used
+pub record ListingBlock (P : Program) (l : Line) (values : List Float) (input out : List ℕ) (r : Listed) (values' : List Float) (out' : List ℕ) : Type 0 where
+  pub lists : Lists P l.number l.reading l.totals values (take r.used input) (take r.length out') r.line.number r.line.reading r.line.totals values'
+  pub goes_on : l.number ≤ line_limit → GoesOn input out r.used
   pub inside : r.used ≤ length input
   pub room : r.length ≤ length out
   pub beyond : drop r.length out' ≡ drop r.length out
-
-abbrev pub NamesAdvance : List ℕ → List ℕ → ℕ → List ℕ → List ℕ → List ℕ → List ℕ → Advanced → List ℕ → List ℕ → List ℕ → List ℕ → Type 0
-NamesAdvance formula input k names path program out r names' path' program' out' =
-    (values regs : List Float) → Advancing formula input (memory names path program values regs) (Names k) out r (memory names' path' program' values regs) out'
-
-abbrev pub ValuesAdvance : List ℕ → ℕ → Reading → Totals → List ℕ → List Float → List Float → List ℕ → Advanced → List Float → List Float → List ℕ → Type 0
-ValuesAdvance input n s t program values regs out r values' regs' out' =
-    (formula names path : List ℕ) → Advancing formula input (memory names path program values regs) (Values n s t) out r (memory names path program values' regs') out'
-
-abbrev pub NamesEnd : List ℕ → ℕ → List ℕ → List ℕ → List ℕ → List ℕ → ℕ → List ℕ → List ℕ → List ℕ → Type 0
-NamesEnd formula k names path program out r path' program' out' =
-    (values regs : List Float) → Finishing formula (memory names path program values regs) (Names k) out r (memory names path' program' values regs) out'
-
-abbrev pub ValuesEnd : ℕ → Reading → Totals → List ℕ → List Float → List Float → List ℕ → ℕ → List Float → List Float → List ℕ → Type 0
-ValuesEnd n s t program values regs out r values' regs' out' =
-    (formula names path : List ℕ) → Finishing formula (memory names path program values regs) (Values n s t) out r (memory names path program values' regs') out'

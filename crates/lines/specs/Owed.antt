@@ -17,8 +17,8 @@ use Rattle.lines.specs.declared.Begun.{Begun}
 use Rattle.lines.specs.declared.Stage.{Stage}
 use Rattle.lines.specs.declared.Stage.TheVariants.{Finished, Names, Values}
 use Rattle.lines.specs.declared.sums.Totals.{Totals}
-use Rattle.values.specs.declared.Reading.{Reading}
-use Rattle.values.specs.Reading.{Reads, Starts}
+use Rattle.lines.specs.declared.Line.{Line}
+use Rattle.values.specs.Reading.{Reading, Reads, Starts}
 use Rattle.lines.specs.Record.{Ready}
 use Rattle.lines.specs.Text.{Wrote}
 use Rattle.lines.specs.Sums.{Few, totals_of}
@@ -47,8 +47,8 @@ Lists P n s t values fed text n' s' t' values' =
     (seen : List ℕ) → free 10 seen ≡ true → Reads seen s values → Few n (totals_of t) → After P n t seen fed text n' s' t' values'
 
 -- the lines after the last that is listed are not looked at
-abbrev pub stage_at : ℕ → Reading → Totals → Stage
-stage_at n s t = cond (nat_le n line_limit) (Values n s t) (Finished t)
+abbrev pub stage_at : Line → Stage
+stage_at l = cond (nat_le l.number line_limit) (Values l) (Finished l.totals)
 
 -- ---- the name line
 
@@ -106,7 +106,7 @@ pub record Listing (m : Memory) (n : ℕ) (s : Reading) (t : Totals) (g : List �
 -- the total line is owed at the end, whatever input follows
 abbrev pub Owed : List ℕ → Memory → Stage → (List ℕ → List ℕ) → Type 0
 Owed formula m (Names k) g = Naming formula m k g
-Owed formula m (Values n s t) g = Listing m n s t g
+Owed formula m (Values l) g = Listing m l.number l.reading l.totals g
 Owed formula m (Finished t) g = (rest : List ℕ) → g rest ≡ total_line (totals_of t)
 
 -- something is owed: the memory and the stage are as `start` and `advance` leave them
@@ -120,7 +120,7 @@ EndsWith u s = (t : Totals) × (s ≡ Finished t) × (totals_of t ≡ u)
 -- whether it is at the end
 abbrev pub TellsFinished : Stage → Bool → Type 0
 TellsFinished (Names k) b = b ≡ false
-TellsFinished (Values n s t) b = b ≡ false
+TellsFinished (Values l) b = b ≡ false
 TellsFinished (Finished t) b = b ≡ true
 
 -- the bytes of output that every call needs: 8,242 for a record with the longest path (a header with a refusal's line has fewer), and 111 for the
@@ -155,7 +155,7 @@ abbrev pub Compiles : Compiled → List ℕ → Begun → List ℕ → List ℕ 
 Compiles (Compile.refused n place) program' r out out' = EndsWith nothing r.stage × Wrote out 0 (refusal_line n place) out' r.length
 Compiles (Compile.refused_at n k) program' r out out' = EndsWith nothing r.stage × Wrote out 0 (node_line n k) out' r.length
 Compiles (accepted f symbols) program' r out out' =
-    (s : Reading) × (t : Totals) × (r.stage ≡ Values 1 s t) × Starts s × (totals_of t ≡ nothing) × (r.length ≡ 0) × Ready program' 256 1276
+    (s : Reading) × (t : Totals) × (r.stage ≡ Values (record { number = 1; reading = s; totals = t })) × Starts s × (totals_of t ≡ nothing) × (r.length ≡ 0) × Ready program' 256 1276
     × (program_at program' ≡ program (own_context symbols) (term f))
 
 abbrev pub CompiledAs : List ℕ → List ℕ → List ℕ → List ℕ → List ℕ → Begun → List ℕ → List ℕ → Type 0

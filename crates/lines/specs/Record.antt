@@ -1,5 +1,5 @@
 -- A line of values, and the record that the run of its values gives.
-use Rattle.std.specs.Prelude.{◌≡◌, ℕ, ◌≤◌, true, cond, List, length, take, nat_lt, Float}
+use Rattle.std.specs.Prelude.{Option, Some, None, ◌≡◌, ℕ, ◌≤◌, true, cond, List, length, take, nat_lt, Float}
 use Rattle.refusals.specs.Numbers.{invalid_input, malformed_line}
 use Rattle.formula.specs.Values.{values_of}
 use Rattle.machine.specs.Program.{Program, valid}
@@ -7,13 +7,10 @@ use Rattle.layout.specs.Decode.{input_count, program_at, register_total}
 use Rattle.run.specs.Views.{answer_of}
 use Rattle.listing.specs.Legs.{Line, bad, line_of, printed, record_text, run_line, value_record}
 use Rattle.listing.specs.Totals.{counted, plus}
-use Rattle.values.specs.declared.Reading.{Reading}
-use Rattle.values.specs.declared.Found.{Found}
-use Rattle.values.specs.declared.Found.TheVariants.{Malformed, Values}
 use Rattle.lines.specs.declared.record.Outcome.{Outcome}
 use Rattle.lines.specs.declared.record.Recorded.{Recorded}
 use Rattle.lines.specs.declared.sums.Totals.{Totals}
-use Rattle.values.specs.Reading.{Reads}
+use Rattle.values.specs.Reading.{Reading, Reads}
 use Rattle.lines.specs.Text.{Wrote}
 use Rattle.lines.specs.Sums.{totals_of, wrapped}
 
@@ -29,12 +26,12 @@ Runs p inputs o = line_of (answer_of p o.answer) o.count ≡ run_line (program_a
 
 -- "A value line that isn't hex digits and commas as said shows `bad` with 3; otherwise a wrong count of values or a value that isn't finite shows 5":
 -- the number or the values of each case. More values than the slice has places are a wrong count, which a run shows of any other.
-abbrev pub found_line : Program → Found → List Float → Line
-found_line P Malformed values = bad malformed_line
-found_line P (Values n) values = cond (nat_lt (length values) n) (bad invalid_input) (run_line P (take n values))
+abbrev pub found_line : Program → Option ℕ → List Float → Line
+found_line P None values = bad malformed_line
+found_line P (Some n) values = cond (nat_lt (length values) n) (bad invalid_input) (run_line P (take n values))
 
 -- the outcome of what a line was found to be
-abbrev pub Answers : List ℕ → Found → List Float → Outcome → Type 0
+abbrev pub Answers : List ℕ → Option ℕ → List Float → Outcome → Type 0
 Answers p found values o = line_of (answer_of p o.answer) o.count ≡ found_line (program_at p) found values
 
 -- a record stands in the output, and the totals have what it adds

@@ -5,15 +5,16 @@ mod record;
 pub mod sums;
 mod text;
 
-ghost use Rattle.std.specs.Prelude.{◌≡◌, ◌+◌, ◌-◌, ◌<◌, ◌≤◌, true, false, length, take, slice_index, slice_set};
+ghost use Rattle.std.specs.Prelude.{◌≡◌, ◌+◌, ◌-◌, ◌<◌, ◌≤◌, true, false, List, ℕ, length, take, slice_index, slice_set};
 ghost use Rattle.std.proofs.Math.Option.{none};
 ghost use Rattle.layout.specs.Decode.{program_at};
 ghost use Rattle.listing.specs.Legs.{refusal_line};
 ghost use Rattle.listing.specs.Totals.{nothing};
 ghost use Rattle.names.specs.Lines.{free};
 ghost use Rattle.writer.specs.Over.{over};
-ghost use Rattle.lines.specs.Calls.{Advancing, Beginning, Finishing, ListingBlock, NamesAdvance, NamesEnd, Starting, ValuesAdvance, ValuesEnd};
-ghost use Rattle.lines.specs.Owed.{EndsWith, KeepsOn, Opens, TellsFinished, TextLength, memory, one_more, stage_at};
+ghost use Rattle.lines.specs.Calls.{Advancing, Beginning, Finishing, ListingBlock, SameNumbers, SameSlices, Starting, held};
+ghost use Rattle.lines.specs.declared.Stage.TheVariants.{Names, Values};
+ghost use Rattle.lines.specs.Owed.{EndsWith, KeepsOn, Opens, TellsFinished, TextLength, one_more, stage_at};
 ghost use Rattle.lines.specs.Record.{Ready};
 ghost use Rattle.lines.specs.Text.{Wrote};
 
@@ -31,14 +32,33 @@ const RECORD_ROOM: usize = 8242;
 // The bytes of output that every call needs: a record's, and 111 for the total line.
 const OUTPUT_ROOM: usize = 8353;
 
-// Where a listing stands: in the name line, of which so many bytes are kept; in the line of values with this number, as far
-// as it was read, with the totals of the lines before it; or at its end, after a refusal or the last line that is listed, where
-// no more input is looked at and the total line is still to be written.
+// The line of values that is read: its number, what was read of it, and the totals of the lines before it.
+#[derive(Clone, Copy)]
+pub struct Line {
+    pub number: u64,
+    pub reading: Reading,
+    pub totals: Totals,
+}
+
+// Where a listing stands: in the name line, of which so many bytes are kept; in a line of values, as far as it was read; or at
+// its end, after a refusal or the last line that is listed, where no more input is looked at and the total line is still to be
+// written.
 #[derive(Clone, Copy)]
 pub enum Stage {
     Names(usize),
-    Values(u64, Reading, Totals),
+    Values(Line),
     Finished(Totals),
+}
+
+// The memory that a caller lends for a listing, and the output.
+#[derive(Drop)]
+pub struct Memory<'a> {
+    pub names: &'a mut [u8],
+    pub path: &'a mut [u8],
+    pub program: &'a mut [u8],
+    pub values: &'a mut [f64],
+    pub regs: &'a mut [f64],
+    pub out: &'a mut [u8],
 }
 
 // The next stage, how many bytes of the input were used, and how many of the output were written.
@@ -58,13 +78,10 @@ pub struct Begun {
 
 // ---- lines of values
 
-// The number of the next line, what was read of it, the totals before it, how much of the input was used, and how much of the
-// output was written.
-#[derive(Drop)]
+// The line that is read then, how many bytes of the input were used, and how many of the output were written.
+#[derive(Clone, Copy)]
 struct Listed {
-    number: u64,
-    reading: Reading,
-    totals: Totals,
+    line: Line,
     used: usize,
     length: usize,
 }
@@ -74,64 +91,42 @@ struct Listed {
 fn list_values(
     p: &[u8],
     input: &[u8],
-    number: u64,
-    s: Reading,
-    before: Totals,
+    line: Line,
     values: &mut [f64],
     regs: &mut [f64],
     out: &mut [u8],
 ) -> Listed
     requires { Ready p.now (length values.old) (length regs.old) }
-    ensures { ListingBlock (program_at p.now) number s before values.old input.now out.old result values.new out.new }
+    ensures { ListingBlock (program_at p.now) line values.old input.now out.old result values.new out.new }
 {
-    let mut at = 0;
+    let mut line = line;
+    let mut used = 0;
     let mut length = 0;
-    let mut n = number;
-    let mut reading = s;
-    let mut totals = before;
-    while at < input.len() {
-        if n > LINE_LIMIT {
-            return so_far(n, reading, totals, at, length);
+    while used < input.len() && line.number <= LINE_LIMIT {
+        let read = values::read_part(input, used, line.reading, values);
+        used = read.end;
+        line.reading = read.reading;
+        if used == input.len() || out.len() - length < RECORD_ROOM {
+            break;
         }
-        let read = values::read_part(input, at, reading, values);
-        let end = read.end;
-        let t = read.reading;
-        if end == input.len() {
-            return so_far(n, t, totals, end, length);
-        }
-        if out.len() - length < RECORD_ROOM {
-            return so_far(n, t, totals, end, length);
-        }
-        let put = record::put_record(p, t, values, regs, n, totals, out, length);
+        let put = record::put_record(p, line, values, regs, out, length);
         length = put.end;
-        totals = put.totals;
-        reading = values::fresh();
-        n += 1;
-        at = end + 1;
+        line = Line {
+            number: line.number + 1,
+            reading: values::fresh(),
+            totals: put.totals,
+        };
+        used += 1;
     }
-    so_far(n, reading, totals, at, length)
-}
-
-fn so_far(number: u64, reading: Reading, totals: Totals, used: usize, length: usize) -> Listed
-    ensures { result ≡ record { number = number; reading = reading; totals = totals; used = used; length = length } }
-{
-    Listed {
-        number: number,
-        reading: reading,
-        totals: totals,
-        used: used,
-        length: length,
-    }
+    Listed { line, used, length }
 }
 
 // Whether bytes are a program, with enough places for its values and registers.
 fn is_ready(p: &[u8], values: usize, regs: usize) -> bool
-    ensures { (result ≡ true → Ready p.now values regs) × (result ≡ false → Ready p.now values regs → ⊥) }
+    ensures ready { (result ≡ true → Ready p.now values regs) × (result ≡ false → Ready p.now values regs → ⊥) }
+    ensures short { result ≡ true → length (program_at p.now).code ≤ 4294967296 }
 {
-    if values < reader::word(p, INPUTS_AT) {
-        return false;
-    }
-    if regs < reader::word(p, REGISTERS_AT) {
+    if values < reader::word(p, INPUTS_AT) || regs < reader::word(p, REGISTERS_AT) {
         return false;
     }
     program::is_program(p)
@@ -140,7 +135,7 @@ fn is_ready(p: &[u8], values: usize, regs: usize) -> bool
 // ---- the name line
 
 // How many bytes of a name line are kept, and where the input ends it.
-#[derive(Drop)]
+#[derive(Clone, Copy)]
 struct Kept {
     count: usize,
     end: usize,
@@ -163,22 +158,16 @@ fn keep_names(input: &[u8], names: &mut [u8], k: usize) -> Kept
     ensures kept { KeepsOn k names.old (take result.end input.now) result.count names.new }
     ensures holds { (names.new ≡ over names.old k (take (length names.old - k) (take result.end input.now))) × (result.count ≡ k + length (take (length names.old - k) (take result.end input.now))) }
 {
-    let mut end = 0;
     let mut count = k;
-    while end < input.len() {
-        let b = input[end];
-        if b == 10 {
-            return Kept {
-                count: count,
-                end: end,
-            };
+    for (end, b) in input.iter().enumerate() {
+        if *b == b'\n' {
+            return Kept { count, end };
         }
-        count = keep_byte(names, count, b);
-        end += 1;
+        count = keep_byte(names, count, *b);
     }
     Kept {
-        count: count,
-        end: end,
+        count,
+        end: input.len(),
     }
 }
 
@@ -186,46 +175,74 @@ fn keep_names(input: &[u8], names: &mut [u8], k: usize) -> Kept
 fn text_length(path: &[u8]) -> usize
     ensures { TextLength path.now result }
 {
-    let mut i = 0;
-    while i < path.len() {
-        if i == 8192 {
+    for (i, b) in path.iter().enumerate() {
+        if i == 8192 || *b == 0 {
             return i;
         }
-        if path[i] == 0 {
-            return i;
-        }
-        i += 1;
     }
-    i
+    path.len()
 }
 
-// Compiles the formula over the names: a refusal's line is written, or the lines of values begin.
-fn begin(formula: &[u8], names: &[u8], path: &mut [u8], program: &mut [u8], out: &mut [u8]) -> Begun
-    requires { 8209 ≤ length out.old }
-    ensures { Beginning formula.now names.now path.old program.old path.new program.new result out.old out.new }
+// The end of a listing in which no line was run.
+fn finished() -> Stage
+    ensures { EndsWith nothing result }
 {
-    let a = compile::compile(formula, names, path, program);
-    match a {
-        Answer::Program => Begun {
-            stage: Stage::Values(1, values::fresh(), sums::no_lines()),
-            length: 0,
-        },
+    Stage::Finished(Totals::none())
+}
+
+// Compiles the formula over the first bytes of the names: a refusal's line is written, or the lines of values begin.
+fn begin_over(
+    formula: &[u8],
+    names: &[u8],
+    count: usize,
+    path: &mut [u8],
+    program: &mut [u8],
+    out: &mut [u8],
+) -> Begun
+    requires room { 8209 ≤ length out.old }
+    requires kept { count ≤ length names.now }
+    ensures { Beginning formula.now (take count names.now) path.old program.old path.new program.new result out.old out.new }
+{
+    let answer = compile::compile(formula, &names[..count], path, program);
+    match answer {
+        Answer::Program => {
+            let line = Line {
+                number: 1,
+                reading: values::fresh(),
+                totals: Totals::none(),
+            };
+            Begun {
+                stage: Stage::Values(line),
+                length: 0,
+            }
+        }
         Answer::Refused(n) => {
             let m = text_length(path);
-            let length = text::put_refusal(out, 0, n, &path[..m]);
             Begun {
-                stage: Stage::Finished(sums::no_lines()),
-                length: length,
+                length: text::put_refusal(out, 0, n, &path[..m]),
+                stage: finished(),
             }
         }
-        Answer::RefusedAt(n, node) => {
-            let length = text::put_node_refusal(out, 0, n, node);
-            Begun {
-                stage: Stage::Finished(sums::no_lines()),
-                length: length,
-            }
-        }
+        Answer::RefusedAt(n, node) => Begun {
+            length: text::put_node_refusal(out, 0, n, node),
+            stage: finished(),
+        },
     }
+}
+
+// The same over the memory.
+fn begin(formula: &[u8], count: usize, memory: &mut Memory) -> Begun
+    requires room { 8209 ≤ length memory.old.out.now }
+    requires kept { count ≤ length memory.old.names.now }
+    ensures begins { Beginning formula.now (take count memory.old.names.now) memory.old.path.now memory.old.program.now memory.new.path.now memory.new.program.now result memory.old.out.now memory.new.out.now }
+    ensures others { (memory.new.names.now ≡ memory.old.names.now) × SameNumbers (held memory.old) (held memory.new) }
+    ensures slices { SameSlices memory.old memory.new }
+{
+    let names = &mut *memory.names;
+    let path = &mut *memory.path;
+    let program = &mut *memory.program;
+    let out = &mut *memory.out;
+    begin_over(formula, names, count, path, program, out)
 }
 
 // ---- the whole
@@ -236,10 +253,9 @@ fn put_missing(out: &mut [u8], at: usize) -> Begun
     ensures ended { EndsWith nothing result.stage × Wrote out.old at (refusal_line 1 none) out.new result.length }
     ensures room { result.length ≤ length out.old }
 {
-    let length = text::put_refusal(out, at, refusals::SLICE_TOO_SHORT, b"");
     Begun {
-        stage: Stage::Finished(sums::no_lines()),
-        length: length,
+        length: text::put_refusal(out, at, refusals::SLICE_TOO_SHORT, b""),
+        stage: finished(),
     }
 }
 
@@ -249,14 +265,11 @@ fn opened(readable: bool, formula: &[u8], out: &mut [u8], at: usize) -> Begun
     ensures opens { Opens readable formula.now result out.old at out.new }
     ensures room { result.length ≤ length out.old }
 {
-    if readable {
-        if formula.len() <= 4096 {
-            return Begun {
-                stage: Stage::Names(0),
-                length: at,
-            };
-        }
-        return put_missing(out, at);
+    if readable && formula.len() <= 4096 {
+        return Begun {
+            stage: Stage::Names(0),
+            length: at,
+        };
     }
     put_missing(out, at)
 }
@@ -265,10 +278,9 @@ fn opened(readable: bool, formula: &[u8], out: &mut [u8], at: usize) -> Begun
 pub fn start(readable: bool, formula: &[u8], out: &mut [u8]) -> Begun
     ensures { Starting readable formula.now out.old result out.new }
 {
-    let room = out.len();
-    if room < OUTPUT_ROOM {
+    if out.len() < OUTPUT_ROOM {
         return Begun {
-            stage: Stage::Finished(sums::no_lines()),
+            stage: finished(),
             length: 0,
         };
     }
@@ -281,112 +293,85 @@ fn stuck(stage: Stage) -> Advanced
     ensures { result ≡ record { stage = stage; used = 0; length = 0 } }
 {
     Advanced {
-        stage: stage,
+        stage,
         used: 0,
         length: 0,
     }
 }
 
 // Reads the name line on; at its end the formula is compiled.
-fn advance_names(
-    formula: &[u8],
-    input: &[u8],
-    k: usize,
-    names: &mut [u8],
-    path: &mut [u8],
-    program: &mut [u8],
-    out: &mut [u8],
-) -> Advanced
-    requires { 8353 ≤ length out.old }
-    ensures { NamesAdvance formula.now input.now k names.old path.old program.old out.old result names.new path.new program.new out.new }
+fn advance_names(formula: &[u8], input: &[u8], k: usize, memory: &mut Memory) -> Advanced
+    requires { 8353 ≤ length memory.old.out.now }
+    ensures advances { Advancing formula.now input.now (held memory.old) (Names k) memory.old.out.now result (held memory.new) memory.new.out.now }
+    ensures slices { SameSlices memory.old memory.new }
 {
-    if names.len() < k {
+    if memory.names.len() < k {
         return stuck(Stage::Names(k));
     }
+    let names = &mut *memory.names;
     let kept = keep_names(input, names, k);
-    let count = kept.count;
-    let end = kept.end;
-    if end == input.len() {
+    if kept.end == input.len() {
         return Advanced {
-            stage: Stage::Names(count),
-            used: end,
+            stage: Stage::Names(kept.count),
+            used: kept.end,
             length: 0,
         };
     }
-    let b = begin(formula, &names[..count], path, program, out);
-    let stage = b.stage;
+    let begun = begin(formula, kept.count, memory);
     Advanced {
-        stage: stage,
-        used: end + 1,
-        length: b.length,
+        stage: begun.stage,
+        used: kept.end + 1,
+        length: begun.length,
     }
 }
 
 // The lines after the last that is listed are not looked at.
-fn stage_at(number: u64, reading: Reading, totals: Totals) -> Stage
-    ensures { result ≡ stage_at number reading totals }
+fn stage_at(line: Line) -> Stage
+    ensures { result ≡ stage_at line }
 {
-    if number <= LINE_LIMIT {
-        return Stage::Values(number, reading, totals);
+    if line.number <= LINE_LIMIT {
+        Stage::Values(line)
+    } else {
+        Stage::Finished(line.totals)
     }
-    Stage::Finished(totals)
 }
 
 // Lists the lines of values of the input.
-fn advance_values(
-    input: &[u8],
-    number: u64,
-    s: Reading,
-    totals: Totals,
-    program: &[u8],
-    values: &mut [f64],
-    regs: &mut [f64],
-    out: &mut [u8],
-) -> Advanced
-    requires { 8353 ≤ length out.old }
-    ensures { ValuesAdvance input.now number s totals program.now values.old regs.old out.old result values.new regs.new out.new }
+fn advance_values(input: &[u8], line: Line, memory: &mut Memory) -> Advanced
+    requires { 8353 ≤ length memory.old.out.now }
+    ensures advances { (formula : List ℕ) → Advancing formula input.now (held memory.old) (Values line) memory.old.out.now result (held memory.new) memory.new.out.now }
+    ensures slices { SameSlices memory.old memory.new }
 {
-    let ready = is_ready(program, values.len(), regs.len());
-    if ready {
-        let l = list_values(program, input, number, s, totals, values, regs, out);
-        let reading = l.reading;
-        let sums = l.totals;
-        return Advanced {
-            stage: stage_at(l.number, reading, sums),
-            used: l.used,
-            length: l.length,
-        };
+    let program = &mut *memory.program;
+    let values = &mut *memory.values;
+    let regs = &mut *memory.regs;
+    let out = &mut *memory.out;
+    if !is_ready(program, values.len(), regs.len()) {
+        return stuck(Stage::Values(line));
     }
-    stuck(Stage::Values(number, s, totals))
+    let listed = list_values(program, input, line, values, regs, out);
+    Advanced {
+        stage: stage_at(listed.line),
+        used: listed.used,
+        length: listed.length,
+    }
 }
 
 // Uses a block of input, from its first byte on, and says how many bytes of it were used; the rest is for the next call. Where
 // it uses none of a block that has a byte, the output has less than 8,353 bytes, or the stage is none that `start` or `advance`
 // gave with this memory.
-pub fn advance(
-    formula: &[u8],
-    input: &[u8],
-    stage: Stage,
-    names: &mut [u8],
-    path: &mut [u8],
-    program: &mut [u8],
-    values: &mut [f64],
-    regs: &mut [f64],
-    out: &mut [u8],
-) -> Advanced
-    ensures { Advancing formula.now input.now (memory names.old path.old program.old values.old regs.old) stage out.old result (memory names.new path.new program.new values.new regs.new) out.new }
+pub fn advance(formula: &[u8], input: &[u8], stage: Stage, memory: &mut Memory) -> Advanced
+    ensures advances { Advancing formula.now input.now (held memory.old) stage memory.old.out.now result (held memory.new) memory.new.out.now }
+    ensures slices { SameSlices memory.old memory.new }
 {
-    let places = out.len();
-    if places < OUTPUT_ROOM {
+    if memory.out.len() < OUTPUT_ROOM {
         return stuck(stage);
     }
     match stage {
-        Stage::Names(k) => advance_names(formula, input, k, names, path, program, out),
-        Stage::Values(number, s, t) => advance_values(
-            input, number, s, t, program, values, regs, out,
-        ),
-        Stage::Finished(t) => Advanced {
-            stage: Stage::Finished(t),
+        Stage::Names(k) => advance_names(formula, input, k, memory),
+        Stage::Values(line) => advance_values(input, line, memory),
+        Stage::Finished(_) => Advanced {
+            stage,
             used: input.len(),
             length: 0,
         },
@@ -397,77 +382,57 @@ pub fn advance(
 pub fn is_finished(stage: Stage) -> bool
     ensures { TellsFinished stage result }
 {
-    match stage {
-        Stage::Names(k) => false,
-        Stage::Values(number, s, t) => false,
-        Stage::Finished(t) => true,
-    }
+    matches!(stage, Stage::Finished(_))
 }
 
 // A line of values at the end of the input has a record if it has a byte. The total line follows.
-fn finish_values(
-    number: u64,
-    s: Reading,
-    totals: Totals,
-    program: &[u8],
-    values: &mut [f64],
-    regs: &mut [f64],
-    out: &mut [u8],
-) -> usize
-    requires { 8353 ≤ length out.old }
-    ensures { ValuesEnd number s totals program.now values.old regs.old out.old result values.new regs.new out.new }
+fn finish_values(line: Line, memory: &mut Memory) -> usize
+    requires { 8353 ≤ length memory.old.out.now }
+    ensures finishes { (formula : List ℕ) → Finishing formula (held memory.old) (Values line) memory.old.out.now result (held memory.new) memory.new.out.now }
+    ensures slices { SameSlices memory.old memory.new }
 {
-    let ready = is_ready(program, values.len(), regs.len());
-    if ready {
-        let none = values::is_empty(s);
-        if none {
-            return text::put_total(out, 0, totals);
-        }
-        let put = record::put_record(program, s, values, regs, number, totals, out, 0);
-        let sums = put.totals;
-        return text::put_total(out, put.end, sums);
+    let program = &mut *memory.program;
+    let values = &mut *memory.values;
+    let regs = &mut *memory.regs;
+    let out = &mut *memory.out;
+    if !is_ready(program, values.len(), regs.len()) {
+        return 0;
     }
-    0
+    if values::is_empty(line.reading) {
+        return text::put_total(out, 0, line.totals);
+    }
+    let put = record::put_record(program, line, values, regs, out, 0);
+    text::put_total(out, put.end, put.totals)
 }
 
 // A name line at the end of the input. The total line follows.
-fn finish_names(
-    formula: &[u8],
-    k: usize,
-    names: &[u8],
-    path: &mut [u8],
-    program: &mut [u8],
-    out: &mut [u8],
-) -> usize
-    requires { 8353 ≤ length out.old }
-    ensures { NamesEnd formula.now k names.now path.old program.old out.old result path.new program.new out.new }
+fn finish_names(formula: &[u8], k: usize, memory: &mut Memory) -> usize
+    requires { 8353 ≤ length memory.old.out.now }
+    ensures finishes { Finishing formula.now (held memory.old) (Names k) memory.old.out.now result (held memory.new) memory.new.out.now }
+    ensures slices { SameSlices memory.old memory.new }
 {
-    if names.len() < k {
+    if memory.names.len() < k {
         return 0;
     }
-    let b = begin(formula, &names[..k], path, program, out);
-    text::put_total(out, b.length, sums::no_lines())
+    let begun = begin(formula, k, memory);
+    let out = &mut *memory.out;
+    text::put_total(out, begun.length, Totals::none())
 }
 
 // The end of the input. The output needs 8,353 bytes.
-pub fn finish(
-    formula: &[u8],
-    stage: Stage,
-    names: &[u8],
-    path: &mut [u8],
-    program: &mut [u8],
-    values: &mut [f64],
-    regs: &mut [f64],
-    out: &mut [u8],
-) -> usize
-    ensures { Finishing formula.now (memory names.now path.old program.old values.old regs.old) stage out.old result (memory names.now path.new program.new values.new regs.new) out.new }
+pub fn finish(formula: &[u8], stage: Stage, memory: &mut Memory) -> usize
+    ensures finishes { Finishing formula.now (held memory.old) stage memory.old.out.now result (held memory.new) memory.new.out.now }
+    ensures slices { SameSlices memory.old memory.new }
 {
-    if out.len() < OUTPUT_ROOM {
+    if memory.out.len() < OUTPUT_ROOM {
         return 0;
     }
     match stage {
-        Stage::Names(k) => finish_names(formula, k, names, path, program, out),
-        Stage::Values(number, s, t) => finish_values(number, s, t, program, values, regs, out),
-        Stage::Finished(t) => text::put_total(out, 0, t),
+        Stage::Names(k) => finish_names(formula, k, memory),
+        Stage::Values(line) => finish_values(line, memory),
+        Stage::Finished(totals) => {
+            let out = &mut *memory.out;
+            text::put_total(out, 0, totals)
+        }
     }
 }

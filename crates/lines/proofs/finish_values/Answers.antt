@@ -1,59 +1,24 @@
-use Rattle.lines.proofs.Calls.{values_last_line, values_last_none, values_last_unfit}
-use Rattle.lines.proofs.Runs.{code_short}
-use Rattle.std.proofs.Common.{arith}
+use Rattle.lines.proofs.Calls.{values_last_line, values_last_none}
 use Rattle.lines.proofs.finish_values.Goals as goal
 
-pub put_total-requires : goal.put_total-requires
-put_total-requires c = omega (arith, c.requires)
-
-pub returns-then-none : goal.returns-then-none
-returns-then-none c =
+pub returns-then-is_empty-clause-finishes : goal.returns-then-is_empty-clause-finishes
+returns-then-is_empty-clause-finishes c =
     let a = c.args in
-    let pre = c.requires in
-    let is_ready = c.is_ready-ready in
-    let if1 = c.if-ready in
-    let n = c.is_empty-none in
-    let if2 = c.if-none in
+    let m = a.memory.now in
     let w = c.put_total in
-    λ formula names path.
-    values_last_none a.number a.s a.totals a.program.now a.values.now a.regs.now a.out.now pre formula names path n.result
-    n.ensures if2.true (is_ready.ensures.0 if1.true) w.new.out w.result w.ensures.wrote w.ensures.room
+    λ formula.
+    values_last_none a.line m.program.now m.values.now m.regs.now m.out.now c.requires formula m.names.now m.path.now c.is_empty.result
+    c.is_empty.ensures c.if-is_empty.true (c.is_ready.ensures.ready.0 c.if-not-is_ready.false) w.new.out w.result w.ensures.wrote w.ensures.room
 
-pub put_record-put-requires : goal.put_record-put-requires
-put_record-put-requires c =
-    let pre = c.requires in
-    let is_ready = c.is_ready-ready in
-    let if1 = c.if-ready in
-    (is_ready.ensures.0 if1.true, omega (arith, pre))
-
-pub put_total-requires-then-ready : goal.put_total-requires-then-ready
-put_total-requires-then-ready c =
-    let pre = c.requires in
-    let put_record = c.put_record-put in
-    omega (arith, pre, put_record.ensures.room, put_record.auto.out)
-
-pub returns-then-ready : goal.returns-then-ready
-returns-then-ready c =
+pub returns-clause-finishes : goal.returns-clause-finishes
+returns-clause-finishes c =
     let a = c.args in
-    let pre = c.requires in
-    let p = c.shared_slice_known-1 in
-    let r = c.is_ready-ready in
-    let if1 = c.if-ready in
-    let n = c.is_empty-none in
-    let if2 = c.if-none in
-    let w = c.put_record-put in
-    let v = c.put_total-then-ready in
-    let ready = r.ensures.0 if1.true in
-    λ formula names path.
-    values_last_line a.number a.s a.totals a.program.now a.values.now a.regs.now a.out.now pre formula names path n.result
-    n.ensures if2.false ready (code_short a.program.now ready.sound (λ i. omega (arith, p.given i))) w.new.values w.new.regs
-    w.new.out w.result w.ensures.room w.ensures.records w.ensures.beyond w.auto.out v.new.out
-    v.result v.ensures.wrote v.ensures.room
-
-pub returns : goal.returns
-returns c =
-    let a = c.args in
-    let pre = c.requires in
-    λ formula names path.
-    values_last_unfit a.number a.s a.totals a.program.now a.values.now a.regs.now a.out.now pre formula names path
-    (c.is_ready-ready.ensures.1 c.if-ready.false)
+    let m = a.memory.now in
+    let p = c.put_record-put in
+    let w = c.put_total-2 in
+    let ready = c.is_ready.ensures.ready.0 c.if-not-is_ready.false in
+    λ formula.
+    values_last_line a.line m.program.now m.values.now m.regs.now m.out.now c.requires formula m.names.now m.path.now c.is_empty.result
+    c.is_empty.ensures c.if-is_empty.false ready (c.is_ready.ensures.short c.if-not-is_ready.false) p.new.values p.new.regs
+    p.new.out p.result p.ensures.room p.ensures.records p.ensures.beyond p.auto.out w.new.out
+    w.result w.ensures.wrote w.ensures.room

@@ -1,28 +1,19 @@
 use Rattle.lines.proofs.Stages.{opens_long, opens_names, opens_none}
-use Rattle.std.proofs.Common.{arith}
 use Rattle.lines.proofs.opened.Goals as goal
+use Rattle.lines.proofs.opened.Goals.{else-readable-via-then-readable+else-formula-le4096, else-readable-via-else-readable}
 
-pub returns-then-formula-le4096 : goal.returns-then-formula-le4096
-returns-then-formula-le4096 c =
-    let at_args = c.args in record {
-      opens = opens_names at_args.readable at_args.formula.now at_args.out.now at_args.at c.if-readable.true c.if-formula-le4096.true;
-      room = omega (arith, c.requires);
-    }
+pub returns-then-formula-le4096-clause-opens : goal.returns-then-formula-le4096-clause-opens
+returns-then-formula-le4096-clause-opens c =
+    let args = c.args in
+    opens_names args.readable args.formula.now args.out.now args.at c.if-readable.true c.if-formula-le4096.true
 
-pub returns-then-readable : goal.returns-then-readable
-returns-then-readable c =
-    let at_args = c.args in
-    let at_put_missing = c.put_missing in record {
-      opens = opens_long at_args.readable at_args.formula.now c.if-readable.true c.if-formula-le4096.false at_put_missing.result at_args.out.now at_args.at at_put_missing.new.out
-          at_put_missing.ensures.ended;
-      room = at_put_missing.ensures.room;
-    }
-
-pub returns : goal.returns
-returns c =
-    let at_args = c.args in
-    let at_put_missing2 = c.put_missing-2 in record {
-      opens = opens_none at_args.readable at_args.formula.now c.if-readable.false at_put_missing2.result at_args.out.now at_args.at at_put_missing2.new.out
-          at_put_missing2.ensures.ended;
-      room = at_put_missing2.ensures.room;
-    }
+pub returns-clause-opens : goal.returns-clause-opens
+returns-clause-opens c =
+    let args = c.args in
+    let put = c.put_missing in
+    elim c.else-readable.branch [
+      else-readable-via-then-readable+else-formula-le4096 w ↦
+          opens_long args.readable args.formula.now w.if-readable.true w.if-formula-le4096.false put.result args.out.now args.at put.new.out put.ensures.ended
+    | else-readable-via-else-readable w ↦
+          opens_none args.readable args.formula.now w.if-readable.false put.result args.out.now args.at put.new.out put.ensures.ended
+    ]

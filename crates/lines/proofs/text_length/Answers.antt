@@ -1,20 +1,15 @@
-use Rattle.lines.proofs.Places.{no_zero_more, text_end}
-use Rattle.lines.proofs.Listings.{lt_of}
-use Rattle.formula.specs.Text.{zeros}
-use Rattle.std.proofs.Common.{length, ap, arith, length-append}
+use Rattle.std.proofs.Common.{arith}
+use Rattle.lines.proofs.Places.{text_end}
 use Rattle.lines.proofs.text_length.Goals as goal
-
-pub loop-i-init : goal.loop-i-init
-loop-i-init c = (omega arith, omega arith, λ j l. absurd (omega arith))
+use Rattle.lines.proofs.text_length.Goals.{then-i-eq8192-via-then-i-eq8192, then-i-eq8192-via-else-i-eq8192+then-b-eq0}
 
 pub returns-then-i-eq8192 : goal.returns-then-i-eq8192
-returns-then-i-eq8192 c = (c.loop-i.invariant.0, c.loop-i.invariant.1, λ t m e f l. text_end c.args.path.now c.loop-i.i c.loop-i.invariant.2 t m e f (λ z. absurd (omega (arith, c.if-i-eq8192.true))))
-
-pub returns-then-path-i-eq0 : goal.returns-then-path-i-eq0
-returns-then-path-i-eq0 c = (c.loop-i.invariant.0, c.loop-i.invariant.1, λ t m e f l. text_end c.args.path.now c.loop-i.i c.loop-i.invariant.2 t m e f (λ z. c.if-path-i-eq0.true))
-
-pub loop-i-preserved : goal.loop-i-preserved
-loop-i-preserved c = (omega arith, (let h = lt_of c.loop-i.i 8192 c.loop-i.invariant.1 c.if-i-eq8192.false in omega arith), no_zero_more c.args.path.now c.loop-i.i c.loop-i.invariant.2 c.if-path-i-eq0.false)
-
-pub returns : goal.returns
-returns c = (c.loop-i.invariant.0, c.loop-i.invariant.1, λ t m e f l. text_end c.args.path.now c.loop-i.i c.loop-i.invariant.2 t m e f (λ z. absurd (omega (arith, c.loop-i-test.false, ap length e, length-append t (zeros m)))))
+returns-then-i-eq8192 c =
+    let loop = c.loop-i in (
+      omega (arith, c.loop-i-test.true),
+      loop.invariant.0,
+      λ t m e f l. text_end c.args.path.now loop.i loop.invariant.1 t m e f (λ z. elim c.then-i-eq8192.branch [
+        then-i-eq8192-via-then-i-eq8192 w ↦ absurd (omega (arith, w.if-i-eq8192.true))
+      | then-i-eq8192-via-else-i-eq8192+then-b-eq0 w ↦ w.if-b-eq0.true
+      ]),
+    )

@@ -1,38 +1,43 @@
-use Rattle.lines.proofs.Runs.{ran}
+use Rattle.lines.proofs.Runs.{ran, zeroed_first, zeroed_long, zeroed_room}
 use Rattle.layout.specs.Decode.{code_count, register_total}
 use Rattle.arithmetic.specs.Value.{0f}
-use Rattle.std.proofs.Common.{ℕ, take, replicate, sym, refl, ap, ◌∙◌, arith, length-take-le}
+use Rattle.std.proofs.Common.{ℕ, ◌++◌, ◌≤◌, take, drop, length, replicate, sym, refl, ap, ◌∙◌, arith, length-take-le}
 use Rattle.lines.proofs.record.run_values.Goals as goal
 
-pub zero_registers-requires : goal.zero_registers-requires
+pub slice_bounds-fill-end : goal.slice_bounds-fill-end
 unfolding register_total
-zero_registers-requires c = omega (arith, c.word-n.ensures.0, c.requires.1)
+slice_bounds-fill-end c = omega (arith, c.word-n.ensures.0, c.requires.1)
+
+pub slice_bounds-fill-end-2 : goal.slice_bounds-fill-end-2
+unfolding register_total
+slice_bounds-fill-end-2 c = sym (length-take-le c.word-n.result c.args.regs.now (omega (arith, c.word-n.ensures.0, c.requires.1)))
 
 pub slice_bounds-run_reply-end : goal.slice_bounds-run_reply-end
 unfolding register_total
-slice_bounds-run_reply-end c = omega (arith, c.word-n.ensures.0, c.zero_registers.auto.regs, c.requires.1)
+slice_bounds-run_reply-end c =
+    zeroed_room c.args.regs.now c.word-n.result c.fill.new.self (omega (arith, c.word-n.ensures.0, c.requires.1)) c.fill.ensures.len
 
 pub slice_bounds-run_reply-end-2 : goal.slice_bounds-run_reply-end-2
 unfolding register_total
 slice_bounds-run_reply-end-2 c =
-    let pre = c.requires in
-    let word2 = c.word-n in
-    let zero_registers = c.zero_registers in
-    sym (length-take-le word2.result zero_registers.new.regs (omega (arith, word2.ensures.0, zero_registers.auto.regs, pre.1)))
-
-pub run_reply-r-requires : goal.run_reply-r-requires
-run_reply-r-requires c = c.fresh_state-state.ensures
+    let regs = c.args.regs.now in
+    let n = c.word-n.result in
+    let h : n ≤ length regs = omega (arith, c.word-n.ensures.0, c.requires.1) in
+    sym (ap length (zeroed_first regs n c.fill.new.self h c.fill.ensures.len) ∙ zeroed_long regs n c.fill.new.self h c.fill.ensures.len)
 
 pub returns : goal.returns
-unfolding register_total code_count
+unfolding register_total code_count lib.Ieee.of_bits
 returns c =
     let args = c.args in
     let pre = c.requires in
-    let word = c.word-budget in
-    let word2 = c.word-n in
-    let zero_registers = c.zero_registers in
-    let run_reply = c.run_reply-r in record {
-      runs = ran args.p.now pre.0 args.inputs.now (take word2.result zero_registers.new.regs) run_reply.new.regs word.result
-          run_reply.result _ (zero_registers.ensures ∙ ap (λ (n : ℕ). replicate n 0f) word2.ensures.0) word.ensures.0 (run_reply.ensures.reply pre.0 8192 (omega arith)) refl;
-      place = run_reply.ensures.place pre.0;
+    let n = c.word-n in
+    let zeros = c.fill.new.self in
+    let reply = c.run_reply-reply in
+    let h : n.result ≤ length args.regs.now = omega (arith, n.ensures.0, pre.1) in
+    let first = zeroed_first args.regs.now n.result zeros h c.fill.ensures.len in
+    let long = length-take-le n.result args.regs.now h in
+    let all = first ∙ c.fill.ensures.after (λ y e. e) ∙ ap (λ (k : ℕ). replicate k 0f) (long ∙ n.ensures.0) in record {
+      runs = ran args.p.now pre.0 args.inputs.now (take n.result (zeros ++ drop n.result args.regs.now)) reply.new.regs c.word-budget.result
+          reply.result _ all c.word-budget.ensures.0 (reply.ensures.reply pre.0 8192 (omega arith)) refl;
+      place = reply.ensures.place pre.0;
     }
