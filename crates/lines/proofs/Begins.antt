@@ -18,8 +18,11 @@ use Rattle.layout.proofs.Lengths.{bounds}
 use Rattle.names.proofs.Splits.{and_first}
 use Rattle.names.proofs.Told.{kinds_length, names_few}
 use Rattle.program.proofs.Pass.{valid_raw}
+use Rattle.std.specs.Prelude.{Option as Maybe, Some, None, Result, Ok, Err}
+use Rattle.refusals.specs.declared.Refusal.{Refusal}
+use Rattle.refusals.specs.Refusals.{node_of, number_of, refusal_at, refusal_of}
+use Rattle.lines.proofs.Named.{Named, compile_named}
 use Rattle.compile.specs.Entry.{answer}
-use Rattle.compile.specs.declared.Answer.{Answer}
 use Rattle.compile.proofs.Back.{accepted_parts, reads_back}
 use Rattle.listing.specs.Legs.{compiled, node_line, place_text, printed, refused_as}
 use Rattle.listing.specs.Totals.{nothing}
@@ -68,83 +71,83 @@ module _ (formula names : List ℕ) (p q : ℕ) (bytes : (i : ℕ) → byte_at f
 
 -- ---- the answers of compile
 
-no_program : (n : ℕ) → Answer.Refused n ≡ Answer.Program → ⊥
-no_program n e = let z : ◌≡◌ {A = ℕ} 0 1 = cc in omega arith
+no_error : {r : Refusal} → ◌≡◌ {A = Result Unit Refusal} (Err r) (Ok tt) → ⊥
+no_error e = let z : ◌≡◌ {A = ℕ} 0 1 = cc in omega arith
 
-no_node : (n m k : ℕ) → Answer.Refused n ≡ Answer.RefusedAt m k → ⊥
-no_node n m k e = let z : ◌≡◌ {A = ℕ} 0 1 = cc in omega arith
+no_some : {k : ℕ} → ◌≡◌ {A = Maybe ℕ} None (Some k) → ⊥
+no_some e = let z : ◌≡◌ {A = ℕ} 0 1 = cc in omega arith
 
-node_no_program : (n k : ℕ) → Answer.RefusedAt n k ≡ Answer.Program → ⊥
-node_no_program n k e = let z : ◌≡◌ {A = ℕ} 0 1 = cc in omega arith
-
-module _ (formula names path slice path' program' out out' : List ℕ) (r : Begun) (a : Answer)
+module _ (formula names path slice path' program' out out' : List ℕ) (r : Begun) (a : Result Unit Refusal)
     (told : a ≡ answer (compile formula names (length path) (length slice))) where
   -- compile's slices are as long as `legs` has them
   same_rooms : path ≡ zeros 8192 → length slice ≡ 61440 → compile formula names (length path) (length slice) ≡ compiled formula names
   same_rooms z l =
       ap (λ (n : ℕ). compile formula names n (length slice)) (ap length z ∙ length-replicate {A = ℕ} 8192 0) ∙ ap (λ (n : ℕ). compile formula names 8192 n) l
 
-  refused_by : (X : Compiled) → compile formula names (length path) (length slice) ≡ X → (n m len : ℕ) → a ≡ Answer.Refused n → path ≡ zeros 8192
-      → path' ≡ path_after (compile formula names (length path) (length slice)) path → length path' ≡ length path → TextLength path' m
-      → Wrote out 0 (printed 0 (refused_as n (take m path'))) out' len → EndsWith nothing r.stage → r.length ≡ len → Compiles X program' r out out'
-  refused_by (accepted f ss) e n m len b z w l y v s u = absurd (no_program n (sym b ∙ told ∙ ap answer e))
-  refused_by (Compile.refused_at k j) e n m len b z w l y v s u = absurd (no_node n k j (sym b ∙ told ∙ ap answer e))
-  refused_by (Compile.refused k place) e n m len b z w l y v s u =
-      let q : Answer.Refused n ≡ Answer.Refused k = sym b ∙ told ∙ ap answer e in
-      let nk : n ≡ k = cc in
-      let h = place_stands place path path' z (w ∙ ap (λ (X : Compiled). path_after X path) e) l in
-      let c = place_taken place path' h.0 m h.1 (y.2 (place_text place) h.0 h.1 (free_place place) h.2) in
-      let text : printed 0 (refused_as n (take m path')) ≡ printed 0 (refused_as k (place_text place)) =
-      ap (λ (x : ℕ). printed 0 (refused_as x (take m path'))) nk ∙ ap (λ (xs : List ℕ). printed 0 (refused_as k xs)) c in (
-        s,
-        subst (λ (x : ℕ). Wrote out 0 (printed 0 (refused_as k (place_text place))) out' x) (sym u)
-            (subst (λ (xs : List ℕ). Wrote out 0 xs out' len) text v),
-      )
+  named : Named (compile formula names (length path) (length slice))
+  named = compile_named formula names (length path) (length slice)
 
-  pub begins_refused : (n m len : ℕ) → a ≡ Answer.Refused n → path' ≡ path_after (compile formula names (length path) (length slice)) path → length path' ≡ length path
-      → TextLength path' m → Wrote out 0 (printed 0 (refused_as n (take m path'))) out' len → EndsWith nothing r.stage → r.length ≡ len
-      → CompiledAs formula names path slice program' r out out'
-  begins_refused n m len b w l y v s u z k =
-      subst (λ (X : Compiled). Compiles X program' r out out') (same_rooms z k)
-      (refused_by (compile formula names (length path) (length slice)) refl n m len b z w l y v s u)
+  module _ (x : Refusal) (is : a ≡ Err x) where
+    same_refusal : (y : Refusal) → answer (compile formula names (length path) (length slice)) ≡ Err y → x ≡ y
+    same_refusal y e = let q : ◌≡◌ {A = Result Unit Refusal} (Err x) (Err y) = sym is ∙ told ∙ e in cc
 
-  node_by : (X : Compiled) → compile formula names (length path) (length slice) ≡ X → (n k len : ℕ) → a ≡ Answer.RefusedAt n k
-      → Wrote out 0 (node_line n k) out' len → EndsWith nothing r.stage → r.length ≡ len → Compiles X program' r out out'
-  node_by (accepted f ss) e n k len b v s u = absurd (node_no_program n k (sym b ∙ told ∙ ap answer e))
-  node_by (Compile.refused m place) e n k len b v s u = absurd (no_node m n k (sym (sym b ∙ told ∙ ap answer e)))
-  node_by (Compile.refused_at m j) e n k len b v s u =
-      let q : Answer.RefusedAt n k ≡ Answer.RefusedAt m j = sym b ∙ told ∙ ap answer e in
-      let nm : n ≡ m = cc in
-      let kj : k ≡ j = cc in (
-        s,
-        subst (λ (x : ℕ). Wrote out 0 (node_line m j) out' x) (sym u)
-            (subst (λ (x : ℕ). Wrote out 0 (node_line m x) out' len) kj (subst (λ (x : ℕ). Wrote out 0 (node_line x k) out' len) nm v)),
-      )
+    refused_by : (X : Compiled) → compile formula names (length path) (length slice) ≡ X → Named X → node_of x ≡ None → (m len : ℕ) → path ≡ zeros 8192
+        → path' ≡ path_after (compile formula names (length path) (length slice)) path → length path' ≡ length path → TextLength path' m
+        → Wrote out 0 (printed 0 (refused_as (number_of x) (take m path'))) out' len → EndsWith nothing r.stage → r.length ≡ len → Compiles X program' r out out'
+    refused_by (accepted f ss) e d o m len z w l y v s u = absurd (no_error (sym is ∙ told ∙ ap answer e))
+    refused_by (Compile.refused_at k j) e d o m len z w l y v s u = absurd (no_some (sym o ∙ ap node_of (same_refusal (refusal_at k j) (ap answer e)) ∙ d.1))
+    refused_by (Compile.refused k place) e d o m len z w l y v s u =
+        let nk : number_of x ≡ k = ap number_of (same_refusal (refusal_of k) (ap answer e)) ∙ d.0 in
+        let h = place_stands place path path' z (w ∙ ap (λ (X : Compiled). path_after X path) e) l in
+        let c = place_taken place path' h.0 m h.1 (y.2 (place_text place) h.0 h.1 (free_place place) h.2) in
+        let text : printed 0 (refused_as (number_of x) (take m path')) ≡ printed 0 (refused_as k (place_text place)) =
+        ap (λ (n : ℕ). printed 0 (refused_as n (take m path'))) nk ∙ ap (λ (xs : List ℕ). printed 0 (refused_as k xs)) c in
+        (s, rw u (subst (λ (xs : List ℕ). Wrote out 0 xs out' len) text v))
 
-  pub begins_node : (n k len : ℕ) → a ≡ Answer.RefusedAt n k → Wrote out 0 (node_line n k) out' len → EndsWith nothing r.stage → r.length ≡ len
-      → CompiledAs formula names path slice program' r out out'
-  begins_node n k len b v s u z l =
-      subst (λ (X : Compiled). Compiles X program' r out out') (same_rooms z l) (node_by (compile formula names (length path) (length slice)) refl n k len b v s u)
+    pub begins_refused : node_of x ≡ None → (m len : ℕ) → path' ≡ path_after (compile formula names (length path) (length slice)) path → length path' ≡ length path
+        → TextLength path' m → Wrote out 0 (printed 0 (refused_as (number_of x) (take m path'))) out' len → EndsWith nothing r.stage → r.length ≡ len
+        → CompiledAs formula names path slice program' r out out'
+    begins_refused o m len w l y v s u z k =
+        subst (λ (X : Compiled). Compiles X program' r out out') (same_rooms z k)
+        (refused_by (compile formula names (length path) (length slice)) refl named o m len z w l y v s u)
 
-  accepted_by : (X : Compiled) → compile formula names (length path) (length slice) ≡ X → a ≡ Answer.Program → ((i : ℕ) → byte_at formula i < 256)
-      → program' ≡ program_after image (compile formula names (length path) (length slice)) slice → (s : Reading) → Starts s → (t : Totals) → totals_of t ≡ nothing
-      → r ≡ record { stage = Stage.Values (record { number = 1; reading = s; totals = t }); length = 0 } → Compiles X program' r out out'
-  accepted_by (Compile.refused k place) e b bytes w s f t z q = absurd (no_program k (sym (ap answer e) ∙ sym told ∙ b))
-  accepted_by (Compile.refused_at k j) e b bytes w s f t z q = absurd (node_no_program k j (sym (ap answer e) ∙ sym told ∙ b))
-  accepted_by (accepted g ss) e b bytes w s f t z q = (
-    s,
-    t,
-    ap (λ (x : Begun). x.stage) q,
-    f,
-    z,
-    ap (λ (x : Begun). x.length) q,
-    ready formula names (length path) (length slice) bytes g ss e slice program' w,
-    written formula names (length path) (length slice) bytes g ss e slice program' w,
-  )
+    node_by : (X : Compiled) → compile formula names (length path) (length slice) ≡ X → Named X → (k len : ℕ) → node_of x ≡ Some k
+        → Wrote out 0 (node_line (number_of x) k) out' len → EndsWith nothing r.stage → r.length ≡ len → Compiles X program' r out out'
+    node_by (accepted f ss) e d k len o v s u = absurd (no_error (sym is ∙ told ∙ ap answer e))
+    node_by (Compile.refused m place) e d k len o v s u = absurd (no_some (sym d.1 ∙ ap node_of (sym (same_refusal (refusal_of m) (ap answer e))) ∙ o))
+    node_by (Compile.refused_at m j) e d k len o v s u =
+        let same = same_refusal (refusal_at m j) (ap answer e) in
+        let nm : number_of x ≡ m = ap number_of same ∙ d.0 in
+        let q : ◌≡◌ {A = Maybe ℕ} (Some k) (Some j) = sym o ∙ ap node_of same ∙ d.1 in
+        let kj : k ≡ j = cc in
+        (s, rw u (subst (λ (i : ℕ). Wrote out 0 (node_line m i) out' len) kj (subst (λ (i : ℕ). Wrote out 0 (node_line i k) out' len) nm v)))
 
-  pub begins_accepted : a ≡ Answer.Program → ((i : ℕ) → byte_at formula i < 256) → program' ≡ program_after image (compile formula names (length path) (length slice)) slice
-      → (s : Reading) → Starts s → (t : Totals) → totals_of t ≡ nothing → r ≡ record { stage = Stage.Values (record { number = 1; reading = s; totals = t }); length = 0 }
-      → CompiledAs formula names path slice program' r out out'
-  begins_accepted b bytes w s f t y q z k =
-      subst (λ (X : Compiled). Compiles X program' r out out') (same_rooms z k)
-      (accepted_by (compile formula names (length path) (length slice)) refl b bytes w s f t y q)
+    pub begins_node : (k len : ℕ) → node_of x ≡ Some k → Wrote out 0 (node_line (number_of x) k) out' len → EndsWith nothing r.stage → r.length ≡ len
+        → CompiledAs formula names path slice program' r out out'
+    begins_node k len o v s u z l =
+        subst (λ (X : Compiled). Compiles X program' r out out') (same_rooms z l)
+        (node_by (compile formula names (length path) (length slice)) refl named k len o v s u)
+
+  module _ (is : a ≡ Ok tt) where
+    accepted_by : (X : Compiled) → compile formula names (length path) (length slice) ≡ X → ((i : ℕ) → byte_at formula i < 256)
+        → program' ≡ program_after image (compile formula names (length path) (length slice)) slice → (s : Reading) → Starts s → (t : Totals) → totals_of t ≡ nothing
+        → r ≡ record { stage = Stage.Values (record { number = 1; reading = s; totals = t }); length = 0 } → Compiles X program' r out out'
+    accepted_by (Compile.refused k place) e bytes w s f t z q = absurd (no_error (sym (ap answer e) ∙ sym told ∙ is))
+    accepted_by (Compile.refused_at k j) e bytes w s f t z q = absurd (no_error (sym (ap answer e) ∙ sym told ∙ is))
+    accepted_by (accepted g ss) e bytes w s f t z q = (
+      s,
+      t,
+      ap (λ (x : Begun). x.stage) q,
+      f,
+      z,
+      ap (λ (x : Begun). x.length) q,
+      ready formula names (length path) (length slice) bytes g ss e slice program' w,
+      written formula names (length path) (length slice) bytes g ss e slice program' w,
+    )
+
+    pub begins_accepted : ((i : ℕ) → byte_at formula i < 256) → program' ≡ program_after image (compile formula names (length path) (length slice)) slice
+        → (s : Reading) → Starts s → (t : Totals) → totals_of t ≡ nothing → r ≡ record { stage = Stage.Values (record { number = 1; reading = s; totals = t }); length = 0 }
+        → CompiledAs formula names path slice program' r out out'
+    begins_accepted bytes w s f t y q z k =
+        subst (λ (X : Compiled). Compiles X program' r out out') (same_rooms z k)
+        (accepted_by (compile formula names (length path) (length slice)) refl bytes w s f t y q)

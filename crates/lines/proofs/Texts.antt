@@ -11,6 +11,10 @@ use Rattle.machine.specs.Machine.{Answer, asks, gives, outside, refused, spent}
 use Rattle.writer.specs.Over.{over}
 use Rattle.writer.proofs.Over.{next_over, over_length, over_over}
 use Rattle.writer.proofs.Decimal.{decimal_length_le}
+use Rattle.refusals.specs.declared.Refusal.{Refusal}
+use Rattle.run.specs.declared.Answer as Answered
+use Rattle.run.specs.declared.Answer.TheVariants as Code
+use Rattle.run.specs.Views.{answer_of}
 use Rattle.listing.specs.Legs.{Line, bits_text, colon, comma, line_of, printed, refused_as}
 use Rattle.listing.specs.Totals.{Totals, total_line}
 use Rattle.lines.specs.Text.{Wrote, shown}
@@ -114,6 +118,14 @@ shown_any (asks q) count = refl
 shown_any spent count = refl
 shown_any (outside p) count = refl
 shown_any (refused n) count = refl
+
+-- an answer that is no refusal shows the instructions completed
+pub steps_run : (b : List ℕ) (a : Answered.Answer) (count : ℕ) → ((r : Refusal) → a ≡ Code.Refused r → ⊥) → (line_of (answer_of b a) count).steps ≡ count
+steps_run b (Code.Value v) count n = refl
+steps_run b (Code.Question q) count n = refl
+steps_run b Code.Spent count n = refl
+steps_run b (Code.Domain k) count n = refl
+steps_run b (Code.Refused r) count n = absurd (n r refl)
 
 line_text : (number steps : ℕ) (l : Line) → l.steps ≡ steps → decimal number ++ comma ++ shown l ++ comma ++ decimal steps ++ ascii "\n" ≡ printed number l
 line_text number steps l e =

@@ -18,8 +18,8 @@ ghost use Rattle.lines.specs.Owed.{EndsWith, KeepsOn, Opens, TellsFinished, Text
 ghost use Rattle.lines.specs.Record.{Ready};
 ghost use Rattle.lines.specs.Text.{Wrote};
 
-use compile::Answer;
 use layout::{INPUTS_AT, REGISTERS_AT};
+use refusals::Refusal;
 use sums::Totals;
 use values::Reading;
 
@@ -203,30 +203,29 @@ fn begin_over(
     requires kept { count ≤ length names.now }
     ensures { Beginning formula.now (take count names.now) path.old program.old path.new program.new result out.old out.new }
 {
-    let answer = compile::compile(formula, &names[..count], path, program);
-    match answer {
-        Answer::Program => {
-            let line = Line {
-                number: 1,
-                reading: values::fresh(),
-                totals: Totals::none(),
-            };
+    let Err(refusal) = compile::compile(formula, &names[..count], path, program) else {
+        let line = Line {
+            number: 1,
+            reading: values::fresh(),
+            totals: Totals::none(),
+        };
+        return Begun {
+            stage: Stage::Values(line),
+            length: 0,
+        };
+    };
+    match refusal.node() {
+        Some(node) => Begun {
+            length: text::put_node_refusal(out, 0, refusal, node),
+            stage: finished(),
+        },
+        None => {
+            let place = text_length(path);
             Begun {
-                stage: Stage::Values(line),
-                length: 0,
-            }
-        }
-        Answer::Refused(n) => {
-            let m = text_length(path);
-            Begun {
-                length: text::put_refusal(out, 0, n, &path[..m]),
+                length: text::put_refusal(out, 0, refusal, &path[..place]),
                 stage: finished(),
             }
         }
-        Answer::RefusedAt(n, node) => Begun {
-            length: text::put_node_refusal(out, 0, n, node),
-            stage: finished(),
-        },
     }
 }
 
@@ -254,7 +253,7 @@ fn put_missing(out: &mut [u8], at: usize) -> Begun
     ensures room { result.length ≤ length out.old }
 {
     Begun {
-        length: text::put_refusal(out, at, refusals::SLICE_TOO_SHORT, b""),
+        length: text::put_refusal(out, at, Refusal::SliceTooShort, b""),
         stage: finished(),
     }
 }

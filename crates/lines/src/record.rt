@@ -10,6 +10,7 @@ use crate::Line;
 use crate::sums::Totals;
 use crate::text::put_line;
 use layout::{CODE_AT, REGISTERS_AT};
+use refusals::Refusal;
 use run::Answer;
 use values::finish;
 
@@ -28,18 +29,18 @@ fn run_values(p: &[u8], inputs: &[f64], regs: &mut [f64]) -> Outcome
     let budget = reader::word(p, CODE_AT);
     let n = reader::word(p, REGISTERS_AT);
     regs[..n].fill(0.0);
-    let reply = run::run_reply(p, inputs, &mut regs[..n], budget, run::fresh_state());
+    let reply = run::run_reply(p, inputs, &mut regs[..n], budget);
     Outcome {
         answer: reply.answer,
         count: reply.count,
     }
 }
 
-fn refused(n: u8) -> Outcome
-    ensures { result ≡ record { answer = Answer.Refused n; count = 0 } }
+fn refused(refusal: Refusal) -> Outcome
+    ensures { result ≡ record { answer = Answer.Refused refusal; count = 0 } }
 {
     Outcome {
-        answer: Answer::Refused(n),
+        answer: Answer::Refused(refusal),
         count: 0,
     }
 }
@@ -52,9 +53,9 @@ fn answer_of(p: &[u8], found: Option<usize>, values: &[f64], regs: &mut [f64]) -
     ensures place { Writable p.now 8192 result.answer }
 {
     match found {
-        None => refused(refusals::MALFORMED_LINE),
+        None => refused(Refusal::MalformedLine),
         Some(n) if n <= values.len() => run_values(p, &values[..n], regs),
-        Some(_) => refused(refusals::INVALID_INPUT),
+        Some(_) => refused(Refusal::InvalidInput),
     }
 }
 

@@ -52,11 +52,13 @@ impl Totals {
         };
         let line = match answer {
             Answer::Value(_) => Totals { values: 1, ..run },
-            Answer::Elementary(_, _) => Totals { asks: 1, ..run },
-            Answer::Power(_, _) => Totals { asks: 1, ..run },
+            Answer::Question(_) => Totals { asks: 1, ..run },
             Answer::Spent => run,
             Answer::Domain(_) => Totals { domains: 1, ..run },
-            Answer::Refused(_) => Totals { bads: 1, ..Totals::none() },
+            Answer::Refused(_) => Totals {
+                bads: 1,
+                ..Totals::none()
+            },
         };
         self.plus(line)
     }

@@ -6,7 +6,9 @@ ghost use Rattle.meaning.specs.Work.{elementary, power};
 ghost use Rattle.machine.specs.Machine.{asks, gives, outside, refused};
 ghost use Rattle.machine.specs.Program.{valid};
 ghost use Rattle.layout.specs.Decode.{length_at, path_of, path_total, program_at};
+ghost use Rattle.refusals.specs.Refusals.{number_of};
 ghost use Rattle.run.specs.Views.{Writable, answer_of};
+ghost use Rattle.work.specs.View.{question_of};
 ghost use Rattle.formula.specs.Text.{decimal};
 ghost use Rattle.listing.specs.Legs.{bits_text, line_of, node_line, printed, refused_as};
 ghost use Rattle.listing.specs.Totals.{total_line};
@@ -15,8 +17,10 @@ ghost use Rattle.lines.specs.Text.{StepsOf, Wrote, shown};
 
 use crate::sums::Totals;
 use layout::{CODE_AT, HEADER_SIZE, PATHS_AT, RECORD_SIZE, SLOT_SIZE};
+use refusals::Refusal;
 use run::Answer;
 use values::words::write_eight;
+use work::Question;
 use writer::{put_bytes, put_decimal, put_long};
 
 // The 16 digits of a value's bits.
@@ -59,13 +63,24 @@ fn put_power(out: &mut [u8], at: usize, x: f64, y: f64) -> usize
     put_bits(out, exponent, y)
 }
 
-fn put_bad(out: &mut [u8], at: usize, n: u8) -> usize
+fn put_question(out: &mut [u8], at: usize, question: Question) -> usize
+    requires { at + 40 ≤ length out.old }
+    ensures wrote { Wrote out.old at (shown (line_of (asks (question_of question)) 0)) out.new result }
+    ensures room { result ≤ at + 40 }
+{
+    match question {
+        Question::Elementary(f, x) => put_elementary(out, at, f, x),
+        Question::Power(x, y) => put_power(out, at, x, y),
+    }
+}
+
+fn put_bad(out: &mut [u8], at: usize, refusal: Refusal) -> usize
     requires { at + 24 ≤ length out.old }
-    ensures wrote { Wrote out.old at (shown (line_of (refused n) 0)) out.new result }
+    ensures wrote { Wrote out.old at (shown (line_of (refused (number_of refusal)) 0)) out.new result }
     ensures room { result ≤ at + 24 }
 {
     let number = put_bytes(out, at, b"bad,");
-    put_decimal(out, number, n as u64)
+    put_decimal(out, number, u64::from(refusal.number()))
 }
 
 // How many bytes the text of a path record has.
@@ -102,11 +117,10 @@ fn put_answer(p: &[u8], out: &mut [u8], at: usize, answer: Answer) -> usize
 {
     match answer {
         Answer::Value(v) => put_value(out, at, v),
-        Answer::Elementary(f, x) => put_elementary(out, at, f, x),
-        Answer::Power(x, y) => put_power(out, at, x, y),
+        Answer::Question(question) => put_question(out, at, question),
         Answer::Spent => put_bytes(out, at, b"spent,"),
         Answer::Domain(k) => put_domain(p, out, at, k),
-        Answer::Refused(n) => put_bad(out, at, n),
+        Answer::Refused(refusal) => put_bad(out, at, refusal),
     }
 }
 
@@ -115,12 +129,8 @@ fn steps_of(answer: Answer, count: usize) -> usize
     ensures { StepsOf answer count result }
 {
     match answer {
-        Answer::Refused(n) => 0,
-        Answer::Value(v) => count,
-        Answer::Elementary(f, x) => count,
-        Answer::Power(x, y) => count,
-        Answer::Spent => count,
-        Answer::Domain(k) => count,
+        Answer::Refused(_) => 0,
+        _ => count,
     }
 }
 
@@ -146,27 +156,27 @@ pub(crate) fn put_line(
 }
 
 // "A formula refused in compiling gives, after the header, only `0,refused,N:PATH,0`, the path empty without a place."
-pub(crate) fn put_refusal(out: &mut [u8], at: usize, n: u8, place: &[u8]) -> usize
+pub(crate) fn put_refusal(out: &mut [u8], at: usize, refusal: Refusal, place: &[u8]) -> usize
     requires { (at + 8209 ≤ length out.old) × (length place.now ≤ 8192) }
-    ensures wrote { Wrote out.old at (printed 0 (refused_as n place.now)) out.new result }
+    ensures wrote { Wrote out.old at (printed 0 (refused_as (number_of refusal) place.now)) out.new result }
     ensures room { result ≤ at + 8209 }
 {
     let number = put_bytes(out, at, b"0,refused,");
-    let colon = put_decimal(out, number, n as u64);
+    let colon = put_decimal(out, number, u64::from(refusal.number()));
     let from = put_bytes(out, colon, b":");
     let end = put_bytes(out, from, place);
     put_bytes(out, end, b",0\n")
 }
 
 // "`legs` shows it as `N:node`".
-pub(crate) fn put_node_refusal(out: &mut [u8], at: usize, n: u8, node: usize) -> usize
+pub(crate) fn put_node_refusal(out: &mut [u8], at: usize, refusal: Refusal, node: usize) -> usize
     requires { at + 8209 ≤ length out.old }
-    ensures wrote { Wrote out.old at (node_line n node) out.new result }
+    ensures wrote { Wrote out.old at (node_line (number_of refusal) node) out.new result }
     ensures room { result ≤ at + 8209 }
 {
     let mut digits = [0u8; 20];
     let end = put_decimal(&mut digits, 0, node as u64);
-    put_refusal(out, at, n, &digits[..end])
+    put_refusal(out, at, refusal, &digits[..end])
 }
 
 // A number, and the byte after it.

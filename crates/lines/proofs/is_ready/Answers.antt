@@ -10,8 +10,8 @@ unfolding input_count register_total
 returns-then-values-word-clause-ready c = (
   λ e. absurd (no_true e),
   λ e r. elim c.then-values-word.branch [
-    then-values-word-via-then-values-word w ↦ omega (arith, r.inputs, c.word.ensures.0, w.if-values-word.true)
-  | then-values-word-via-else-values-word+then-regs-word w ↦ omega (arith, r.registers, w.word-else-values-word.ensures.0, w.if-regs-word.true)
+    | then-values-word-via-then-values-word w ↦ omega (arith, r.inputs, c.word.ensures.0, w.if-values-word.true)
+    | then-values-word-via-else-values-word+then-regs-word w ↦ omega (arith, r.registers, w.word-else-values-word.ensures.0, w.if-regs-word.true)
   ],
 )
 

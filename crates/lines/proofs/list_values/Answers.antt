@@ -31,10 +31,10 @@ returns-then-used-input c =
     let l = c.loop-used in
     let r = c.read_part-read in
     elim c.then-used-input.branch [
-      then-used-input-via-then-used-input w ↦
+      | then-used-input-via-then-used-input w ↦
           on_end a.p.now a.input.now a.line a.values.now a.regs.now a.out.now l.values l.regs l.out l.used l.length l.line l.invariant
           r.result.end r.result.reading r.new.values r.ensures.place.0 r.ensures.place.2 r.ensures.read r.ensures.place.1 _ refl w.if-used-input.true
-    | then-used-input-via-else-used-input+then-out-length-lt-RECORD_ROOM w ↦
+      | then-used-input-via-else-used-input+then-out-length-lt-RECORD_ROOM w ↦
           on_full a.p.now a.input.now a.line a.values.now a.regs.now a.out.now l.values l.regs l.out l.used l.length l.line l.invariant
           r.result.end r.result.reading r.new.values r.ensures.place.0 r.ensures.place.2 r.ensures.read r.ensures.place.1 _ refl
           w.if-out-length-lt-RECORD_ROOM.true

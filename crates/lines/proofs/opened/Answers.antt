@@ -12,8 +12,8 @@ returns-clause-opens c =
     let args = c.args in
     let put = c.put_missing in
     elim c.else-readable.branch [
-      else-readable-via-then-readable+else-formula-le4096 w ↦
+      | else-readable-via-then-readable+else-formula-le4096 w ↦
           opens_long args.readable args.formula.now w.if-readable.true w.if-formula-le4096.false put.result args.out.now args.at put.new.out put.ensures.ended
-    | else-readable-via-else-readable w ↦
+      | else-readable-via-else-readable w ↦
           opens_none args.readable args.formula.now w.if-readable.false put.result args.out.now args.at put.new.out put.ensures.ended
     ]

@@ -9,7 +9,7 @@ returns-then-i-eq8192 c =
       omega (arith, c.loop-i-test.true),
       loop.invariant.0,
       λ t m e f l. text_end c.args.path.now loop.i loop.invariant.1 t m e f (λ z. elim c.then-i-eq8192.branch [
-        then-i-eq8192-via-then-i-eq8192 w ↦ absurd (omega (arith, w.if-i-eq8192.true))
-      | then-i-eq8192-via-else-i-eq8192+then-b-eq0 w ↦ w.if-b-eq0.true
+        | then-i-eq8192-via-then-i-eq8192 w ↦ absurd (omega (arith, w.if-i-eq8192.true))
+        | then-i-eq8192-via-else-i-eq8192+then-b-eq0 w ↦ w.if-b-eq0.true
       ]),
     )

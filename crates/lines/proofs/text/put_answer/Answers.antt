@@ -10,11 +10,8 @@ use Rattle.lines.proofs.text.put_answer.Goals as goal
 pub put_value-requires : goal.put_value-requires
 put_value-requires c = omega (arith, c.requires.2)
 
-pub put_elementary-requires : goal.put_elementary-requires
-put_elementary-requires c = omega (arith, c.requires.2)
-
-pub put_power-requires : goal.put_power-requires
-put_power-requires c = omega (arith, c.requires.2)
+pub put_question-requires : goal.put_question-requires
+put_question-requires c = omega (arith, c.requires.2)
 
 pub put_bytes-requires : goal.put_bytes-requires
 put_bytes-requires c = omega (arith, c.requires.2)
@@ -34,23 +31,14 @@ returns-in-Value c =
       room = omega (arith, put_value.ensures.ends);
     }
 
-pub returns-in-Elementary : goal.returns-in-Elementary
-returns-in-Elementary c =
+pub returns-in-Question : goal.returns-in-Question
+returns-in-Question c =
     let args = c.args in
-    let put_elementary = c.put_elementary in record {
+    let put_question = c.put_question in record {
       wrote = subst
-          (λ (a : Answer). Wrote args.out.now args.at (shown (line_of (answer_of args.p.now a) 0)) put_elementary.new.out put_elementary.result)
-          (sym c.in-Elementary.is) put_elementary.ensures.wrote;
-      room = omega (arith, put_elementary.ensures.room);
-    }
-
-pub returns-in-Power : goal.returns-in-Power
-returns-in-Power c =
-    let args = c.args in
-    let put_power = c.put_power in record {
-      wrote = subst (λ (a : Answer). Wrote args.out.now args.at (shown (line_of (answer_of args.p.now a) 0)) put_power.new.out put_power.result)
-          (sym c.in-Power.is) put_power.ensures;
-      room = omega (arith, put_power.ensures.ends);
+          (λ (a : Answer). Wrote args.out.now args.at (shown (line_of (answer_of args.p.now a) 0)) put_question.new.out put_question.result)
+          (sym c.in-Question.is) put_question.ensures.wrote;
+      room = omega (arith, put_question.ensures.room);
     }
 
 pub returns-in-Spent : goal.returns-in-Spent

@@ -1,154 +1,26 @@
 use Rattle.lines.proofs.Texts.{decimal_byte, refusal_wrote, wrote}
-use Rattle.listing.specs.Legs.{colon}
-use Rattle.formula.specs.Text.{ascii, decimal}
-use Rattle.std.proofs.Common.{arith}
+use Rattle.refusals.specs.Refusals.{number_of}
+use Rattle.std.proofs.Common.{◌≡◌, ◌≤◌, ◌∙◌, length, arith}
+use Rattle.formula.specs.Text.{decimal}
 use Rattle.lines.proofs.text.put_refusal.Goals as goal
 
-pub put_bytes-number-requires : goal.put_bytes-number-requires
-put_bytes-number-requires c =
+pub returns-clause-wrote : goal.returns-clause-wrote
+returns-clause-wrote c =
     let args = c.args in
-    let fits = c.ranges in
-    let pre = c.requires in
-    omega (arith, decimal_byte args.n fits.n.fits, pre.0, pre.1)
-
-pub put_decimal-colon-requires : goal.put_decimal-colon-requires
-put_decimal-colon-requires c =
-    let args = c.args in
-    let fits = c.ranges in
-    let pre = c.requires in
-    let put_bytes = c.put_bytes-number in
-    omega (arith, decimal_byte args.n fits.n.fits, put_bytes.ensures.0, put_bytes.auto.out, pre.0, pre.1)
-
-pub put_bytes-from-requires : goal.put_bytes-from-requires
-put_bytes-from-requires c =
-    let args = c.args in
-    let fits = c.ranges in
-    let pre = c.requires in
-    let put_bytes = c.put_bytes-number in
-    let put_decimal = c.put_decimal-colon in
-    omega (
-      arith,
-      decimal_byte args.n fits.n.fits,
-      put_bytes.ensures.0,
-      put_bytes.auto.out,
-      put_decimal.ensures.0,
-      put_decimal.auto.out,
-      pre.0,
-      pre.1,
-    )
-
-pub put_bytes-end-requires : goal.put_bytes-end-requires
-put_bytes-end-requires c =
-    let args = c.args in
-    let fits = c.ranges in
-    let pre = c.requires in
-    let put_bytes = c.put_bytes-number in
-    let put_decimal = c.put_decimal-colon in
-    let put_bytes2 = c.put_bytes-from in
-    omega (
-      arith,
-      decimal_byte args.n fits.n.fits,
-      put_bytes.ensures.0,
-      put_bytes.auto.out,
-      put_decimal.ensures.0,
-      put_decimal.auto.out,
-      put_bytes2.ensures.0,
-      put_bytes2.auto.out,
-      pre.0,
-      pre.1,
-    )
-
-pub put_bytes-requires : goal.put_bytes-requires
-put_bytes-requires c =
-    let args = c.args in
-    let fits = c.ranges in
-    let pre = c.requires in
-    let put_bytes = c.put_bytes-number in
-    let put_decimal = c.put_decimal-colon in
-    let put_bytes2 = c.put_bytes-from in
-    let put_bytes3 = c.put_bytes-end in
-    omega (
-      arith,
-      decimal_byte args.n fits.n.fits,
-      put_bytes.ensures.0,
-      put_bytes.auto.out,
-      put_decimal.ensures.0,
-      put_decimal.auto.out,
-      put_bytes2.ensures.0,
-      put_bytes2.auto.out,
-      put_bytes3.ensures.0,
-      put_bytes3.auto.out,
-      pre.0,
-      pre.1,
-    )
-
-pub returns : goal.returns
-returns c =
-    let args = c.args in
-    let fits = c.ranges in
-    let pre = c.requires in
-    let put_bytes = c.put_bytes-number in
-    let put_decimal = c.put_decimal-colon in
-    let put_bytes2 = c.put_bytes-from in
-    let put_bytes3 = c.put_bytes-end in
-    let put_bytes4 = c.put_bytes in record {
-      wrote = refusal_wrote args.out.now args.at args.n args.place.now put_bytes.new.out put_decimal.new.out put_bytes2.new.out
-          put_bytes3.new.out put_bytes4.new.out put_bytes.result put_decimal.result put_bytes2.result put_bytes3.result put_bytes4.result
-          (omega (arith, decimal_byte args.n fits.n.fits, put_bytes.ensures.0, put_bytes.auto.out, pre.0, pre.1))
-          (omega (
-            arith,
-            decimal_byte args.n fits.n.fits,
-            put_bytes.ensures.0,
-            put_bytes.auto.out,
-            put_decimal.ensures.0,
-            put_decimal.auto.out,
-            pre.0,
-            pre.1,
-          ))
-          (omega (
-            arith,
-            decimal_byte args.n fits.n.fits,
-            put_bytes.ensures.0,
-            put_bytes.auto.out,
-            put_decimal.ensures.0,
-            put_decimal.auto.out,
-            put_bytes2.ensures.0,
-            put_bytes2.auto.out,
-            pre.0,
-            pre.1,
-          ))
-          (omega (
-            arith,
-            decimal_byte args.n fits.n.fits,
-            put_bytes.ensures.0,
-            put_bytes.auto.out,
-            put_decimal.ensures.0,
-            put_decimal.auto.out,
-            put_bytes2.ensures.0,
-            put_bytes2.auto.out,
-            put_bytes3.ensures.0,
-            put_bytes3.auto.out,
-            pre.0,
-            pre.1,
-          ))
-          (wrote args.out.now args.at (ascii "0,refused,") put_bytes.new.out put_bytes.result put_bytes.ensures)
-          (wrote put_bytes.new.out put_bytes.result (decimal args.n) put_decimal.new.out put_decimal.result put_decimal.ensures)
-          (wrote put_decimal.new.out put_decimal.result (colon) put_bytes2.new.out put_bytes2.result put_bytes2.ensures)
-          (wrote put_bytes2.new.out put_bytes2.result args.place.now put_bytes3.new.out put_bytes3.result put_bytes3.ensures)
-          (wrote put_bytes3.new.out put_bytes3.result (ascii ",0\n") put_bytes4.new.out put_bytes4.result put_bytes4.ensures);
-      room = omega (
-        arith,
-        decimal_byte args.n fits.n.fits,
-        put_bytes.ensures.0,
-        put_bytes.auto.out,
-        put_decimal.ensures.0,
-        put_decimal.auto.out,
-        put_bytes2.ensures.0,
-        put_bytes2.auto.out,
-        put_bytes3.ensures.0,
-        put_bytes3.auto.out,
-        put_bytes4.ensures.0,
-        pre.0,
-        pre.1,
-      );
-    }
+    let w1 = c.put_bytes-number in
+    let w2 = c.put_decimal-colon in
+    let w3 = c.put_bytes-from in
+    let w4 = c.put_bytes-end in
+    let w5 = c.put_bytes in
+    let n : c.from.result ≡ number_of args.refusal = c.from.ensures ∙ c.number.ensures in
+    let few : length (decimal (number_of args.refusal)) ≤ 3 = decimal_byte (number_of args.refusal) (omega (arith, c.number.type_inv, c.number.ensures)) in
+    let digits = rw n at w2.ensures in
+    let room = c.requires in
+    let e1 = w1.ensures.0 in
+    let e2 = digits.0 in
+    let e3 = w3.ensures.0 in
+    let e4 = w4.ensures.0 in
+    refusal_wrote args.out.now args.at (number_of args.refusal) args.place.now w1.new.out w2.new.out w3.new.out w4.new.out w5.new.out
+    w1.result w2.result w3.result w4.result w5.result (omega (arith, e1, room.0)) (omega (arith, e1, e2, few, room.0)) (omega (arith, e1, e2, e3, few, room.0))
+    (omega (arith, e1, e2, e3, e4, few, room.0, room.1)) (wrote _ _ _ _ _ w1.ensures) (wrote _ _ _ _ _ digits) (wrote _ _ _ _ _ w3.ensures)
+    (wrote _ _ _ _ _ w4.ensures) (wrote _ _ _ _ _ w5.ensures)
