@@ -286,9 +286,6 @@ module _ (b : List ℕ) (d left at : ℕ) (n : left ≡ 0 → ⊥) (w : all_well
     pub next_well : all_well_formed (kids b d (left - 1) one.node) ≡ true
     next_well = subst (λ (x : ℕ). all_well_formed (kids b d (left - 1) x) ≡ true) next_at (rest_well b d left at n w)
 
-    pub next_inside : one.node ≤ length b
-    next_inside = omega (arith, next_at, tree_end b d at here_well)
-
     pub all_counts : (rest r : Counts) → rest ≡ counts b d (left - 1) one.node → r ≡ more rest one.code one.paths one.entries → r ≡ counts b d left at
     all_counts rest r e x =
         let k = kids_step b d left at n in
@@ -301,3 +298,68 @@ module _ (b : List ℕ) (d left at : ℕ) (n : left ≡ 0 → ⊥) (w : all_well
         let x₃ : rest.entries + one.entries ≡ entry_counts (terms (kids b d left at)) =
         omega (arith, ap (λ (u : Counts). u.entries) e', ap (λ (u : Counts). u.entries) first_is, ap (λ (u : Formulas). entry_counts (terms u)) k) in
         x ∙ (λ j. record { node = x₀ j; code = x₁ j; paths = x₂ j; entries = x₃ j })
+
+-- the first i of some nodes that stand in a row need t
+pub record Passed (b : List ℕ) (d left at i : ℕ) (t : Counts) : Type 0 where
+  pub well : all_well_formed (kids b d (left - i) t.node) ≡ true
+  pub whole : more (counts b d (left - i) t.node) t.code t.paths t.entries ≡ counts b d left at
+
+more_none : (t : Counts) → more t 0 0 0 ≡ t
+more_none t =
+    let x₁ : t.code + 0 ≡ t.code = omega arith in
+    let x₂ : t.paths + 0 ≡ t.paths = omega arith in
+    let x₃ : t.entries + 0 ≡ t.entries = omega arith in
+    λ j. record { node = t.node; code = x₁ j; paths = x₂ j; entries = x₃ j }
+
+more_more : (t u w : Counts) → w ≡ more u t.code t.paths t.entries → (s : Counts) → more s w.code w.paths w.entries ≡ more (more s t.code t.paths t.entries) u.code u.paths u.entries
+more_more t u w e s =
+    let x₁ : s.code + w.code ≡ s.code + t.code + u.code = omega (arith, ap (λ (x : Counts). x.code) e) in
+    let x₂ : s.paths + w.paths ≡ s.paths + t.paths + u.paths = omega (arith, ap (λ (x : Counts). x.paths) e) in
+    let x₃ : s.entries + w.entries ≡ s.entries + t.entries + u.entries = omega (arith, ap (λ (x : Counts). x.entries) e) in
+    λ j. record { node = s.node; code = x₁ j; paths = x₂ j; entries = x₃ j }
+
+pub passed_start : (b : List ℕ) (d left at : ℕ) → all_well_formed (kids b d left at) ≡ true → Passed b d left at 0 (record { node = at; code = 0; paths = 0; entries = 0 })
+passed_start b d left at w =
+    let all_left : left ≡ left - 0 = omega arith in
+    record {
+      well = subst (λ (m : ℕ). all_well_formed (kids b d m at) ≡ true) all_left w;
+      whole = more_none (counts b d (left - 0) at) ∙ ap (λ (m : ℕ). counts b d m at) (sym all_left);
+    }
+
+none_more : (t : Counts) → t ≡ more (record { node = t.node; code = 0; paths = 0; entries = 0 }) t.code t.paths t.entries
+none_more t =
+    let x₁ : t.code ≡ 0 + t.code = omega arith in
+    let x₂ : t.paths ≡ 0 + t.paths = omega arith in
+    let x₃ : t.entries ≡ 0 + t.entries = omega arith in
+    λ j. record { node = t.node; code = x₁ j; paths = x₂ j; entries = x₃ j }
+
+pub passed_end : (b : List ℕ) (d left at i : ℕ) (t : Counts) → Passed b d left at i t → left ≤ i → t ≡ counts b d left at
+passed_end b d left at i t P h =
+    let none_left : left - i ≡ 0 = omega arith in
+    none_more t ∙ ap (λ (u : Counts). more u t.code t.paths t.entries) (none_counts b d (left - i) t.node none_left) ∙ P.whole
+
+module _ (b : List ℕ) (d left at i : ℕ) (t : Counts) (w : all_well_formed (kids b d left at) ≡ true) (P : Passed b d left at i t) (h : i < left) where
+  pub some_left : left - i ≡ 0 → ⊥
+  some_left z = omega arith
+
+  pub passed_small : length b < 2 ^ 64 → Small t
+  passed_small l =
+      let there = (stands b d at (first_well b d left at (λ z. omega arith) w)).inside in
+      let s = small b d left at (counts b d left at) l (omega (arith, there)) w refl in
+      (omega (arith, s, ap (λ (x : Counts). x.code) P.whole), omega (arith, s, ap (λ (x : Counts). x.paths) P.whole), omega (arith, s, ap (λ (x : Counts). x.entries) P.whole))
+
+  pub passed_step : (f : Fields) (is_f : written f ≡ fields_at b t.node) (inner : Counts) (is_inner : inner ≡ counts b (d - 1) f.children (t.node + node_size)) (own : Counts)
+      (is_own : own ≡ weight f inner) (r : Counts) → r ≡ more t own.code own.paths own.entries
+      → Passed b d left at (i + 1) (record { node = own.node; code = r.code; paths = r.paths; entries = r.entries })
+  passed_step f is_f inner is_inner own is_own r e =
+      let fewer : left - i - 1 ≡ left - (i + 1) = omega arith in
+      let rest = counts b d (left - i - 1) own.node in
+      let one = all_counts b d (left - i) t.node some_left P.well f is_f inner is_inner own is_own rest (more rest own.code own.paths own.entries) refl refl in
+      record {
+        well =
+            subst (λ (m : ℕ). all_well_formed (kids b d m own.node) ≡ true) fewer
+            (next_well b d (left - i) t.node some_left P.well f is_f inner is_inner own is_own);
+        whole =
+            subst (λ (m : ℕ). more (counts b d m own.node) r.code r.paths r.entries ≡ counts b d left at) fewer
+            (more_more own t r e rest ∙ ap (λ (u : Counts). more u t.code t.paths t.entries) one ∙ P.whole);
+      }

@@ -88,17 +88,18 @@ pub fn tally(b: &[u8], d: usize, left: usize, at: usize) -> Counts
     requires { all_well_formed (kids b.now d left at) ≡ true }
     ensures { result ≡ record { node = past b.now d left at; code = instruction_counts (terms (kids b.now d left at)); paths = path_counts (terms (kids b.now d left at)); entries = entry_counts (terms (kids b.now d left at)) } }
 {
-    if left == 0 {
-        return Counts {
-            node: at,
-            ..NOTHING
-        };
+    let mut all = Counts {
+        node: at,
+        ..NOTHING
+    };
+    for _ in 0..left {
+        let f = reader::node(b, all.node);
+        let inner = tally(b, d - 1, f.children, all.node + NODE_SIZE);
+        let own = weigh(f, inner);
+        all = all.grown(own.code, own.paths, own.entries);
+        all.node = own.node;
     }
-    let f = reader::node(b, at);
-    let inner = tally(b, d - 1, f.children, at + NODE_SIZE);
-    let first = weigh(f, inner);
-    let rest = tally(b, d, left - 1, first.node);
-    rest.grown(first.code, first.paths, first.entries)
+    all
 }
 
 // The whole formula's tree, in one pass over its nodes as long as none drops its children: what each needs by itself. How many

@@ -9,7 +9,7 @@ use Rattle.formula.specs.Term.{apply, term, terms}
 use Rattle.machine.proofs.Laws.{instruction_count_pos}
 use lib.Dec.{eqb}
 use Rattle.lower.specs.Piece.{arm, context_of, further, kids, leaf, past}
-use Rattle.lower.proofs.Answers.{arm_at, arm_from, arm_ready, arms_of, as_node, at_argument, leaf_ready, lists_as, miscounted_here, operands_as, operands_asked, operands_ready, ready_moved, ready_term, ready_to, rest_as, rest_ready, three_past, three_well, two_well, well_to}
+use Rattle.lower.proofs.Answers.{arm_at, arm_from, arm_ready, arms_of, as_node, at_argument, lists_as, miscounted_here, operands_as, operands_asked, operands_ready, ready_moved, ready_term, ready_to, rest_as, rest_ready, three_past, three_well, two_well, well_to}
 use Rattle.lower.proofs.Choices as choices
 use Rattle.lower.proofs.Collects as collects
 use Rattle.lower.proofs.Compose.{enter_room, fewer_registers, path_one}
@@ -540,21 +540,6 @@ node-returns-then-f-le-SYMBOL t c =
     as_node _ _ whole (leaf f) _ _ next _ next here _ _ _ (wholes.leaf_term_is b args.levels at f node.ensures.0 pre.formed (omega (arith, c.if-f-le-SYMBOL.true)))
     (wholes.leaf_size b args.levels at f node.ensures.0 pre.formed (omega (arith, c.if-f-le-SYMBOL.true))) c.leaf.ensures
 
-pub node-leaf-requires : goal.node-leaf-requires
-node-leaf-requires t c =
-    let args = c.args in
-    let pre = c.requires in
-    let source = args.self.now in
-    let b = source.bytes.now in
-    let here = args.c.now in
-    let context = context_of source.kinds.now source.layout.generated in
-    let node = c.node-f in
-    let f = node.result in
-    let at = here.node in
-    let next = at + node_size in
-    let whole = term (tree_in args.levels b at) in
-    ready_moved (leaf_ready f (ready_term whole (leaf f) (wholes.leaf_term_is b args.levels at f node.ensures.0 pre.formed (omega (arith, c.if-f-le-SYMBOL.true))) pre.ready at)) next
-
 pub node-overflow_sub-below : goal.node-overflow_sub-below
 node-overflow_sub-below t c =
     let args = c.args in
@@ -888,11 +873,6 @@ operands-returns-then-o-eq0 t c =
     let context = context_of source.kinds.now source.layout.generated in
     collects.none_left _ args.o.first _ args.o.boolean _ _ _ here args.p.now (past_none b args.levels args.o.left here.node c.if-o-eq0.true) pre.ready.sound
     args.o.lists _ _ refl (ap terms (kids_none b args.levels here.node args.o.left c.if-o-eq0.true))
-
-pub operands-operand-requires : goal.operands-operand-requires
-operands-operand-requires t c =
-    let pre = c.requires in
-    (omega arith, (pre.ready, (pre.formed.0, pre.formed.1, omega (arith, c.if-o-eq0.false))))
 
 pub operand-lower-requires : goal.operand-lower-requires
 operand-lower-requires t c =
