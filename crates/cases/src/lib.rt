@@ -169,11 +169,17 @@ pub fn take(mut stdin: Stdin, room: &mut [u8], n: usize) -> Option<&[u8]>
     Some(part)
 }
 
-// Reads as many cells of standard input as there is room for, 256 at most.
+// The next cell of standard input; none where it ends before.
+pub fn take_cell<T: Cell>(stdin: Stdin) -> Option<T> {
+    let mut room = [0; 8];
+    Some(Record::new(take(stdin, &mut room, 8)?).cell())
+}
+
+// Reads as many cells of standard input as there is room for.
 pub fn take_cells<T: Cell>(stdin: Stdin, out: &mut [T]) -> Option<()> {
-    let mut room = [0; 2048];
-    let cells = take(stdin, &mut room, out.len().checked_mul(8)?)?;
-    Record::new(cells).cells(out);
+    for place in out.iter_mut() {
+        *place = take_cell(stdin)?;
+    }
     Some(())
 }
 
@@ -226,6 +232,21 @@ impl Tally {
         self.cases = self.cases.wrapping_add(1);
         self.calls = self.calls.wrapping_add(calls);
         Ok(())
+    }
+
+    // The same, and breaks off at a case that came out otherwise: what comes after it can't be told from it.
+    pub fn count_while_right(
+        &mut self,
+        stdout: Stdout,
+        right: bool,
+        calls: u64,
+    ) -> io::Result<ControlFlow<()>> {
+        self.count(stdout, right, calls)?;
+        Ok(if right {
+            ControlFlow::Continue(())
+        } else {
+            ControlFlow::Break(())
+        })
     }
 
     pub fn verdict(&self, mut stdout: Stdout) -> io::Result<()> {

@@ -10,7 +10,6 @@
 use cases::{Call, FILL, HELD, Kind, Record, Tally, is_left, is_reported, same, take, take_cells};
 use std::io;
 use std::io::Stdin;
-use std::ops::ControlFlow;
 use vebrostin::{
     vebrostin_answer, vebrostin_compile, vebrostin_derive, vebrostin_resume, vebrostin_run,
 };
@@ -267,13 +266,7 @@ fn main(rt: HostRuntime) -> io::Result<()> {
     cases::each_head(stdin, &mut [0; 144], |head| {
         let head = Head::read(head);
         let right = is_right(stdin, &head).unwrap_or(false);
-        tally.count(stdout, right, head.calls)?;
-        // What comes after a case that is not as recorded can't be told from it.
-        Ok(if right {
-            ControlFlow::Continue(())
-        } else {
-            ControlFlow::Break(())
-        })
+        tally.count_while_right(stdout, right, head.calls)
     })?;
     println!(stdout; "{} cases, {} calls", tally.cases, tally.calls)?;
     tally.verdict(stdout)
