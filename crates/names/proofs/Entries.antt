@@ -330,8 +330,11 @@ module _ (line : List ℕ) (at end : ℕ) (w : Letters line at end) where
       (λ stop u s g.
       h (ap (λ (j : ℕ). get_or line j 0) (sym g.after) ∙ u.comma (omega (arith, g.after, u.inside))))
 
-  module _ (r : Std.Option Kind) (room : end + 2 ≤ length line) (few : end - at ≤ 64) (colon : get_or line end 0 ≡ 58) (first : is_letter (get_or line at 0) ≡ true)
+  module _ (r : Std.Option Kind) (wide : 2 ≤ length line - end) (few : end - at ≤ 64) (colon : get_or line end 0 ≡ 58) (first : is_letter (get_or line at 0) ≡ true)
       (kind : r ≡ kind_in (kind_of (get_or line (end + 1) 0))) (comma : end + 2 < length line → get_or line (end + 2) 0 ≡ 44) where
+    room : end + 2 ≤ length line
+    room = omega (arith, w.inside)
+
     some_bytes : 1 ≤ end - at
     some_bytes = some_bytes_by (eqb at end) refl
       where

@@ -1,23 +1,24 @@
 -- What the table tells of the name line.
-use mathlib.Core.Path.{◌≡◌, refl, ap}
+use mathlib.Core.Path.{◌≡◌, refl, ap, ap₂, ◌∙◌}
 use mathlib.Core.Bool.{Bool, true, false, cond, ◌&&◌}
 use mathlib.Core.List.{List, [], ◌∷◌, map}
 use mathlib.Core.Option.{Option, none, some}
-use Prim.Native.Nat.{ℕ, suc, ◌≤◌}
+use Prim.Native.Nat.{ℕ, zero, suc, ◌-◌, ◌≤◌, ◌<◌}
 use native.Mathlib.Omega.{arith}
-use lib.ListN.{length}
+use lib.ListN.{length, get_or, get_or-append, replicate}
 use lib.Dec.{leb}
 use borrow.Author.Tests.{leb-true}
 use Rattle.formula.specs.Text.{split, all_some}
 use Rattle.formula.specs.Names.{Symbol, SymbolKind, Parameter, State, Time, Input, symbol_of, table, none_twice, symbols_of, kinds}
 use Rattle.std.specs.Prelude.{Some, None}
-use Rattle.names.specs.Lines.{kind_as, symbol_kind, names_of}
+use Rattle.names.specs.Lines.{kind_as, symbol_kind, names_of, table_of}
+use Rattle.names.specs.declared.Kind.TheVariants as Kinds
 use Rattle.names.specs.declared.Names.{Names}
 use Rattle.names.proofs.Splits.{and_first}
 
-pub names_ok : (o : Option (List Symbol)) (n : Names) → Some n ≡ names_of o → (ss : List Symbol) × (o ≡ some ss) × (Some n ≡ names_of (some ss))
+pub names_ok : (o : Option (List Symbol)) (n : Names) → Some n ≡ names_of o → (ss : List Symbol) × (o ≡ some ss) × (n ≡ table_of ss)
 names_ok none n e = let z : ◌≡◌ {A = ℕ} 0 1 = cc in absurd (omega arith)
-names_ok (some ss) n e = (ss, refl, e)
+names_ok (some ss) n e = (ss, refl, cc)
 
 pub names_refused : (o : Option (List Symbol)) → None ≡ names_of o → o ≡ none
 names_refused none e = refl
@@ -43,10 +44,29 @@ pub kinds_length : (ss : List Symbol) → length (kinds ss) ≡ length ss
 kinds_length [] = refl
 kinds_length (s ∷ ss) = ap suc (kinds_length ss)
 
--- the kinds of a table are those of its symbols
+-- ---- the code's kinds and the definitions'
+
+pub kind_back : (k : SymbolKind) → symbol_kind (kind_as k) ≡ k
+kind_back Parameter = refl
+kind_back State = refl
+kind_back Time = refl
+kind_back Input = refl
+
 pub kinds_back : (ks : List SymbolKind) → map symbol_kind (map kind_as ks) ≡ ks
 kinds_back [] = refl
-kinds_back (Parameter ∷ ks) = ap (λ (js : List SymbolKind). Parameter ∷ js) (kinds_back ks)
-kinds_back (State ∷ ks) = ap (λ (js : List SymbolKind). State ∷ js) (kinds_back ks)
-kinds_back (Time ∷ ks) = ap (λ (js : List SymbolKind). Time ∷ js) (kinds_back ks)
-kinds_back (Input ∷ ks) = ap (λ (js : List SymbolKind). Input ∷ js) (kinds_back ks)
+kinds_back (k ∷ ks) = ap₂ (λ (j : SymbolKind) (js : List SymbolKind). j ∷ js) (kind_back k) (kinds_back ks)
+
+pub kinds_count : (ks : List SymbolKind) → length (map kind_as ks) ≡ length ks
+kinds_count [] = refl
+kinds_count (k ∷ ks) = ap suc (kinds_count ks)
+
+pub kind_at : (ks : List SymbolKind) (i : ℕ) → get_or (map kind_as ks) i Kinds.Parameter ≡ kind_as (get_or ks i Parameter)
+kind_at [] i = refl
+kind_at (k ∷ ks) zero = refl
+kind_at (k ∷ ks) (suc i) = kind_at ks i
+
+-- the kind of a symbol in the table
+pub names_kind : (ss : List Symbol) (i : ℕ) → i < length ss → get_or (table_of ss).kinds i Kinds.Parameter ≡ kind_as (get_or (kinds ss) i Parameter)
+names_kind ss i h =
+    let ks = map kind_as (kinds ss) in
+    get_or-append ks (replicate (256 - length ss) Kinds.Parameter) Kinds.Parameter i (omega (arith, kinds_count (kinds ss), kinds_length ss)) ∙ kind_at (kinds ss) i

@@ -13,10 +13,7 @@ fn digit_byte(d: u8) -> u8
     requires { d < 16 }
     ensures { result ≡ get_or hex_digits d 0 }
 {
-    if d < 10 {
-        return 48 + d;
-    }
-    87 + d
+    if d < 10 { 48 + d } else { 87 + d }
 }
 
 // And back: 48 less from `0` to `9`, 87 less from `a` to `f`; no other byte is a digit.

@@ -11,8 +11,8 @@ returns-then-d-lt10 c =
     let e : byte_of d ≡ 48 + d = rw (lt-ltb d 10 (omega arith)) in
     sym (byte_is d (omega arith) ∙ e)
 
-pub returns : goal.returns
-returns c =
+pub returns-else-d-lt10 : goal.returns-else-d-lt10
+returns-else-d-lt10 c =
     let d = c.args.d in
     let e : byte_of d ≡ 87 + d = rw (le-ltb d 10 (omega arith)) in
     sym (byte_is d (omega arith) ∙ e)
