@@ -38,6 +38,7 @@ use Rattle.names.specs.declared.Kind.TheVariants as Kinds
 use Rattle.names.specs.declared.Names.{Names}
 use Rattle.names.proofs.Told.{kinds_back, names_few}
 use Rattle.lower.specs.Piece.{context_of, kids}
+use Rattle.tally.specs.declared.Counts.{Counts}
 use Rattle.compile.specs.Outcome.{Fits, answer_to, fault_place, slice_after}
 use Rattle.compile.specs.Entry.{answer}
 use Rattle.compile.specs.Preparation.{preparation, prepared_as, size_answer}
@@ -45,11 +46,11 @@ use Rattle.compile.proofs.Faults.{Near, near}
 
 -- ---- the counts of a whole formula
 
-pub counts_one : (b : List ℕ) (d : ℕ)
-    → (instruction_counts (terms (kids b d 1 0)) ≡ instruction_count (term (tree_in d b 0))) × (path_counts (terms (kids b d 1 0)) ≡ path_count (term (tree_in d b 0)))
-    × (entry_counts (terms (kids b d 1 0)) ≡ entry_count (term (tree_in d b 0)))
+pub whole_counts : (b : List ℕ) (d : ℕ) (n : Counts)
+    → (n.code ≡ instruction_counts (terms (kids b d 1 0))) × (n.paths ≡ path_counts (terms (kids b d 1 0))) × (n.entries ≡ entry_counts (terms (kids b d 1 0)))
+    → (n.code ≡ instruction_count (term (tree_in d b 0))) × (n.paths ≡ path_count (term (tree_in d b 0))) × (n.entries ≡ entry_count (term (tree_in d b 0)))
 unfolding kids
-counts_one b d = (omega arith, omega arith, omega arith)
+whole_counts b d n h = (omega (arith, h.0), omega (arith, h.1), omega (arith, h.2))
 
 -- ---- what compile came to
 

@@ -34,6 +34,7 @@ use Rattle.lower.specs.declared.Value.{Value}
 use Rattle.lower.specs.Low.{Low, Done, Faulty}
 use Rattle.std.specs.Prelude.{Ok, Err}
 use Rattle.refusals.specs.declared.Refusal.{Refusal}
+use Rattle.tally.specs.declared.Counts.{Counts}
 use Rattle.names.specs.Lines.{symbol_kind}
 use Rattle.names.specs.declared.Kind.{Kind}
 use Rattle.lower.proofs.Frames.{third_word}
@@ -67,8 +68,26 @@ record_inside p base k N = go (ltb (base + 12 * k + 8) (length p)) refl
     go true e = ltb-true (base + 12 * k + 8) (length p) e
     go false e = absurd (omega (arith, long, word_past p (base + 12 * k + 8) (omega (arith, ltb-false (base + 12 * k + 8) (length p) e))))
 
-module _ (b : List ℕ) (d m : ℕ) (p : List ℕ) (ks : List Kind) (g : Bool) (code records entries : ℕ) (F : Fits b d (length p) m) (ec : code ≡ instruction_count (term (tree_in d b 0)))
-    (er : records ≡ path_count (term (tree_in d b 0))) (ee : entries ≡ entry_count (term (tree_in d b 0))) where
+module _ (b : List ℕ) (d m : ℕ) (p : List ℕ) (ks : List Kind) (g : Bool) (n : Counts) (F : Fits b d (length p) m)
+    (counted : (n.code ≡ instruction_count (term (tree_in d b 0))) × (n.paths ≡ path_count (term (tree_in d b 0))) × (n.entries ≡ entry_count (term (tree_in d b 0)))) where
+  abbrev code : ℕ
+  code = n.code
+
+  abbrev records : ℕ
+  records = n.paths
+
+  abbrev entries : ℕ
+  entries = n.entries
+
+  ec : code ≡ instruction_count (term (tree_in d b 0))
+  ec = counted.0
+
+  er : records ≡ path_count (term (tree_in d b 0))
+  er = counted.1
+
+  ee : entries ≡ entry_count (term (tree_in d b 0))
+  ee = counted.2
+
   abbrev f : Formula
   f = tree_in d b 0
 
@@ -138,9 +157,9 @@ module _ (b : List ℕ) (d m : ℕ) (p : List ℕ) (ks : List Kind) (g : Bool) (
     module _ (p₂ : List ℕ) (r : Low) (S : Says (own_piece C t (place L p₁ s) 0 c (0 + node_size * size f)) L c p₁ p₂ r) where
       -- ---- refused
 
-      module _ (n : Refusal) (k : ℕ) (e : r ≡ Faulty n k) where
-        pub R : Refused (own_piece C t (place L p₁ s) 0 c (0 + node_size * size f)) L c p₁ p₂ n k
-        R = refused _ L c p₁ p₂ r n k S e
+      module _ (x : Refusal) (k : ℕ) (e : r ≡ Faulty x k) where
+        pub R : Refused (own_piece C t (place L p₁ s) 0 c (0 + node_size * size f)) L c p₁ p₂ x k
+        R = refused _ L c p₁ p₂ r x k S e
 
         pub is_fault : O ≡ some R.x
         unfolding own_piece
@@ -156,10 +175,10 @@ module _ (b : List ℕ) (d m : ℕ) (p : List ℕ) (ks : List Kind) (g : Bool) (
         )
 
         pub fault_answers : (p₃ q q' : List ℕ) → length p₂ ≡ length p → p₃ ≡ zeroed p₂ 0 → q' ≡ placed (some (path_in_table p₂ table k)) q
-            → (Err n ≡ answer_to O) × (p₃ ≡ slice_after C f O p) × (q' ≡ placed (fault_place O) q)
+            → (Err x ≡ answer_to O) × (p₃ ≡ slice_after C f O p) × (q' ≡ placed (fault_place O) q)
         fault_answers p₃ q q' l e₃ eq =
-            subst (λ (o : Option Fault). (Err n ≡ answer_to o) × (p₃ ≡ slice_after C f o p) × (q' ≡ placed (fault_place o) q)) (sym is_fault)
-            (ap (λ (x : Refusal). Err x) R.number, e₃ ∙ zeroed_all p₂ ∙ ap zeros l, eq ∙ ap (λ (y : Path). placed (some y) q) R.place)
+            subst (λ (o : Option Fault). (Err x ≡ answer_to o) × (p₃ ≡ slice_after C f o p) × (q' ≡ placed (fault_place o) q)) (sym is_fault)
+            (ap (λ (y : Refusal). Err y) R.number, e₃ ∙ zeroed_all p₂ ∙ ap zeros l, eq ∙ ap (λ (y : Path). placed (some y) q) R.place)
 
       -- ---- a program
 

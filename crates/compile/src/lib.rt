@@ -1,6 +1,6 @@
 #![tactic(auto)]
 // Formula bytes and a name line in, program bytes out; reference `compile_prepared`.
-ghost use Rattle.std.specs.Prelude.{◌≡◌, cond, true, List, ◌++◌, ◌*◌, ◌≤◌, length};
+ghost use Rattle.std.specs.Prelude.{◌≡◌, cond, true, List, ◌++◌, ◌+◌, ◌*◌, ◌≤◌, length};
 ghost use Rattle.std.proofs.Math.Option.{some};
 ghost use Rattle.formula.specs.Text.{little_endian};
 ghost use Rattle.formula.specs.Formula.{Formula};
@@ -86,6 +86,7 @@ fn write_counted(
 ) -> Result<(), Refusal>
     requires fits { Fits b.now d (length p.old) (length path.old) }
     requires counts { (counts.code ≡ instruction_count (term (tree_in d b.now 0))) × (counts.paths ≡ path_count (term (tree_in d b.now 0))) × (counts.entries ≡ entry_count (term (tree_in d b.now 0))) }
+    requires room { (32 + 24 * counts.code + 12 * counts.paths + 4 * counts.entries ≤ length p.old) × (1 ≤ counts.paths) }
     ensures { (result ≡ answer_to (fault (context_of kinds.now generated) (term (tree_in d b.now 0)) root)) × (p.new ≡ slice_after (context_of kinds.now generated) (tree_in d b.now 0) (fault (context_of kinds.now generated) (term (tree_in d b.now 0)) root) p.old) × (path.new ≡ placed (fault_place (fault (context_of kinds.now generated) (term (tree_in d b.now 0)) root)) path.old) }
 {
     let table = HEADER_SIZE + SLOT_SIZE * counts.code;
@@ -219,7 +220,8 @@ fn lower_into(
     Ok(own[KIND_AT] == 1)
 }
 
-// For callers whose refusals leave the program slice unchanged. A small formula has a small array, as all of it is cleared.
+// For callers whose refusals leave the program slice unchanged. A small formula has a small array, as all of it is cleared; a
+// function over the array's length would only state this contract once more.
 pub fn lower_own(formula: &[u8], kinds: &[Kind], path: &mut [u8]) -> Result<bool, Refusal>
     requires { (8192 ≤ length path.old) × ((f : Formula) × (ss : List Symbol) × Formed formula.now kinds.now f ss) }
     ensures { (f : Formula) (ss : List Symbol) → Formed formula.now kinds.now f ss → (result ≡ lowered_to f (fault (own_context ss) (term f) root)) × (path.new ≡ placed (fault_place (fault (own_context ss) (term f) root)) path.old) }
