@@ -2,6 +2,7 @@
 use mathlib.Core.Path.{◌≡◌, refl, sym, ap, ◌∙◌}
 use mathlib.Core.Bool.{Bool, true, false, cond}
 use mathlib.Core.Option.{Option, none, some}
+use mathlib.Core.Logic.{◌⊎◌, ⊎_elim}
 use mathlib.Core.List.{List}
 use Prim.Native.Nat.{ℕ, zero, suc, ◌+◌, ◌*◌, ◌≤◌}
 use native.Mathlib.Omega.{arith}
@@ -18,30 +19,27 @@ use Rattle.reader.specs.Read.{is_some}
 use Rattle.rules.specs.Notation.{rule_number, rule_numbered, rule_at, power_number, code_at, or_zero, childless}
 use Rattle.rules.proofs.Right.{chosen_right}
 use Rattle.survey.specs.Derived.{children_of, head_of_tree, derived, ruled, or_zero_literal, zero_literal, parts_of, rule_for}
-use Rattle.survey.specs.Table.{reading, tree, trees, nth, number_of, literal_of, optional, Ready, IsChild}
+use Rattle.survey.specs.Table.{reading, tree, trees, nth, number_of, Ready, IsChild, row_in}
+use Rattle.survey.specs.declared.Row.{Row}
 use Rattle.survey.specs.Worked.{worked, literal_attributes, attribute_parts}
 use Rattle.survey.specs.declared.Attributes as Declared
-use Rattle.survey.specs.declared.Literal.{Literal}
 use Rattle.survey.proofs.Trees.{Opened, opened, count_is, children_is, trees_count}
-use Rattle.survey.proofs.Rows.{surveyed_child}
+use Rattle.survey.proofs.Rows.{surveyed_given}
 
 -- ---- Power
 
 power_by : (c d : Bool) (n : ℕ) → one_bits (less_one n) ≡ c → zero_bits (less_one n) ≡ d → power_number (some n) ≡ cond c 0x47 (cond d 0x48 0x46)
 power_by c d n p q = ap (λ (x : Bool). cond x 0x47 (cond (zero_bits (less_one n)) 0x48 0x46)) p ∙ ap (λ (x : Bool). cond c 0x47 (cond x 0x48 0x46)) q
 
-literal_is : (n : Literal) → n.literal ≡ true → literal_of n ≡ some n.bits
-literal_is n t = ap (λ (b : Bool). optional b n.bits) t
+module _ (n : ℕ) where
+  pub power_two : one_bits (less_one n) ≡ true → 0x47 ≡ power_number (some n)
+  power_two p = sym (power_by true (zero_bits (less_one n)) n p refl)
 
-module _ (n : Literal) (t : n.literal ≡ true) where
-  pub power_two : one_bits (less_one n.bits) ≡ true → 0x47 ≡ power_number (literal_of n)
-  power_two p = sym (ap power_number (literal_is n t) ∙ power_by true (zero_bits (less_one n.bits)) n.bits p refl)
+  pub power_one : one_bits (less_one n) ≡ false → zero_bits (less_one n) ≡ true → 0x48 ≡ power_number (some n)
+  power_one p q = sym (power_by false true n p q)
 
-  pub power_one : one_bits (less_one n.bits) ≡ false → zero_bits (less_one n.bits) ≡ true → 0x48 ≡ power_number (literal_of n)
-  power_one p q = sym (ap power_number (literal_is n t) ∙ power_by false true n.bits p q)
-
-  pub power_other : one_bits (less_one n.bits) ≡ false → zero_bits (less_one n.bits) ≡ false → 0x46 ≡ power_number (literal_of n)
-  power_other p q = sym (ap power_number (literal_is n t) ∙ power_by false false n.bits p q)
+  pub power_other : one_bits (less_one n) ≡ false → zero_bits (less_one n) ≡ false → 0x46 ≡ power_number (some n)
+  power_other p q = sym (power_by false false n p q)
 
 -- ---- a condition
 
@@ -55,6 +53,11 @@ first_none s (next u ts) e = absurd (omega arith)
 
 pub moving_is : (s : ℕ) (f : List ℕ) (k r : ℕ) → IsChild f k 0 r → first_depends s (children_of (tree f k)) ≡ depends s (tree f r)
 moving_is s f k r c = first_is s (children_of (tree f k)) (tree f r) c.is
+
+pub moving_given : (s : ℕ) (b : Bool) (f : List ℕ) (T : List Row) (k : ℕ) (g : List ℕ) (U : List Row) (r : ℕ) → (g ≡ f) × (U ≡ T) × IsChild f k 0 r → Ready s b f T k
+    → (row_in U r).has ≡ first_depends s (children_of (tree f k))
+moving_given s b f T k g U r h o =
+    (surveyed_given f T k 0 g U r h s b o).has ∙ ap (λ (x : List ℕ). depends s (tree x r)) h.0 ∙ sym (moving_is s f k r h.2)
 
 pub moving_none : (s : ℕ) (f : List ℕ) (k : ℕ) → well_formed (tree f k) ≡ true → half_at f (node_size * k + 2) ≡ 0 → first_depends s (children_of (tree f k)) ≡ false
 moving_none s f k w e = first_none s (children_of (tree f k)) (count_is f k w ∙ e)
@@ -122,8 +125,22 @@ module _ (s : ℕ) (b : Bool) (f : List ℕ) (k q : ℕ) (e : q ≡ 16 * byte_at
             pub number_max : q ≡ 0x7c → cond (childless (count ts)) 0 0x7c ≡ number_of s b f k
             number_max p = by_tests false false false false false true (off 0x44 n4) (off 0x7d nd) (off 0x7e ne) (off 0x80 n8) (off 0x7b nb) (at 0x7c p)
 
-            pub number_plain : (q ≡ 0x7c → ⊥) → q ≡ number_of s b f k
-            number_plain p = by_tests false false false false false false (off 0x44 n4) (off 0x7d nd) (off 0x7e ne) (off 0x80 n8) (off 0x7b nb) (off 0x7c p)
+  pub number_plain : (q ≡ 0x44 → ⊥) → (q ≡ 0x7d → ⊥) → (q ≡ 0x7e → ⊥) → (q ≡ 0x80 → ⊥) → (q ≡ 0x7b → ⊥) → (q ≡ 0x7c → ⊥) → q ≡ number_of s b f k
+  number_plain n4 nd ne n8 nb nc = by_tests false false false false false false (off 0x44 n4) (off 0x7d nd) (off 0x7e ne) (off 0x80 n8) (off 0x7b nb) (off 0x7c nc)
+
+  -- Ifelse and a conditional, and Min and Max
+  pub number_choosing : (q ≡ 0x7e) ⊎ (q ≡ 0x80) → cond (first_depends s ts) 0 q ≡ number_of s b f k
+  number_choosing w =
+      ⊎_elim (λ p. ap (λ (v : ℕ). cond (first_depends s ts) 0 v) p ∙ number_ifelse (λ z. omega arith) (λ z. omega arith) p)
+      (λ p. ap (λ (v : ℕ). cond (first_depends s ts) 0 v) p ∙ number_conditional (λ z. omega arith) (λ z. omega arith) (λ z. omega arith) p) w
+
+  pub number_extremum : (q ≡ 0x7b) ⊎ (q ≡ 0x7c) → cond (childless (count ts)) 0 q ≡ number_of s b f k
+  number_extremum w =
+      ⊎_elim (λ p. ap (λ (v : ℕ). cond (childless (count ts)) 0 v) p ∙ number_min (λ z. omega arith) (λ z. omega arith) (λ z. omega arith) (λ z. omega arith) p)
+      (λ p. ap (λ (v : ℕ). cond (childless (count ts)) 0 v) p ∙ number_max (λ z. omega arith) (λ z. omega arith) (λ z. omega arith) (λ z. omega arith) (λ z. omega arith) p) w
+
+  pub extremes : 0x7b ≤ q → q ≤ 0x7c → (q ≡ 0x7b) ⊎ (q ≡ 0x7c)
+  extremes lo hi = grind arith
 
 pub by_state_yes : (b : Bool) → b ≡ true → ◌≡◌ {A = ℕ} 0x8d (cond b 0x8d 0x7d)
 by_state_yes b e = sym (ap (λ (x : Bool). cond x 0x8d 0x7d) e)
@@ -131,11 +148,11 @@ by_state_yes b e = sym (ap (λ (x : Bool). cond x 0x8d 0x7d) e)
 pub by_state_no : (b : Bool) → b ≡ false → ◌≡◌ {A = ℕ} 0x7d (cond b 0x8d 0x7d)
 by_state_no b e = sym (ap (λ (x : Bool). cond x 0x8d 0x7d) e)
 
-pub moves_yes : (r b : Bool) (v : ℕ) → r ≡ b → r ≡ true → 0 ≡ cond b 0 v
-moves_yes r b v e t = sym (ap (λ (x : Bool). cond x 0 v) (sym e ∙ t))
-
 pub moves_no : (r b : Bool) (v : ℕ) → r ≡ b → r ≡ false → v ≡ cond b 0 v
 moves_no r b v e t = sym (ap (λ (x : Bool). cond x 0 v) (sym e ∙ t))
+
+pub moves_yes : (r b : Bool) (v : ℕ) → r ≡ b → r ≡ true → 0 ≡ cond b 0 v
+moves_yes r b v e t = sym (ap (λ (x : Bool). cond x 0 v) (sym e ∙ t))
 
 pub none_yes : (f : List ℕ) (k h v : ℕ) → well_formed (tree f k) ≡ true → h ≡ half_at f (node_size * k + 2) → h ≡ 0 → 0 ≡ cond (childless (count (children_of (tree f k)))) 0 v
 none_yes f k h v w e z = sym (ap (λ (x : Bool). cond x 0 v) (childless_yes (count (children_of (tree f k))) (count_is f k w ∙ sym e ∙ z)))

@@ -12,7 +12,9 @@ use Rattle.derivative.specs.Attributes.{Attributes, Survey, attributes_of, surve
 use Rattle.derivative.proofs.Attributes.{survey_right, map_option}
 use Rattle.reader.specs.Read.{is_some}
 use Rattle.survey.specs.Derived.{derived, derived_all, or_else, zero_literal}
-use Rattle.survey.specs.Table.{optional_attributes}
+use Rattle.survey.specs.Table.{readings, reading}
+use Rattle.std.specs.Prelude.{None, Some}
+use Rattle.survey.specs.declared.Attributes as Declared
 
 pub some_of : {A : Type 0} (a b : A) → ◌≡◌ {A = Option A} (some a) (some b) → a ≡ b
 some_of a b e = cc
@@ -46,7 +48,7 @@ module _ (s : ℕ) (b : Bool) where
     derived_all_right (next t ts) ds e =
         next_right (differentiate s b t) (differentiate_all s b ts) (derived s b t) (derived_all s b ts) ds (λ d p. derived_right t d p) (λ es p. derived_all_right ts es p) e
 
-  known : (o : Option Formula) (x : Formula) → ((d : Formula) → o ≡ some d → x ≡ d) → optional_attributes (is_some o) (attributes_of x) ≡ map_option attributes_of o
+  known : (o : Option Formula) (x : Formula) → ((d : Formula) → o ≡ some d → x ≡ d) → cond (is_some o) (some (attributes_of x)) none ≡ map_option attributes_of o
   known none x h = refl
   known (some d) x h = ap (λ (y : Formula). some (attributes_of y)) (h d refl)
 
@@ -56,10 +58,10 @@ module _ (s : ℕ) (b : Bool) where
 
   -- what the table says of a tree is its survey
   pub survey_is : (t : Formula) (a d : Attributes) (has fine : Bool) → a ≡ attributes_of t → has ≡ depends s t → fine ≡ is_some (differentiate s b t) → d ≡ attributes_of (derived s b t)
-      → record { own = a; has_symbol = has; diff = optional_attributes fine d } ≡ survey s b t
+      → record { own = a; has_symbol = has; diff = cond fine (some d) none } ≡ survey s b t
   survey_is t a d has fine pa ph pf pd =
-      survey_path a (attributes_of t) has (depends s t) (optional_attributes fine d) (map_option attributes_of (differentiate s b t)) pa ph
-      (ap (λ (x : Bool). optional_attributes x d) pf ∙ ap (λ (x : Attributes). optional_attributes (is_some (differentiate s b t)) x) pd
+      survey_path a (attributes_of t) has (depends s t) (cond fine (some d) none) (map_option attributes_of (differentiate s b t)) pa ph
+      (ap (λ (x : Bool). cond x (some d) none) pf ∙ ap (λ (x : Attributes). cond (is_some (differentiate s b t)) (some x) none) pd
       ∙ known (differentiate s b t) (derived s b t) (λ e p. derived_right t e p))
       ∙ sym (survey_right s b t)
 

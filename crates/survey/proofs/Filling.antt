@@ -8,8 +8,10 @@ use Prim.Native.Nat.{ℕ, zero, suc, ◌+◌, ◌-◌, ◌*◌, ◌<◌, ◌≤�
 use native.Mathlib.Omega.{arith}
 use lib.ListN.{length, get_or, set, length-set}
 use lib.Seq.{get_or-set_same, get_or-set_other}
-use lib.Dec.{eqb}
-use borrow.Author.Tests.{eqb-true, leb-true, leb-false}
+use lib.Dec.{eqb, ltb}
+use borrow.Author.Tests.{eqb-true, leb-true, leb-false, ltb-true, ltb-false}
+use Rattle.std.specs.Ordering.{ord_max, nat_cmp, is_lt}
+use Rattle.std.proofs.Common.{Less, Equal, Greater}
 use lib.Dec.{leb}
 use Rattle.formula.specs.Operator.{unary, binary, compare, call}
 use Rattle.formula.specs.Formula.{Head, number, truth, symbol, operation, junction, ifelse, conditional, malformed, Formula, Formulas, node, last, next, count, size, sizes, depth, depths, depends, any_depends, is_symbol, well_formed, all_well_formed}
@@ -22,7 +24,12 @@ use Rattle.reader.specs.Read.{is_some}
 use Rattle.reader.proofs.Heads.{and_first, and_second}
 use Rattle.reader.proofs.Trees.{size_pos}
 use Rattle.survey.specs.Derived.{children_of, head_of_tree, derived, ruled}
-use Rattle.survey.specs.Table.{tree, trees, Own, Surveyed, Owned, Ready, Room, Filled, PutOwn, PutDiff, diff_in, optional}
+use Rattle.survey.specs.Table.{tree, trees, Own, Surveyed, Owned, Ready, Room, Filled, reading, row_in, empty_row, option_of, or_literal}
+use Rattle.survey.specs.Worked.{literal_attributes}
+use Rattle.survey.specs.declared.Attributes as Declared
+use Rattle.std.specs.Option.{unwrap_or, is_some as given_is_some}
+use Rattle.std.specs.Prelude.{Option as Given, None, Some}
+use Rattle.survey.specs.declared.Row.{Row}
 use Rattle.survey.proofs.Trees.{Opened, opened, trees_next, trees_none, tree_ends}
 use Rattle.formula.proofs.Tests.{and_one}
 
@@ -64,134 +71,20 @@ module _ (f : List ℕ) (k s : ℕ) (w : well_formed (tree f k) ≡ true) where
       let o = opened f k w in
       other_head o.head (half_at f (node_size * k + 2)) s (fields_at f (node_size * k)) o.back z ∙ sym (ap (λ (t : Formula). is_symbol s (head_of_tree t)) o.is)
 
--- ---- stores
-
-pub put_own : (T : List ℕ) (k n l : ℕ) → 8 * k + 8 ≤ length T → PutOwn T (set (set T (8 * k) n) (8 * k + 1) l) k n l
-put_own T k n l h =
-    let U = set T (8 * k) n in
-    record {
-      nodes = get_or-set_other U (8 * k + 1) (8 * k) l 0 (λ e. omega arith) ∙ get_or-set_same T (8 * k) n 0 (omega arith);
-      levels = get_or-set_same U (8 * k + 1) l 0 (omega (arith, length-set T (8 * k) n));
-      others = λ m p q. get_or-set_other U (8 * k + 1) m l 0 q ∙ get_or-set_other T (8 * k) m n 0 p;
-    }
-
-diff_path : (T : List ℕ) (k n l : ℕ) (b : Option ℕ) → get_or T (8 * k + 4) 0 ≡ n → get_or T (8 * k + 5) 0 ≡ l → optional (eqb (get_or T (8 * k + 6) 0) 1) (get_or T (8 * k + 7) 0) ≡ b
-    → diff_in T k ≡ record { nodes = n; levels = l; bits = b }
-unfolding diff_in
-diff_path T k n l b p q r = cc
-
-module _ (T : List ℕ) (k v2 v3 v4 v5 v6 v7 : ℕ) (h : 8 * k + 8 ≤ length T) where
-  abbrev T2 : List ℕ
-  T2 = set T (8 * k + 2) v2
-
-  abbrev T3 : List ℕ
-  T3 = set T2 (8 * k + 3) v3
-
-  abbrev T4 : List ℕ
-  T4 = set T3 (8 * k + 4) v4
-
-  abbrev T5 : List ℕ
-  T5 = set T4 (8 * k + 5) v5
-
-  abbrev T6 : List ℕ
-  T6 = set T5 (8 * k + 6) v6
-
-  abbrev T7 : List ℕ
-  T7 = set T6 (8 * k + 7) v7
-
-  l2 : length T2 ≡ length T
-  l2 = length-set T (8 * k + 2) v2
-
-  l3 : length T3 ≡ length T
-  l3 = length-set T2 (8 * k + 3) v3 ∙ l2
-
-  l4 : length T4 ≡ length T
-  l4 = length-set T3 (8 * k + 4) v4 ∙ l3
-
-  l5 : length T5 ≡ length T
-  l5 = length-set T4 (8 * k + 5) v5 ∙ l4
-
-  l6 : length T6 ≡ length T
-  l6 = length-set T5 (8 * k + 6) v6 ∙ l5
-
-  past7 : (m : ℕ) → (m ≡ 8 * k + 7 → ⊥) → get_or T7 m 0 ≡ get_or T6 m 0
-  past7 m p = get_or-set_other T6 (8 * k + 7) m v7 0 p
-
-  past6 : (m : ℕ) → (m ≡ 8 * k + 6 → ⊥) → get_or T6 m 0 ≡ get_or T5 m 0
-  past6 m p = get_or-set_other T5 (8 * k + 6) m v6 0 p
-
-  past5 : (m : ℕ) → (m ≡ 8 * k + 5 → ⊥) → get_or T5 m 0 ≡ get_or T4 m 0
-  past5 m p = get_or-set_other T4 (8 * k + 5) m v5 0 p
-
-  past4 : (m : ℕ) → (m ≡ 8 * k + 4 → ⊥) → get_or T4 m 0 ≡ get_or T3 m 0
-  past4 m p = get_or-set_other T3 (8 * k + 4) m v4 0 p
-
-  past3 : (m : ℕ) → (m ≡ 8 * k + 3 → ⊥) → get_or T3 m 0 ≡ get_or T2 m 0
-  past3 m p = get_or-set_other T2 (8 * k + 3) m v3 0 p
-
-  past2 : (m : ℕ) → (m ≡ 8 * k + 2 → ⊥) → get_or T2 m 0 ≡ get_or T m 0
-  past2 m p = get_or-set_other T (8 * k + 2) m v2 0 p
-
-  at7 : get_or T7 (8 * k + 7) 0 ≡ v7
-  at7 = get_or-set_same T6 (8 * k + 7) v7 0 (omega (arith, l6))
-
-  at6 : get_or T7 (8 * k + 6) 0 ≡ v6
-  at6 = past7 (8 * k + 6) (λ e. omega arith) ∙ get_or-set_same T5 (8 * k + 6) v6 0 (omega (arith, l5))
-
-  at5 : get_or T7 (8 * k + 5) 0 ≡ v5
-  at5 = past7 (8 * k + 5) (λ e. omega arith) ∙ past6 (8 * k + 5) (λ e. omega arith) ∙ get_or-set_same T4 (8 * k + 5) v5 0 (omega (arith, l4))
-
-  at4 : get_or T7 (8 * k + 4) 0 ≡ v4
-  at4 =
-      past7 (8 * k + 4) (λ e. omega arith) ∙ past6 (8 * k + 4) (λ e. omega arith) ∙ past5 (8 * k + 4) (λ e. omega arith)
-      ∙ get_or-set_same T3 (8 * k + 4) v4 0 (omega (arith, l3))
-
-  at3 : get_or T7 (8 * k + 3) 0 ≡ v3
-  at3 =
-      past7 (8 * k + 3) (λ e. omega arith) ∙ past6 (8 * k + 3) (λ e. omega arith) ∙ past5 (8 * k + 3) (λ e. omega arith) ∙ past4 (8 * k + 3) (λ e. omega arith)
-      ∙ get_or-set_same T2 (8 * k + 3) v3 0 (omega (arith, l2))
-
-  at2 : get_or T7 (8 * k + 2) 0 ≡ v2
-  at2 =
-      past7 (8 * k + 2) (λ e. omega arith) ∙ past6 (8 * k + 2) (λ e. omega arith) ∙ past5 (8 * k + 2) (λ e. omega arith) ∙ past4 (8 * k + 2) (λ e. omega arith)
-      ∙ past3 (8 * k + 2) (λ e. omega arith) ∙ get_or-set_same T (8 * k + 2) v2 0 (omega arith)
-
-  outside : (m : ℕ) → (m ≡ 8 * k + 2 → ⊥) → (m ≡ 8 * k + 3 → ⊥) → (m ≡ 8 * k + 4 → ⊥) → (m ≡ 8 * k + 5 → ⊥) → (m ≡ 8 * k + 6 → ⊥) → (m ≡ 8 * k + 7 → ⊥) → get_or T7 m 0 ≡ get_or T m 0
-  outside m p2 p3 p4 p5 p6 p7 = past7 m p7 ∙ past6 m p6 ∙ past5 m p5 ∙ past4 m p4 ∙ past3 m p3 ∙ past2 m p2
-
-  pub put_diff : (has fine literal : Bool) → eqb v2 1 ≡ has → eqb v3 1 ≡ fine → eqb v6 1 ≡ literal
-      → PutDiff T T7 k has fine (record { nodes = v4; levels = v5; bits = optional literal v7 })
-  put_diff has fine literal e2 e3 e6 =
-      record {
-        has_is = ap (λ (x : ℕ). eqb x 1) at2 ∙ e2;
-        fine_is = ap (λ (x : ℕ). eqb x 1) at3 ∙ e3;
-        diff = diff_path T7 k v4 v5 (optional literal v7) at4 at5
-            (ap (λ (x : ℕ). optional (eqb x 1) (get_or T7 (8 * k + 7) 0)) at6 ∙ ap (λ (x : Bool). optional x (get_or T7 (8 * k + 7) 0)) e6 ∙ ap (λ (x : ℕ). optional literal x) at7);
-        before = λ m l. outside m (λ e. omega arith) (λ e. omega arith) (λ e. omega arith) (λ e. omega arith) (λ e. omega arith) (λ e. omega arith);
-        after = λ m l. outside m (λ e. omega arith) (λ e. omega arith) (λ e. omega arith) (λ e. omega arith) (λ e. omega arith) (λ e. omega arith);
-      }
-
 -- ---- a row that stays
 
-abbrev Kept : List ℕ → List ℕ → ℕ → Type 0
-Kept T T' j = (m : ℕ) → 8 * j ≤ m → m < 8 * j + 8 → get_or T' m 0 ≡ get_or T m 0
+abbrev Kept : List Row → List Row → ℕ → Type 0
+Kept T T' j = row_in T' j ≡ row_in T j
 
-own_kept : (f T T' : List ℕ) (j : ℕ) → Kept T T' j → Own f T j → Own f T' j
-own_kept f T T' j h o = record { nodes = h (8 * j) (omega arith) (omega arith) ∙ o.nodes; levels = h (8 * j + 1) (omega arith) (omega arith) ∙ o.levels }
+own_kept : (f : List ℕ) (T T' : List Row) (j : ℕ) → Kept T T' j → Own f T j → Own f T' j
+own_kept f T T' j h o = record { nodes = ap (λ (r : Row). r.nodes) h ∙ o.nodes; levels = ap (λ (r : Row). r.levels) h ∙ o.levels }
 
-diff_kept : (T T' : List ℕ) (j : ℕ) → Kept T T' j → diff_in T' j ≡ diff_in T j
-unfolding diff_in
-diff_kept T T' j h =
-    diff_path T' j _ _ _ (h (8 * j + 4) (omega arith) (omega arith)) (h (8 * j + 5) (omega arith) (omega arith))
-    (ap (λ (x : ℕ). optional (eqb x 1) (get_or T' (8 * j + 7) 0)) (h (8 * j + 6) (omega arith) (omega arith))
-    ∙ ap (λ (x : ℕ). optional (eqb (get_or T (8 * j + 6) 0) 1) x) (h (8 * j + 7) (omega arith) (omega arith)))
-
-surveyed_kept : (s : ℕ) (b : Bool) (f T T' : List ℕ) (j : ℕ) → Kept T T' j → Surveyed s b f T j → Surveyed s b f T' j
+surveyed_kept : (s : ℕ) (b : Bool) (f : List ℕ) (T T' : List Row) (j : ℕ) → Kept T T' j → Surveyed s b f T j → Surveyed s b f T' j
 surveyed_kept s b f T T' j h o =
     record {
-      has = ap (λ (x : ℕ). eqb x 1) (h (8 * j + 2) (omega arith) (omega arith)) ∙ o.has;
-      fine = ap (λ (x : ℕ). eqb x 1) (h (8 * j + 3) (omega arith) (omega arith)) ∙ o.fine;
-      diff = diff_kept T T' j h ∙ o.diff;
+      has = ap (λ (r : Row). r.has) h ∙ o.has;
+      fine = ap (λ (r : Row). r.fine) h ∙ o.fine;
+      diff = ap (λ (r : Row). reading r.diff) h ∙ o.diff;
     }
 
 -- ---- whether there is a derivative
@@ -226,6 +119,28 @@ fine_is s b t has fine r v x ph pf pr pv px =
     ∙ same_twice (depends s t) (is_some (differentiate_all s b (children_of t))) (is_some (the_rule s b (head_of_tree t) (children_of t)))
     ∙ sym (fine_node s b t)
 
+-- a derivative's attributes as the code has them
+pub given_some : (o : Given Declared.Attributes) → given_is_some o ≡ is_some (option_of o)
+given_some None = refl
+given_some (Some a) = refl
+
+pub given_right : (o : Given Declared.Attributes) (z : Declared.Attributes) → reading z ≡ literal_attributes 0 → reading (unwrap_or o z) ≡ reading (or_literal o)
+given_right None z e = e
+given_right (Some a) z e = refl
+
+-- the larger of two as the code has it
+pub larger_is : (a b : ℕ) → ord_max nat_cmp a b ≡ max a b
+larger_is a b = go (ltb b a) refl (eqb b a) refl
+  where
+    go : (t : Bool) → ltb b a ≡ t → (u : Bool) → eqb b a ≡ u → ord_max nat_cmp a b ≡ max a b
+    go true e u f = ap (λ (x : Bool). cond (is_lt (cond x Less (cond (eqb b a) Equal Greater))) a b) e ∙ omega (arith, ltb-true b a e)
+    go false e true f =
+        ap (λ (x : Bool). cond (is_lt (cond x Less (cond (eqb b a) Equal Greater))) a b) e
+        ∙ ap (λ (x : Bool). cond (is_lt (cond x Equal Greater)) a b) f ∙ omega (arith, ltb-false b a e)
+    go false e false f =
+        ap (λ (x : Bool). cond (is_lt (cond x Less (cond (eqb b a) Equal Greater))) a b) e
+        ∙ ap (λ (x : Bool). cond (is_lt (cond x Equal Greater)) a b) f ∙ omega (arith, ltb-false b a e)
+
 -- ---- the loop over the children
 
 and_assoc : (a b c : Bool) → (a && b && c) ≡ (a && (b && c))
@@ -240,9 +155,9 @@ or_false : (a : Bool) → (a || false) ≡ a
 or_false true = refl
 or_false false = refl
 
-module _ (s : ℕ) (b : Bool) (f T₀ : List ℕ) (k d : ℕ) (room : Room f T₀ k d) where
+module _ (s : ℕ) (b : Bool) (f : List ℕ) (T₀ : List Row) (k d : ℕ) (room : Room f T₀ k d) where
   -- where so many children are left, the first at `next`
-  pub record Going (T : List ℕ) (has fine : Bool) (levels at left : ℕ) : Type 0 where
+  pub record Going (T : List Row) (has fine : Bool) (levels at left : ℕ) : Type 0 where
     pub same_length : length T ≡ length T₀
     pub after : k < at
     pub ends : at + sizes (trees f left at) ≡ k + size (tree f k)
@@ -252,8 +167,8 @@ module _ (s : ℕ) (b : Bool) (f T₀ : List ℕ) (k d : ℕ) (room : Room f T�
     pub fine_all : is_some (differentiate_all s b (children_of (tree f k))) ≡ (fine && is_some (differentiate_all s b (trees f left at)))
     pub own : (j : ℕ) → k < j → j < at → Own f T j
     pub survey : (j : ℕ) → k < j → j < at → Surveyed s b f T j
-    pub before : (m : ℕ) → m < 8 * k → get_or T m 0 ≡ get_or T₀ m 0
-    pub beyond : (m : ℕ) → 8 * (k + size (tree f k)) ≤ m → get_or T m 0 ≡ get_or T₀ m 0
+    pub before : (j : ℕ) → j < k → row_in T j ≡ row_in T₀ j
+    pub beyond : (j : ℕ) → k + size (tree f k) ≤ j → row_in T j ≡ row_in T₀ j
 
   pub going_start : (has : Bool) (n : ℕ) → has ≡ is_symbol s (head_of_tree (tree f k)) → n ≡ half_at f (node_size * k + 2) → Going T₀ has true 0 (k + 1) n
   going_start has n p q =
@@ -275,7 +190,7 @@ module _ (s : ℕ) (b : Bool) (f T₀ : List ℕ) (k d : ℕ) (room : Room f T�
         beyond = λ m l. refl;
       }
 
-  module _ (T : List ℕ) (has fine : Bool) (levels at left : ℕ) (g : Going T has fine levels at left) where
+  module _ (T : List Row) (has fine : Bool) (levels at left : ℕ) (g : Going T has fine levels at left) where
     module _ (z : left ≡ 0 → ⊥) where
       abbrev q : trees f left at ≡ next (tree f at) (trees f (left - 1) (at + size (tree f at)))
       q = trees_next f left at z
@@ -292,12 +207,12 @@ module _ (s : ℕ) (b : Bool) (f T₀ : List ℕ) (k d : ℕ) (room : Room f T�
           }
 
       -- the child's row
-      pub row_there : 8 * at + 8 ≤ length T
+      pub row_there : at < length T
       row_there = omega (arith, child_room.long, size_pos (tree f at))
 
-      pub going_next : (T' : List ℕ) → length T' ≡ length T → Filled s b f T T' at → (has' fine' : Bool) (levels' at' : ℕ)
-          → has' ≡ (has || eqb (get_or T' (8 * at + 2) 0) 1) → fine' ≡ (fine && eqb (get_or T' (8 * at + 3) 0) 1) → levels' ≡ max levels (get_or T' (8 * at + 1) 0)
-          → at' ≡ at + get_or T' (8 * at) 0 → Going T' has' fine' levels' at' (left - 1)
+      going_next : (T' : List Row) → length T' ≡ length T → Filled s b f T T' at → (has' fine' : Bool) (levels' at' : ℕ)
+          → has' ≡ (has || (row_in T' at).has) → fine' ≡ (fine && (row_in T' at).fine) → levels' ≡ max levels (row_in T' at).levels
+          → at' ≡ at + (row_in T' at).nodes → Going T' has' fine' levels' at' (left - 1)
       going_next T' l i has' fine' levels' at' ph pf pl pa =
           let y = size_pos (tree f at) in
           let o = i.own at (omega arith) (omega arith) in
@@ -329,7 +244,7 @@ module _ (s : ℕ) (b : Bool) (f T₀ : List ℕ) (k d : ℕ) (room : Room f T�
           }
         where
           kept : (j : ℕ) → j < at → Kept T T' j
-          kept j h m x w = i.before m (omega arith)
+          kept j h = i.before j h
 
           at_size : at' ≡ at + size (tree f at)
           at_size = let y = size_pos (tree f at) in pa ∙ ap (λ (x : ℕ). at + x) (i.own at (omega arith) (omega arith)).nodes
@@ -341,6 +256,12 @@ module _ (s : ℕ) (b : Bool) (f T₀ : List ℕ) (k d : ℕ) (room : Room f T�
           survey_row : (j : ℕ) → k < j → j < at' → (c : Bool) → leb at j ≡ c → Surveyed s b f T' j
           survey_row j x w true e = i.survey j (leb-true at j e) (omega (arith, at_size))
           survey_row j x w false e = surveyed_kept s b f T T' j (kept j (leb-false at j e)) (g.survey j x (leb-false at j e))
+
+    pub going_on : (z : left ≡ 0 → ⊥) (T' : List Row) → length T' ≡ length T → Filled s b f T T' at → (has' fine' : Bool) (levels' at' left' : ℕ)
+        → has' ≡ (has || (row_in T' at).has) → fine' ≡ (fine && (row_in T' at).fine) → levels' ≡ max levels (row_in T' at).levels
+        → at' ≡ at + (row_in T' at).nodes → left' ≡ left - 1 → Going T' has' fine' levels' at' left'
+    going_on z T' l i has' fine' levels' at' left' ph pf pl pa e =
+        subst (λ (m : ℕ). Going T' has' fine' levels' at' m) (sym e) (going_next z T' l i has' fine' levels' at' ph pf pl pa)
 
     module _ (z : left ≡ 0) where
       none_left : trees f left at ≡ last
@@ -358,55 +279,77 @@ module _ (s : ℕ) (b : Bool) (f T₀ : List ℕ) (k d : ℕ) (room : Room f T�
       pub all_fine : fine ≡ is_some (differentiate_all s b (children_of (tree f k)))
       all_fine = sym (g.fine_all ∙ ap (λ (ts : Formulas). fine && is_some (differentiate_all s b ts)) none_left ∙ and_one fine)
 
-      pub own_room : 8 * k + 8 ≤ length T
+      pub own_room : k < length T
       own_room = omega (arith, room.long, g.same_length, size_pos (tree f k))
 
-      module _ (U : List ℕ) (n l : ℕ) (lu : length U ≡ length T) (p : PutOwn T U k n l) (pn : n ≡ at - k) (pl : l ≡ levels + 1) where
-        kept_own : (j : ℕ) → k < j → Kept T U j
-        kept_own j h m x w = p.others m (λ e. omega arith) (λ e. omega arith)
+      -- a row whose first two numbers are the node's
+      module _ (r : Row) (pn : r.nodes ≡ at - k) (pl : r.levels ≡ levels + 1) where
+        kept : (j : ℕ) → (j ≡ k → ⊥) → Kept T (set T k r) j
+        kept j p = get_or-set_other T k j r empty_row p
 
-        own_at : (j : ℕ) → k ≤ j → j < k + size (tree f k) → (c : Bool) → leb j k ≡ c → Own f U j
+        stored : row_in (set T k r) k ≡ r
+        stored = let h = own_room in get_or-set_same T k r empty_row h
+
+        own_at : (j : ℕ) → k ≤ j → j < k + size (tree f k) → (c : Bool) → leb j k ≡ c → Own f (set T k r) j
         own_at j x w true e =
             let q : k ≡ j = omega (arith, leb-true j k e) in
-            subst (λ (y : ℕ). Own f U y) q (record { nodes = p.nodes ∙ pn ∙ size_is; levels = p.levels ∙ pl ∙ depth_is })
-        own_at j x w false e = own_kept f T U j (kept_own j (leb-false j k e)) (g.own j (leb-false j k e) (omega (arith, size_is, g.after)))
+            subst (λ (y : ℕ). Own f (set T k r) y) q
+            (record { nodes = ap (λ (y : Row). y.nodes) stored ∙ pn ∙ size_is; levels = ap (λ (y : Row). y.levels) stored ∙ pl ∙ depth_is })
+        own_at j x w false e =
+            let q = leb-false j k e in
+            own_kept f T (set T k r) j (kept j (λ y. omega arith)) (g.own j q (omega (arith, size_is, g.after)))
 
-        pub ready : Ready s b f U k
+        pub ready : Ready s b f (set T k r) k
         ready =
             record {
               owned =
                   record {
                     formed = room.formed;
-                    long = omega (arith, room.long, g.same_length, lu);
+                    long = omega (arith, room.long, g.same_length, length-set T k r);
                     own = λ j x w. own_at j x w (leb j k) refl;
                   };
-              below = λ j x w. surveyed_kept s b f T U j (kept_own j x) (g.survey j x (omega (arith, size_is, g.after)));
+              below = λ j x w. surveyed_kept s b f T (set T k r) j (kept j (λ y. omega arith)) (g.survey j x (omega (arith, size_is, g.after)));
             }
 
-        module _ (W : List ℕ) (h y : Bool) (a : Attributes) (ph : h ≡ depends s (tree f k)) (py : y ≡ is_some (differentiate s b (tree f k)))
-            (pa : a ≡ attributes_of (derived s b (tree f k))) (r : PutDiff U W k h y a) where
-          kept_diff : (j : ℕ) → k < j → Kept U W j
-          kept_diff j i m x w = r.after m (omega arith)
+        -- and then the whole row
+        module _ (u : Row) (qn : u.nodes ≡ at - k) (ql : u.levels ≡ levels + 1) (ph : u.has ≡ depends s (tree f k)) (py : u.fine ≡ is_some (differentiate s b (tree f k)))
+            (pa : reading u.diff ≡ attributes_of (derived s b (tree f k))) where
+          abbrev W : List Row
+          W = set (set T k r) k u
+
+          kept_end : (j : ℕ) → (j ≡ k → ⊥) → Kept T W j
+          kept_end j p = get_or-set_other (set T k r) k j u empty_row p ∙ kept j p
+
+          stored_end : row_in W k ≡ u
+          stored_end = let h = own_room in get_or-set_same (set T k r) k u empty_row (omega (arith, length-set T k r))
 
           own_end : (j : ℕ) → k ≤ j → j < k + size (tree f k) → (c : Bool) → leb j k ≡ c → Own f W j
           own_end j x w true e =
               let q : k ≡ j = omega (arith, leb-true j k e) in
-              let o = ready.owned.own k (omega arith) (omega (arith, size_pos (tree f k))) in
               subst (λ (i : ℕ). Own f W i) q
-              (record { nodes = r.before (8 * k) (omega arith) ∙ o.nodes; levels = r.before (8 * k + 1) (omega arith) ∙ o.levels })
-          own_end j x w false e = own_kept f U W j (kept_diff j (leb-false j k e)) (ready.owned.own j x w)
+              (record { nodes = ap (λ (y : Row). y.nodes) stored_end ∙ qn ∙ size_is; levels = ap (λ (y : Row). y.levels) stored_end ∙ ql ∙ depth_is })
+          own_end j x w false e =
+              let q = leb-false j k e in
+              own_kept f T W j (kept_end j (λ y. omega arith)) (g.own j q (omega (arith, size_is, g.after)))
 
           survey_end : (j : ℕ) → k ≤ j → j < k + size (tree f k) → (c : Bool) → leb j k ≡ c → Surveyed s b f W j
           survey_end j x w true e =
               let q : k ≡ j = omega (arith, leb-true j k e) in
-              subst (λ (i : ℕ). Surveyed s b f W i) q (record { has = r.has_is ∙ ph; fine = r.fine_is ∙ py; diff = r.diff ∙ pa })
-          survey_end j x w false e = surveyed_kept s b f U W j (kept_diff j (leb-false j k e)) (ready.below j (leb-false j k e) w)
+              subst (λ (i : ℕ). Surveyed s b f W i) q
+              (record {
+                has = ap (λ (y : Row). y.has) stored_end ∙ ph;
+                fine = ap (λ (y : Row). y.fine) stored_end ∙ py;
+                diff = ap (λ (y : Row). reading y.diff) stored_end ∙ pa;
+              })
+          survey_end j x w false e =
+              let q = leb-false j k e in
+              surveyed_kept s b f T W j (kept_end j (λ y. omega arith)) (g.survey j q (omega (arith, size_is, g.after)))
 
           pub filled : Filled s b f T₀ W k
           filled =
               record {
                 own = λ j x w. own_end j x w (leb j k) refl;
                 survey = λ j x w. survey_end j x w (leb j k) refl;
-                before = λ m l. r.before m (omega arith) ∙ p.others m (λ e. omega arith) (λ e. omega arith) ∙ g.before m l;
-                after = λ m l. let y = size_pos (tree f k) in r.after m (omega arith) ∙ p.others m (λ e. omega arith) (λ e. omega arith) ∙ g.beyond m l;
+                before = λ j l. kept_end j (λ y. omega arith) ∙ g.before j l;
+                after = λ j l. let y = size_pos (tree f k) in kept_end j (λ z. omega arith) ∙ g.beyond j l;
               }

@@ -15,9 +15,9 @@ use Rattle.derivative.specs.Differentiate.{literal_head, literal_bits, first_lit
 use Rattle.derivative.specs.Attributes.{Attributes, attributes_of}
 use Rattle.reader.proofs.Trees.{size_pos}
 use Rattle.survey.specs.Derived.{children_of, child_of, derived, derived_of, zero_literal}
-use Rattle.survey.specs.Table.{tree, trees, nth, IsChild, Own, Owned, Surveyed, Ready, optional, literal_of, diff_in}
+use Rattle.survey.specs.Table.{tree, trees, nth, IsChild, Own, Owned, Surveyed, Ready, row_in}
+use Rattle.survey.specs.declared.Row.{Row}
 use Rattle.rules.specs.Notation.{or_zero, literal_code}
-use Rattle.survey.specs.declared.Literal.{Literal}
 use Rattle.survey.proofs.Trees.{Opened, opened, Walk, walk_next, walk_stands, Stands, count_is, child_at, derived_at, child_past, derived_past}
 
 -- ---- a literal
@@ -63,44 +63,44 @@ first_inside f k w = (opened f k w).inside
 
 -- ---- its own row
 
-pub row_inside : (f T : List ℕ) (k : ℕ) → Owned f T k → 8 * k + 8 ≤ length T
+pub row_inside : (f : List ℕ) (T : List Row) (k : ℕ) → Owned f T k → k < length T
 row_inside f T k o = omega (arith, o.long, size_pos (tree f k))
 
-pub own_row : (f T : List ℕ) (k : ℕ) → Owned f T k → Own f T k
+pub own_row : (f : List ℕ) (T : List Row) (k : ℕ) → Owned f T k → Own f T k
 own_row f T k o = o.own k (omega arith) (omega (arith, size_pos (tree f k)))
 
 attributes_path : (n m d c : ℕ) (a b : Option ℕ) → n ≡ m → d ≡ c → a ≡ b
     → ◌≡◌ {A = Attributes} (record { nodes = n; levels = d; bits = a }) (record { nodes = m; levels = c; bits = b })
 attributes_path n m d c a b p q r = cc
 
-pub own_right : (f T : List ℕ) (k : ℕ) → Owned f T k → (n l : ℕ) (b : Option ℕ) → n ≡ min 16385 (get_or T (8 * k) 0) → l ≡ min 129 (get_or T (8 * k + 1) 0)
+pub own_right : (f : List ℕ) (T : List Row) (k : ℕ) → Owned f T k → (n l : ℕ) (b : Option ℕ) → n ≡ min (row_in T k).nodes 16385 → l ≡ min (row_in T k).levels 129
     → b ≡ literal_bits (tree f k) → ◌≡◌ {A = Attributes} (record { nodes = n; levels = l; bits = b }) (attributes_of (tree f k))
 own_right f T k o n l b p q r =
     let w = own_row f T k o in
-    attributes_path n (min 16385 (size (tree f k))) l (min 129 (depth (tree f k))) b (literal_bits (tree f k)) (p ∙ ap (λ (x : ℕ). min 16385 x) w.nodes) (q ∙ ap (λ (x : ℕ). min 129 x) w.levels) r
+    attributes_path n (min 16385 (size (tree f k))) l (min 129 (depth (tree f k))) b (literal_bits (tree f k)) (omega (arith, p, w.nodes)) (omega (arith, q, w.levels)) r
 
 -- ---- the walk to a child by the sizes in the table
 
-module _ (f T : List ℕ) (k i : ℕ) (o : Owned f T k) (h : i < half_at f (node_size * k + 2)) (left at : ℕ) (w : Walk f k i (left + (half_at f (node_size * k + 2) - i)) left at) where
+module _ (f : List ℕ) (T : List Row) (k i : ℕ) (o : Owned f T k) (h : i < half_at f (node_size * k + 2)) (left at : ℕ) (w : Walk f k i (left + (half_at f (node_size * k + 2) - i)) left at) where
   abbrev rest : ℕ
   rest = half_at f (node_size * k + 2) - i
 
   pub stands : Stands f k at
   stands = walk_stands f k i (left + rest) left at w
 
-  pub step_size : get_or T (8 * at) 0 ≡ size (tree f at)
+  pub step_size : (row_in T at).nodes ≡ size (tree f at)
   step_size = let s = stands in (o.own at (omega (arith, s.after)) (omega (arith, s.ends, s.one))).nodes
 
-  pub walk_again : (left ≡ 0 → ⊥) → Walk f k i (left - 1 + rest) (left - 1) (at + get_or T (8 * at) 0)
+  pub walk_again : (left ≡ 0 → ⊥) → Walk f k i (left - 1 + rest) (left - 1) (at + (row_in T at).nodes)
   walk_again z =
       let e : left + rest - 1 ≡ left - 1 + rest = omega (arith, z) in
-      let p : at + size (tree f at) ≡ at + get_or T (8 * at) 0 = ap (λ (x : ℕ). at + x) (sym step_size) in
-      subst (λ (m : ℕ). Walk f k i m (left - 1) (at + get_or T (8 * at) 0)) e
+      let p : at + size (tree f at) ≡ at + (row_in T at).nodes = ap (λ (x : ℕ). at + x) (sym step_size) in
+      subst (λ (m : ℕ). Walk f k i m (left - 1) (at + (row_in T at).nodes)) e
       (subst (λ (x : ℕ). Walk f k i (left + rest - 1) (left - 1) x) p (walk_next f k i (left + rest) left at w z))
 
 -- ---- a child's row
 
-pub owned_child : (f T : List ℕ) (k i r : ℕ) → Owned f T k → IsChild f k i r → Owned f T r
+pub owned_child : (f : List ℕ) (T : List Row) (k i r : ℕ) → Owned f T k → IsChild f k i r → Owned f T r
 owned_child f T k i r o c =
     record {
       formed = c.formed;
@@ -108,7 +108,7 @@ owned_child f T k i r o c =
       own = λ j a b. o.own j (omega (arith, c.after)) (omega (arith, c.ends));
     }
 
-pub surveyed_child : (s : ℕ) (b : Bool) (f T : List ℕ) (k i r : ℕ) → Ready s b f T k → IsChild f k i r → Surveyed s b f T r
+pub surveyed_child : (s : ℕ) (b : Bool) (f : List ℕ) (T : List Row) (k i r : ℕ) → Ready s b f T k → IsChild f k i r → Surveyed s b f T r
 surveyed_child s b f T k i r o c = o.below r c.after (omega (arith, c.ends, size_pos (tree f r)))
 
 pub child_is : (f : List ℕ) (k i r : ℕ) → IsChild f k i r → child_of (tree f k) i ≡ tree f r
@@ -158,8 +158,27 @@ literal_past n (suc (suc (suc (suc (suc (suc (suc (suc (suc (suc zero)))))))))) 
 literal_past n (suc (suc (suc (suc (suc (suc (suc (suc (suc (suc (suc zero))))))))))) h0 h1 h2 h3 h4 h5 h6 h7 h8 h9 h10 h11 = absurd (h11 refl)
 literal_past n (suc (suc (suc (suc (suc (suc (suc (suc (suc (suc (suc (suc o)))))))))))) h0 h1 h2 h3 h4 h5 h6 h7 h8 h9 h10 h11 = refl
 
-pub bits_yes : (l : Literal) (o : Option ℕ) → l.literal ≡ true → literal_of l ≡ o → l.bits ≡ or_zero o
-bits_yes l o t e = ap or_zero (sym (ap (λ (b : Bool). optional b l.bits) t) ∙ e)
+-- ---- a child as the code has it
 
-pub bits_no : (l : Literal) (o : Option ℕ) → l.literal ≡ false → literal_of l ≡ o → 0 ≡ or_zero o
-bits_no l o t e = ap or_zero (sym (ap (λ (b : Bool). optional b l.bits) t) ∙ e)
+module _ (f : List ℕ) (T : List Row) (k i : ℕ) (g : List ℕ) (U : List Row) (r : ℕ) (h : (g ≡ f) × (U ≡ T) × IsChild f k i r) where
+  pub child_given : child_of (tree f k) i ≡ tree g r
+  child_given = child_is f k i r h.2 ∙ ap (λ (x : List ℕ). tree x r) (sym h.0)
+
+  pub derived_given : (s : ℕ) (b : Bool) → derived_of s b (tree f k) i ≡ derived s b (tree g r)
+  derived_given s b = derived_is s b f k i r h.2 ∙ ap (λ (x : List ℕ). derived s b (tree x r)) (sym h.0)
+
+  pub surveyed_given : (s : ℕ) (b : Bool) → Ready s b f T k → Surveyed s b g U r
+  surveyed_given s b o =
+      subst (λ (x : List ℕ). Surveyed s b x U r) (sym h.0) (subst (λ (V : List Row). Surveyed s b f V r) (sym h.1) (surveyed_child s b f T k i r o h.2))
+
+  pub ready_given : (s : ℕ) (b : Bool) → Ready s b f T k → Ready s b g U r
+  ready_given s b o =
+      let c = h.2 in
+      subst (λ (x : List ℕ). Ready s b x U r) (sym h.0)
+      (subst (λ (V : List Row). Ready s b f V r) (sym h.1)
+      (record { owned = owned_child f T k i r o.owned c; below = λ j x y. o.below j (omega (arith, c.after)) (omega (arith, c.ends)) }))
+
+pub exponent_given : (f : List ℕ) (T : List Row) (k i : ℕ) (g : List ℕ) (U : List Row) (r : ℕ) → (g ≡ f) × (U ≡ T) × IsChild f k i r → i ≡ 1
+    → second_literal (children_of (tree f k)) ≡ literal_bits (tree g r)
+exponent_given f T k i g U r h e =
+    exponent_is f k r (subst (λ (x : ℕ). IsChild f k x r) e h.2) ∙ ap (λ (x : List ℕ). literal_bits (tree x r)) (sym h.0)

@@ -1,6 +1,6 @@
--- The table of a survey: eight numbers for each node. They are its nodes and levels, whether the symbol stands in it, whether it has a derivative, and
--- the derivative's nodes, levels, whether it is a literal, and the literal's bits.
-use Rattle.std.specs.Prelude.{◌≡◌, Bool, true, cond, List, ℕ, zero, suc, ◌+◌, ◌*◌, ◌<◌, ◌≤◌, length, get_or, eqb}
+-- The table of a survey: a row for each node.
+use Rattle.std.specs.Prelude.{◌≡◌, Bool, true, false, List, ℕ, zero, suc, ◌+◌, ◌*◌, ◌<◌, ◌≤◌, length, get_or}
+use Rattle.std.specs.Prelude.{Option as Given, None, Some}
 use Rattle.std.proofs.Math.Option.{Option, none, some}
 use Rattle.formula.specs.Formula.{Formula, Formulas, node, last, next, count, to_list, size, depth, depends, well_formed}
 use Rattle.formula.specs.Text.{byte_at}
@@ -12,7 +12,7 @@ use Rattle.reader.specs.Read.{is_some}
 use Rattle.rules.specs.Notation.{rule_number}
 use Rattle.survey.specs.Derived.{derived, zero_literal, children_of}
 use Rattle.survey.specs.declared.Attributes.{Attributes}
-use Rattle.survey.specs.declared.Literal.{Literal}
+use Rattle.survey.specs.declared.Row.{Row}
 use Rattle.survey.specs.declared.Found.{Found}
 
 -- the tree of a node, by its number
@@ -25,50 +25,53 @@ unfolding tree
 trees f zero k = last
 trees f (suc n) k = next (tree f k) (trees f n (k + size (tree f k)))
 
-abbrev pub optional : Bool → ℕ → Option ℕ
-optional literal bits = cond literal (some bits) none
+-- an answer of the code's as the definitions have it
+abbrev pub option_of : {A : Type 0} → Given A → Option A
+option_of None = none
+option_of (Some x) = some x
 
 -- attributes as the code holds them
 abbrev pub reading : Attributes → Spec.Attributes
-reading a = record { nodes = a.nodes; levels = a.levels; bits = optional a.literal a.bits }
+reading a = record { nodes = a.nodes; levels = a.levels; bits = option_of a.literal }
 
--- a derivative's attributes where there is one
-abbrev pub optional_attributes : Bool → Spec.Attributes → Option Spec.Attributes
-optional_attributes fine a = cond fine (some a) none
+-- those of a derivative where there is one
+abbrev pub readings : Given Attributes → Option Spec.Attributes
+readings None = none
+readings (Some a) = some (reading a)
+
+-- and of the literal 0 where there is none
+abbrev pub or_literal : Given Attributes → Attributes
+or_literal None = record { nodes = 1; levels = 1; literal = Some 0 }
+or_literal (Some a) = a
 
 abbrev pub found : Found → Spec.Survey
-found r = record { own = reading r.own; has_symbol = r.has; diff = optional_attributes r.fine (reading r.diff) }
+found r = record { own = reading r.own; has_symbol = r.has; diff = readings r.diff }
 
-abbrev pub literal_of : Literal → Option ℕ
-literal_of l = optional l.literal l.bits
+abbrev pub empty_row : Row
+empty_row = record { nodes = 0; levels = 0; has = false; fine = false; diff = record { nodes = 0; levels = 0; literal = None } }
 
-unfoldable pub diff_in : List ℕ → ℕ → Spec.Attributes
-diff_in T k =
-    record {
-      nodes = get_or T (8 * k + 4) 0;
-      levels = get_or T (8 * k + 5) 0;
-      bits = optional (eqb (get_or T (8 * k + 6) 0) 1) (get_or T (8 * k + 7) 0);
-    }
+abbrev pub row_in : List Row → ℕ → Row
+row_in T k = get_or T k empty_row
 
 -- a row has the node's size and depth
-pub record Own (f T : List ℕ) (k : ℕ) : Type 0 where
-  pub nodes : get_or T (8 * k) 0 ≡ size (tree f k)
-  pub levels : get_or T (8 * k + 1) 0 ≡ depth (tree f k)
+pub record Own (f : List ℕ) (T : List Row) (k : ℕ) : Type 0 where
+  pub nodes : (row_in T k).nodes ≡ size (tree f k)
+  pub levels : (row_in T k).levels ≡ depth (tree f k)
 
 -- and what is known of its derivative
-pub record Surveyed (s : ℕ) (by_state : Bool) (f T : List ℕ) (k : ℕ) : Type 0 where
-  pub has : eqb (get_or T (8 * k + 2) 0) 1 ≡ depends s (tree f k)
-  pub fine : eqb (get_or T (8 * k + 3) 0) 1 ≡ is_some (differentiate s by_state (tree f k))
-  pub diff : diff_in T k ≡ attributes_of (derived s by_state (tree f k))
+pub record Surveyed (s : ℕ) (by_state : Bool) (f : List ℕ) (T : List Row) (k : ℕ) : Type 0 where
+  pub has : (row_in T k).has ≡ depends s (tree f k)
+  pub fine : (row_in T k).fine ≡ is_some (differentiate s by_state (tree f k))
+  pub diff : reading (row_in T k).diff ≡ attributes_of (derived s by_state (tree f k))
 
 -- the sizes of a node and of all below it are known
-pub record Owned (f T : List ℕ) (k : ℕ) : Type 0 where
+pub record Owned (f : List ℕ) (T : List Row) (k : ℕ) : Type 0 where
   pub formed : well_formed (tree f k) ≡ true
-  pub long : 8 * (k + size (tree f k)) ≤ length T
+  pub long : k + size (tree f k) ≤ length T
   pub own : (j : ℕ) → k ≤ j → j < k + size (tree f k) → Own f T j
 
 -- and the derivatives of all below it
-pub record Ready (s : ℕ) (by_state : Bool) (f T : List ℕ) (k : ℕ) : Type 0 where
+pub record Ready (s : ℕ) (by_state : Bool) (f : List ℕ) (T : List Row) (k : ℕ) : Type 0 where
   pub owned : Owned f T k
   pub below : (j : ℕ) → k < j → j < k + size (tree f k) → Surveyed s by_state f T j
 
@@ -101,27 +104,15 @@ number_of s by_state f k =
 
 -- ---- filling the table
 
-pub record PutOwn (T T' : List ℕ) (k n l : ℕ) : Type 0 where
-  pub nodes : get_or T' (8 * k) 0 ≡ n
-  pub levels : get_or T' (8 * k + 1) 0 ≡ l
-  pub others : (m : ℕ) → (m ≡ 8 * k → ⊥) → (m ≡ 8 * k + 1 → ⊥) → get_or T' m 0 ≡ get_or T m 0
-
-pub record PutDiff (T T' : List ℕ) (k : ℕ) (has fine : Bool) (a : Spec.Attributes) : Type 0 where
-  pub has_is : eqb (get_or T' (8 * k + 2) 0) 1 ≡ has
-  pub fine_is : eqb (get_or T' (8 * k + 3) 0) 1 ≡ fine
-  pub diff : diff_in T' k ≡ a
-  pub before : (m : ℕ) → m < 8 * k + 2 → get_or T' m 0 ≡ get_or T m 0
-  pub after : (m : ℕ) → 8 * k + 8 ≤ m → get_or T' m 0 ≡ get_or T m 0
-
 -- a well-formed tree of so many levels, with rows for it
-pub record Room (f T : List ℕ) (k levels : ℕ) : Type 0 where
+pub record Room (f : List ℕ) (T : List Row) (k levels : ℕ) : Type 0 where
   pub formed : well_formed (tree f k) ≡ true
   pub deep : depth (tree f k) ≤ levels
-  pub long : 8 * (k + size (tree f k)) ≤ length T
+  pub long : k + size (tree f k) ≤ length T
 
 -- the rows of a node and of all below it are filled, those before and after them as they were
-pub record Filled (s : ℕ) (by_state : Bool) (f T T' : List ℕ) (k : ℕ) : Type 0 where
+pub record Filled (s : ℕ) (by_state : Bool) (f : List ℕ) (T T' : List Row) (k : ℕ) : Type 0 where
   pub own : (j : ℕ) → k ≤ j → j < k + size (tree f k) → Own f T' j
   pub survey : (j : ℕ) → k ≤ j → j < k + size (tree f k) → Surveyed s by_state f T' j
-  pub before : (m : ℕ) → m < 8 * k → get_or T' m 0 ≡ get_or T m 0
-  pub after : (m : ℕ) → 8 * (k + size (tree f k)) ≤ m → get_or T' m 0 ≡ get_or T m 0
+  pub before : (j : ℕ) → j < k → row_in T' j ≡ row_in T j
+  pub after : (j : ℕ) → k + size (tree f k) ≤ j → row_in T' j ≡ row_in T j

@@ -1,293 +1,99 @@
-use Rattle.reader.proofs.Trees.{size_pos}
-use Prim.Native.Nat.{◌+◌, ◌-◌}
+use Prim.Native.Nat.{ℕ, ◌+◌, ◌-◌}
 use native.Mathlib.Omega.{arith}
-use mathlib.Core.Path.{refl, ◌∙◌}
-use Rattle.survey.specs.Table.{reading, tree}
-use Rattle.survey.proofs.Rows.{first_inside}
-use Rattle.survey.proofs.Filling.{going_start, child_room, row_there, going_next, depth_is, symbol_is, all_fine, own_room, ready, filled, fine_is}
+use mathlib.Core.Bool.{true, false}
+use mathlib.Core.Path.{◌≡◌, refl, ◌∙◌, subst, ap}
+use Rattle.reader.proofs.Trees.{size_pos}
+use Rattle.survey.specs.Table.{reading, tree, empty_row}
+use Rattle.survey.proofs.Filling.{Going, going_start, child_room, row_there, going_on, symbol_is, all_fine, ready, filled, fine_is, given_some, given_right, larger_is}
 use Rattle.survey.proofs.+survey.Goals as goal
 
-pub is_symbol-has-requires : goal.is_symbol-has-requires
-is_symbol-has-requires t c = c.requires.formed
-
-pub overflow_add-next : goal.overflow_add-next
-overflow_add-next t c =
+pub loop-child-init : goal.loop-child-init
+loop-child-init t c =
     let args = c.args in
-    omega (arith, first_inside args.f.now args.k c.requires.formed)
-
-pub overflow_mul-k : goal.overflow_mul-k
-overflow_mul-k t c =
-    let args = c.args in
-    omega (arith, first_inside args.f.now args.k c.requires.formed)
-
-pub overflow_add-k : goal.overflow_add-k
-overflow_add-k t c =
-    let args = c.args in
-    omega (arith, first_inside args.f.now args.k c.requires.formed)
-
-pub loop-left-init : goal.loop-left-init
-loop-left-init t c =
     let pre = c.requires in
-    let args = c.args in (
+    let count = c.half-children.result in
+    let same : count ≡ count - 0 = omega arith in (
       pre,
-      going_start args.by.symbol args.by.state args.f.now args.table.now args.k args.depth pre
-          c.is_symbol-has.result c.half-left.result c.is_symbol-has.ensures c.half-left.ensures.0,
+      subst (λ (m : ℕ). Going args.by.symbol args.by.state args.f.now args.rows.now args.k args.depth pre args.rows.now c.is_symbol-has.result true 0 (args.k + 1) m) same
+          (going_start args.by.symbol args.by.state args.f.now args.rows.now args.k args.depth pre c.is_symbol-has.result count
+          c.is_symbol-has.ensures c.half-children.ensures.0),
     )
-
-pub overflow_sub-depth : goal.overflow_sub-depth
-overflow_sub-depth t c =
-    let args = c.args in
-    let loop = c.loop-left in
-    let h = child_room args.by.symbol args.by.state args.f.now args.table.now args.k args.depth loop.invariant.0 loop.table
-    loop.has loop.fine loop.levels loop.next loop.left loop.invariant.1 (λ e. omega (arith, c.loop-left-test.true)) in omega
-    (arith, h.deep, loop.invariant.0.deep, loop.invariant.1.deep)
 
 pub survey-requires : goal.survey-requires
 survey-requires t c =
     let args = c.args in
-    let loop = c.loop-left in
-    let h = child_room args.by.symbol args.by.state args.f.now args.table.now args.k args.depth loop.invariant.0 loop.table
-    loop.has loop.fine loop.levels loop.next loop.left loop.invariant.1 (λ e. omega (arith, c.loop-left-test.true)) in
-    (omega (arith, loop.invariant.0.deep, loop.invariant.1.deep), h)
+    let loop = c.loop-child in
+    let room = child_room args.by.symbol args.by.state args.f.now args.rows.now args.k args.depth loop.invariant.0 loop.rows loop.has loop.fine loop.levels
+    loop.next (c.half-children.result - loop._child) loop.invariant.1 (λ e. omega (arith, c.loop-child-test.true)) in
+    (omega (arith, loop.invariant.0.deep, loop.invariant.1.deep), room)
 
-pub overflow_mul-next : goal.overflow_mul-next
-overflow_mul-next t c =
+pub slice_copy_out-row : goal.slice_copy_out-row
+slice_copy_out-row t c =
     let args = c.args in
-    let loop = c.loop-left in
-    let h = row_there args.by.symbol args.by.state args.f.now args.table.now args.k args.depth loop.invariant.0 loop.table
-    loop.has loop.fine loop.levels loop.next loop.left loop.invariant.1
-    (λ e. omega (arith, c.loop-left-test.true)) in omega (arith, h, c.survey.auto.table)
+    let loop = c.loop-child in
+    let there = row_there args.by.symbol args.by.state args.f.now args.rows.now args.k args.depth loop.invariant.0 loop.rows loop.has loop.fine loop.levels
+    loop.next (c.half-children.result - loop._child) loop.invariant.1 (λ e. omega (arith, c.loop-child-test.true)) in
+    omega (arith, there, c.survey.auto.rows)
 
-pub overflow_add-next-in-loop-left : goal.overflow_add-next-in-loop-left
-overflow_add-next-in-loop-left t c =
+pub overflow_add-next-in-loop-child : goal.overflow_add-next-in-loop-child
+overflow_add-next-in-loop-child t c =
     let args = c.args in
-    let loop = c.loop-left in
-    let h = row_there args.by.symbol args.by.state args.f.now args.table.now args.k args.depth loop.invariant.0 loop.table
-    loop.has loop.fine loop.levels loop.next loop.left loop.invariant.1
-    (λ e. omega (arith, c.loop-left-test.true)) in omega (arith, h, c.survey.auto.table)
+    let loop = c.loop-child in
+    let room = child_room args.by.symbol args.by.state args.f.now args.rows.now args.k args.depth loop.invariant.0 loop.rows loop.has loop.fine loop.levels
+    loop.next (c.half-children.result - loop._child) loop.invariant.1 (λ e. omega (arith, c.loop-child-test.true)) in
+    let size = (c.survey.ensures.own loop.next (omega arith) (omega (arith, size_pos (tree args.f.now loop.next)))).nodes in
+    omega (arith, room.long, size, loop.invariant.1.same_length)
 
-pub offset_bounds-table-next : goal.offset_bounds-table-next
-offset_bounds-table-next t c =
+pub loop-child-preserved : goal.loop-child-preserved
+loop-child-preserved t c =
     let args = c.args in
-    let loop = c.loop-left in
-    let h = row_there args.by.symbol args.by.state args.f.now args.table.now args.k args.depth loop.invariant.0 loop.table
-    loop.has loop.fine loop.levels loop.next loop.left loop.invariant.1
-    (λ e. omega (arith, c.loop-left-test.true)) in omega (arith, h, c.survey.auto.table)
-
-pub bounds-table-next : goal.bounds-table-next
-bounds-table-next t c =
-    let args = c.args in
-    let loop = c.loop-left in
-    let h = row_there args.by.symbol args.by.state args.f.now args.table.now args.k args.depth loop.invariant.0 loop.table
-    loop.has loop.fine loop.levels loop.next loop.left loop.invariant.1
-    (λ e. omega (arith, c.loop-left-test.true)) in omega
-    (arith, h, c.survey.auto.table)
-
-pub overflow_mul-next-in-loop-left : goal.overflow_mul-next-in-loop-left
-overflow_mul-next-in-loop-left t c =
-    let args = c.args in
-    let loop = c.loop-left in
-    let loop_test = c.loop-left-test in
-    let h = row_there args.by.symbol args.by.state args.f.now args.table.now args.k args.depth loop.invariant.0 loop.table
-    loop.has loop.fine loop.levels loop.next loop.left loop.invariant.1 (λ e. omega (arith, loop_test.true)) in omega
-    (arith, h, c.survey.auto.table)
-
-pub overflow_add-next-in-loop-left-2 : goal.overflow_add-next-in-loop-left-2
-overflow_add-next-in-loop-left-2 t c =
-    let args = c.args in
-    let loop = c.loop-left in
-    let loop_test = c.loop-left-test in
-    let h = row_there args.by.symbol args.by.state args.f.now args.table.now args.k args.depth loop.invariant.0 loop.table
-    loop.has loop.fine loop.levels loop.next loop.left loop.invariant.1 (λ e. omega (arith, loop_test.true)) in omega
-    (arith, h, c.survey.auto.table)
-
-pub offset_bounds-table-next-in-loop-left : goal.offset_bounds-table-next-in-loop-left
-offset_bounds-table-next-in-loop-left t c =
-    let args = c.args in
-    let loop = c.loop-left in
-    let loop_test = c.loop-left-test in
-    let h = row_there args.by.symbol args.by.state args.f.now args.table.now args.k args.depth loop.invariant.0 loop.table
-    loop.has loop.fine loop.levels loop.next loop.left loop.invariant.1 (λ e. omega (arith, loop_test.true)) in omega
-    (arith, h, c.survey.auto.table)
-
-pub bounds-table-next-in-loop-left : goal.bounds-table-next-in-loop-left
-bounds-table-next-in-loop-left t c =
-    let args = c.args in
-    let loop = c.loop-left in
-    let loop_test = c.loop-left-test in
-    let h = row_there args.by.symbol args.by.state args.f.now args.table.now args.k args.depth loop.invariant.0 loop.table
-    loop.has loop.fine loop.levels loop.next loop.left loop.invariant.1 (λ e. omega (arith, loop_test.true)) in omega
-    (arith, h, c.survey.auto.table)
-
-pub overflow_mul-next-in-loop-left-2 : goal.overflow_mul-next-in-loop-left-2
-overflow_mul-next-in-loop-left-2 t c =
-    let args = c.args in
-    let loop = c.loop-left in
-    let loop_test = c.loop-left-test in
-    let survey = c.survey in
-    let h = row_there args.by.symbol args.by.state args.f.now args.table.now args.k args.depth loop.invariant.0 loop.table
-    loop.has loop.fine loop.levels loop.next loop.left loop.invariant.1 (λ e. omega (arith, loop_test.true)) in omega
-    (arith, h, survey.auto.table)
-
-pub overflow_add-next-in-loop-left-3 : goal.overflow_add-next-in-loop-left-3
-overflow_add-next-in-loop-left-3 t c =
-    let args = c.args in
-    let loop = c.loop-left in
-    let loop_test = c.loop-left-test in
-    let survey = c.survey in
-    let h = row_there args.by.symbol args.by.state args.f.now args.table.now args.k args.depth loop.invariant.0 loop.table
-    loop.has loop.fine loop.levels loop.next loop.left loop.invariant.1 (λ e. omega (arith, loop_test.true)) in omega
-    (arith, h, survey.auto.table)
-
-pub offset_bounds-table-next-in-loop-left-2 : goal.offset_bounds-table-next-in-loop-left-2
-offset_bounds-table-next-in-loop-left-2 t c =
-    let args = c.args in
-    let loop = c.loop-left in
-    let loop_test = c.loop-left-test in
-    let survey = c.survey in
-    let h = row_there args.by.symbol args.by.state args.f.now args.table.now args.k args.depth loop.invariant.0 loop.table
-    loop.has loop.fine loop.levels loop.next loop.left loop.invariant.1 (λ e. omega (arith, loop_test.true)) in omega
-    (arith, h, survey.auto.table)
-
-pub bounds-table-next-in-loop-left-2 : goal.bounds-table-next-in-loop-left-2
-bounds-table-next-in-loop-left-2 t c =
-    let args = c.args in
-    let loop = c.loop-left in
-    let loop_test = c.loop-left-test in
-    let survey = c.survey in
-    let h = row_there args.by.symbol args.by.state args.f.now args.table.now args.k args.depth loop.invariant.0 loop.table
-    loop.has loop.fine loop.levels loop.next loop.left loop.invariant.1 (λ e. omega (arith, loop_test.true)) in omega
-    (arith, h, survey.auto.table)
-
-pub overflow_mul-next-in-loop-left-3 : goal.overflow_mul-next-in-loop-left-3
-overflow_mul-next-in-loop-left-3 t c =
-    let args = c.args in
-    let loop = c.loop-left in
-    let loop_test = c.loop-left-test in
-    let survey = c.survey in
-    let h = row_there args.by.symbol args.by.state args.f.now args.table.now args.k args.depth loop.invariant.0 loop.table
-    loop.has loop.fine loop.levels loop.next loop.left loop.invariant.1 (λ e. omega (arith, loop_test.true)) in omega
-    (arith, h, survey.auto.table)
-
-pub offset_bounds-table-next-in-loop-left-3 : goal.offset_bounds-table-next-in-loop-left-3
-offset_bounds-table-next-in-loop-left-3 t c =
-    let args = c.args in
-    let loop = c.loop-left in
-    let loop_test = c.loop-left-test in
-    let survey = c.survey in
-    let h = row_there args.by.symbol args.by.state args.f.now args.table.now args.k args.depth loop.invariant.0 loop.table
-    loop.has loop.fine loop.levels loop.next loop.left loop.invariant.1 (λ e. omega (arith, loop_test.true)) in omega
-    (arith, h, survey.auto.table)
-
-pub bounds-table-next-in-loop-left-3 : goal.bounds-table-next-in-loop-left-3
-bounds-table-next-in-loop-left-3 t c =
-    let args = c.args in
-    let loop = c.loop-left in
-    let loop_test = c.loop-left-test in
-    let survey = c.survey in
-    let h = row_there args.by.symbol args.by.state args.f.now args.table.now args.k args.depth loop.invariant.0 loop.table
-    loop.has loop.fine loop.levels loop.next loop.left loop.invariant.1 (λ e. omega (arith, loop_test.true)) in omega
-    (arith, h, survey.auto.table)
-
-pub overflow_add-next-in-loop-left-4 : goal.overflow_add-next-in-loop-left-4
-overflow_add-next-in-loop-left-4 t c =
-    let args = c.args in
-    let loop = c.loop-left in
-    let loop_test = c.loop-left-test in
-    let survey = c.survey in
-    let h = child_room args.by.symbol args.by.state args.f.now args.table.now args.k args.depth loop.invariant.0 loop.table
-    loop.has loop.fine loop.levels loop.next loop.left loop.invariant.1 (λ e. omega (arith, loop_test.true)) in let o =
-    (survey.ensures.own loop.next (omega arith) (omega (arith, size_pos (tree args.f.now loop.next)))).nodes in omega
-    (arith, h.long, o, loop.invariant.1.same_length)
-
-pub overflow_sub-left : goal.overflow_sub-left
-overflow_sub-left t c = omega (arith, c.loop-left-test.true)
-
-pub loop-left-smaller : goal.loop-left-smaller
-loop-left-smaller t c = omega (arith, c.loop-left-test.true)
-
-pub loop-left-preserved : goal.loop-left-preserved
-loop-left-preserved t c =
-    let args = c.args in
-    let loop = c.loop-left in
-    let loop_test = c.loop-left-test in
-    let survey = c.survey in
-    let larger = c.larger-levels in
-    let either = c.either-has in (
+    let loop = c.loop-child in (
       loop.invariant.0,
-      going_next args.by.symbol args.by.state args.f.now args.table.now args.k args.depth loop.invariant.0 loop.table
-          loop.has loop.fine loop.levels loop.next loop.left loop.invariant.1 (λ e. omega (arith, loop_test.true))
-          survey.new.table survey.auto.table survey.ensures either.result c.both-fine.result larger.result _
-          either.ensures c.both-fine.ensures larger.ensures refl,
+      going_on args.by.symbol args.by.state args.f.now args.rows.now args.k args.depth loop.invariant.0 loop.rows loop.has loop.fine loop.levels
+          loop.next (c.half-children.result - loop._child) loop.invariant.1
+          (λ e. omega (arith, c.loop-child-test.true)) c.survey.new.rows c.survey.auto.rows c.survey.ensures _ _ c.max-levels.result _ _ refl refl
+          (c.max-levels.ensures ∙ larger_is _ _) refl (omega arith),
     )
 
-pub overflow_sub-next : goal.overflow_sub-next
-overflow_sub-next t c = omega (arith, c.loop-left.invariant.1.after)
-
-pub overflow_add-levels : goal.overflow_add-levels
-overflow_add-levels t c =
+pub invariant_of-node : goal.invariant_of-node
+invariant_of-node t c =
     let args = c.args in
-    let fits = c.ranges in
-    let loop = c.loop-left in
-    let h = depth_is args.by.symbol args.by.state args.f.now args.table.now args.k args.depth loop.invariant.0 loop.table
-    loop.has loop.fine loop.levels loop.next loop.left loop.invariant.1 (omega (arith, c.loop-left-test.false)) in let w =
-    loop.invariant.0.deep in omega (arith, h, w, fits.depth)
+    let loop = c.loop-child in
+    let now = ready args.by.symbol args.by.state args.f.now args.rows.now args.k args.depth loop.invariant.0 loop.rows loop.has loop.fine loop.levels
+    loop.next (c.half-children.result - loop._child) loop.invariant.1 (omega (arith, c.loop-child.auto._child-end, c.loop-child-test.false))
+    (record { nodes = loop.next - args.k; levels = loop.levels + 1; has = loop.has; fine = false; diff = empty_row.diff }) refl refl in
+    record { owned = now.owned }
 
-pub put_own-requires : goal.put_own-requires
-put_own-requires t c =
+pub invariant_of-part : goal.invariant_of-part
+invariant_of-part t c =
     let args = c.args in
-    let loop = c.loop-left in
-    own_room args.by.symbol args.by.state args.f.now args.table.now args.k args.depth loop.invariant.0 loop.table loop.has
-    loop.fine loop.levels loop.next loop.left loop.invariant.1 (omega (arith, c.loop-left-test.false))
+    let loop = c.loop-child in
+    record {
+      ready =
+          ready args.by.symbol args.by.state args.f.now args.rows.now args.k args.depth loop.invariant.0 loop.rows loop.has loop.fine loop.levels
+    loop.next (c.half-children.result - loop._child) loop.invariant.1 (omega (arith, c.loop-child.auto._child-end, c.loop-child-test.false))
+          (record { nodes = loop.next - args.k; levels = loop.levels + 1; has = loop.has; fine = false; diff = empty_row.diff }) refl refl;
+    }
 
-pub diff_of-d-requires : goal.diff_of-d-requires
-diff_of-d-requires t c =
+pub diff-diff-requires : goal.diff-diff-requires
+diff-diff-requires t c =
     let args = c.args in
-    let loop = c.loop-left in
-    let loop_test = c.loop-left-test in
-    let put_own = c.put_own in (
-      ready args.by.symbol args.by.state args.f.now args.table.now args.k args.depth loop.invariant.0 loop.table loop.has
-          loop.fine loop.levels loop.next loop.left loop.invariant.1 (omega (arith, loop_test.false)) put_own.new.table (loop.next - args.k)
-          (loop.levels + 1) put_own.auto.table put_own.ensures refl refl,
-      symbol_is args.by.symbol args.by.state args.f.now args.table.now args.k args.depth loop.invariant.0 loop.table
-          loop.has loop.fine loop.levels loop.next loop.left loop.invariant.1 (omega (arith, loop_test.false)),
-    )
-
-pub put_diff-requires : goal.put_diff-requires
-put_diff-requires t c =
-    let args = c.args in
-    let loop = c.loop-left in
-    let loop_test = c.loop-left-test in
-    let put_own = c.put_own in
-    let h = own_room args.by.symbol args.by.state args.f.now args.table.now args.k args.depth loop.invariant.0 loop.table
-    loop.has loop.fine loop.levels loop.next loop.left loop.invariant.1 (omega (arith, loop_test.false)) in omega
-    (arith, h, put_own.auto.table)
-
-pub shape_of-table : goal.shape_of-table
-shape_of-table t c =
-    let loop = c.loop-left in
-    let put_own = c.put_own in
-    c.put_diff.auto.table ∙ put_own.auto.table ∙ loop.invariant.1.same_length
+    let loop = c.loop-child in
+    symbol_is args.by.symbol args.by.state args.f.now args.rows.now args.k args.depth loop.invariant.0 loop.rows loop.has loop.fine loop.levels
+    loop.next (c.half-children.result - loop._child) loop.invariant.1 (omega (arith, c.loop-child.auto._child-end, c.loop-child-test.false))
 
 pub returns : goal.returns
 returns t c =
     let args = c.args in
-    let loop = c.loop-left in
-    let loop_test = c.loop-left-test in
-    let put_own = c.put_own in
-    let diff_of = c.diff_of-d in
-    let both2 = c.both in
-    let either2 = c.either in
-    let f = args.f.now in
-    let state = args.by.state in
-    let table = args.table.now in
-    let symbol = args.by.symbol in
-    let symbol_is2 = symbol_is symbol state f table args.k args.depth loop.invariant.0 loop.table loop.has loop.fine loop.levels
-    loop.next loop.left loop.invariant.1 (omega (arith, loop_test.false)) in
-    filled symbol state f table args.k args.depth loop.invariant.0 loop.table loop.has loop.fine loop.levels loop.next loop.left
-    loop.invariant.1 (omega (arith, loop_test.false)) put_own.new.table (loop.next - args.k) (loop.levels + 1) put_own.auto.table put_own.ensures
-    refl refl c.put_diff.new.table loop.has either2.result (reading diff_of.result.diff) symbol_is2 (fine_is symbol state
-    (tree f args.k) loop.has loop.fine diff_of.result.ruled both2.result either2.result symbol_is2 (all_fine symbol state f table
-    args.k args.depth loop.invariant.0 loop.table loop.has loop.fine loop.levels loop.next loop.left loop.invariant.1
-    (omega (arith, loop_test.false))) diff_of.ensures.0 both2.ensures either2.ensures) diff_of.ensures.1
-    c.put_diff.ensures
+    let loop = c.loop-child in
+    filled args.by.symbol args.by.state args.f.now args.rows.now args.k args.depth loop.invariant.0 loop.rows loop.has loop.fine loop.levels
+    loop.next (c.half-children.result - loop._child) loop.invariant.1 (omega (arith, c.loop-child.auto._child-end, c.loop-child-test.false))
+    (record { nodes = loop.next - args.k; levels = loop.levels + 1; has = loop.has; fine = false; diff = empty_row.diff }) refl refl _ refl refl (symbol_is args.by.symbol args.by.state args.f.now args.rows.now args.k args.depth loop.invariant.0 loop.rows loop.has loop.fine loop.levels
+    loop.next (c.half-children.result - loop._child) loop.invariant.1 (omega (arith, c.loop-child.auto._child-end, c.loop-child-test.false)))
+    (fine_is args.by.symbol args.by.state (tree args.f.now args.k) loop.has loop.fine c.is_some.result _ _
+    (symbol_is args.by.symbol args.by.state args.f.now args.rows.now args.k args.depth loop.invariant.0 loop.rows loop.has loop.fine loop.levels
+    loop.next (c.half-children.result - loop._child) loop.invariant.1 (omega (arith, c.loop-child.auto._child-end, c.loop-child-test.false)))
+    (all_fine args.by.symbol args.by.state args.f.now args.rows.now args.k args.depth loop.invariant.0 loop.rows loop.has loop.fine loop.levels
+    loop.next (c.half-children.result - loop._child) loop.invariant.1 (omega (arith, c.loop-child.auto._child-end, c.loop-child-test.false)))
+    (c.is_some.ensures ∙ given_some c.diff-diff.result ∙ c.diff-diff.ensures.0) refl refl)
+    (ap reading c.unwrap_or-row.ensures ∙ given_right c.diff-diff.result c.of_literal.result c.of_literal.ensures ∙ c.diff-diff.ensures.1)

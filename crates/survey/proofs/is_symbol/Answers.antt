@@ -1,4 +1,5 @@
 use native.Mathlib.Omega.{arith}
+use borrow.Author.Tests.{ne_eqb}
 use mathlib.Core.Path.{◌∙◌, sym}
 use Rattle.survey.proofs.Rows.{first_inside}
 use Rattle.survey.proofs.Filling.{symbol_yes, symbol_no}
@@ -7,23 +8,13 @@ use Rattle.survey.proofs.is_symbol.Goals as goal
 pub overflow_mul-k : goal.overflow_mul-k
 overflow_mul-k c = omega (arith, first_inside c.args.f.now c.args.k c.requires)
 
-pub overflow_mul-k-then-byte-eq2 : goal.overflow_mul-k-then-byte-eq2
-overflow_mul-k-then-byte-eq2 c =
-    let args = c.args in
-    omega (arith, first_inside args.f.now args.k c.requires)
-
-pub overflow_add-k : goal.overflow_add-k
-overflow_add-k c =
-    let args = c.args in
-    omega (arith, first_inside args.f.now args.k c.requires)
-
 pub returns-then-byte-eq2 : goal.returns-then-byte-eq2
 returns-then-byte-eq2 c =
     let args = c.args in
     symbol_yes args.f.now args.k args.s c.requires c.word.result c.word.ensures.0
     (sym c.byte.ensures ∙ c.if-byte-eq2.true)
 
-pub returns : goal.returns
-returns c =
+pub returns-else-byte-eq2 : goal.returns-else-byte-eq2
+returns-else-byte-eq2 c =
     let args = c.args in
-    symbol_no args.f.now args.k args.s c.requires (λ e. c.if-byte-eq2.false (c.byte.ensures ∙ e))
+    ne_eqb c.byte.result 2 c.if-byte-eq2.false ∙ symbol_no args.f.now args.k args.s c.requires (λ e. c.if-byte-eq2.false (c.byte.ensures ∙ e))

@@ -1,37 +1,28 @@
 use native.Mathlib.Omega.{arith}
-use mathlib.Core.Path.{◌∙◌}
+use mathlib.Core.Path.{◌∙◌, ap, sym}
+use mathlib.Core.Bool.{Bool, cond}
+use mathlib.Core.Option.{Option, some, none}
+use Rattle.derivative.specs.Attributes.{Attributes}
 use Rattle.reader.proofs.Trees.{size_pos}
-use Rattle.survey.specs.Table.{tree, reading}
+use Rattle.survey.specs.Table.{tree, reading, readings, row_in}
 use Rattle.survey.proofs.Derivative.{survey_is}
 use Rattle.survey.proofs.survey_formula.Goals as goal
+use Rattle.survey.proofs.survey_formula.Goals.{then-row, else-row}
 
-pub row-diff-requires : goal.row-diff-requires
-row-diff-requires c =
-    let pre = c.requires in
-    let args = c.args in
-    omega (arith, pre.long, size_pos (tree args.f.now 0), c.survey.auto.table)
-
-pub bounds-table-2 : goal.bounds-table-2
-bounds-table-2 c =
-    let pre = c.requires in
-    let args = c.args in
-    let survey = c.survey in
-    omega (arith, pre.long, size_pos (tree args.f.now 0), survey.auto.table)
-
-pub bounds-table-3 : goal.bounds-table-3
-bounds-table-3 c =
-    let pre = c.requires in
-    let args = c.args in
-    let survey = c.survey in
-    omega (arith, pre.long, size_pos (tree args.f.now 0), survey.auto.table)
+pub slice_copy_out-row : goal.slice_copy_out-row
+slice_copy_out-row c = omega (arith, c.requires.long, size_pos (tree c.args.f.now 0), c.survey.auto.rows)
 
 pub returns : goal.returns
 returns c =
     let args = c.args in
-    let survey = c.survey in
-    let own = c.own-whole in
-    let survey2 = survey.ensures.survey 0 (omega arith) (omega (arith, size_pos (tree args.f.now 0))) in (
-      survey_is args.by.symbol args.by.state (tree args.f.now 0) (reading own.result) (reading c.row-diff.result) _ _
-          own.ensures survey2.has survey2.fine (c.row-diff.ensures ∙ survey2.diff),
-      survey.ensures,
+    let surveyed = c.survey.ensures.survey 0 (omega arith) (omega (arith, size_pos (tree args.f.now 0))) in
+    let row = row_in c.survey.new.rows 0 in (
+      ap (λ (x : Option Attributes). record { own = reading c.attributes.result; has_symbol = row.has; diff = x })
+          (elim c.if-row.branch [
+            then-row w ↦ ap readings w.diff-is ∙ sym (ap (λ (x : Bool). cond x (some (reading row.diff)) none) w.if-row.true)
+            | else-row w ↦ ap readings w.diff-is ∙ sym (ap (λ (x : Bool). cond x (some (reading row.diff)) none) w.if-row.false)
+          ])
+          ∙ survey_is args.by.symbol args.by.state (tree args.f.now 0) (reading c.attributes.result) (reading row.diff) row.has row.fine
+          c.attributes.ensures surveyed.has surveyed.fine surveyed.diff,
+      c.survey.ensures,
     )
