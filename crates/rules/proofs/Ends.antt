@@ -14,21 +14,8 @@ use Rattle.formula.specs.Node.{head_of}
 use Rattle.derivative.specs.Differentiate.{literal_head}
 use Rattle.reader.specs.Read.{is_some}
 use Rattle.rules.specs.Notation.{parts, past_all, coded, operands, operand_codes, operators, operator_codes, code_of, letter_at, code_at, end_at, coded_head}
+use Rattle.rules.specs.Codes.{writes}
 use Rattle.machine.proofs.Laws.{and_l, and_r}
-
-pub parts_rest : (k o : ℕ) → (k ≡ 4 → ⊥) → (k ≡ 5 → ⊥) → (k ≡ 6 → ⊥) → (k ≡ 7 → ⊥) → (k ≡ 8 → ⊥) → (k ≡ 9 → ⊥) → (k ≡ 10 → ⊥) → 0 ≡ parts k o
-parts_rest zero o h4 h5 h6 h7 h8 h9 h10 = refl
-parts_rest (suc zero) o h4 h5 h6 h7 h8 h9 h10 = refl
-parts_rest (suc (suc zero)) o h4 h5 h6 h7 h8 h9 h10 = refl
-parts_rest (suc (suc (suc zero))) o h4 h5 h6 h7 h8 h9 h10 = refl
-parts_rest (suc (suc (suc (suc zero)))) o h4 h5 h6 h7 h8 h9 h10 = absurd (h4 refl)
-parts_rest (suc (suc (suc (suc (suc zero))))) o h4 h5 h6 h7 h8 h9 h10 = absurd (h5 refl)
-parts_rest (suc (suc (suc (suc (suc (suc zero)))))) o h4 h5 h6 h7 h8 h9 h10 = absurd (h6 refl)
-parts_rest (suc (suc (suc (suc (suc (suc (suc zero))))))) o h4 h5 h6 h7 h8 h9 h10 = absurd (h7 refl)
-parts_rest (suc (suc (suc (suc (suc (suc (suc (suc zero)))))))) o h4 h5 h6 h7 h8 h9 h10 = absurd (h8 refl)
-parts_rest (suc (suc (suc (suc (suc (suc (suc (suc (suc zero))))))))) o h4 h5 h6 h7 h8 h9 h10 = absurd (h9 refl)
-parts_rest (suc (suc (suc (suc (suc (suc (suc (suc (suc (suc zero)))))))))) o h4 h5 h6 h7 h8 h9 h10 = absurd (h10 refl)
-parts_rest (suc (suc (suc (suc (suc (suc (suc (suc (suc (suc (suc k))))))))))) o h4 h5 h6 h7 h8 h9 h10 = refl
 
 pub end_none : (d q i : ℕ) → d ≡ 0 → i ≡ end_at d q i
 unfolding end_at
@@ -63,10 +50,6 @@ past_done past left i e = ap (λ (x : ℕ). past_all past x i) e
 abbrev pub plain : Option Head → Bool
 plain none = false
 plain (some h) = not (is_some (literal_head h))
-
--- the kinds that write a node
-abbrev pub writes : ℕ → Bool
-writes k = get_or (false ∷ false ∷ false ∷ false ∷ true ∷ true ∷ false ∷ true ∷ true ∷ []) k false
 
 abbrev pub valid : ℕ → Bool
 valid c = cond (writes (c / 16)) (plain (coded_head (c / 16) (c % 16))) true

@@ -1,2 +1,3 @@
 pub mod Right
 pub mod Ends
+pub mod Codes

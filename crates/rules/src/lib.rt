@@ -4,80 +4,137 @@
 // written out would stand twice, once for the attributes and once for the nodes, with each test for a literal zero or one in
 // both; here each arm stands once, and the tests of `add` and `mul` once in each reading.
 ghost use Rattle.std.specs.Prelude.{◌≡◌, ◌≤◌, get_or};
-ghost use Rattle.rules.specs.Notation.{look, binaries, calls, others, coded, operators, operator_codes, code_of, letter_at, code_at, parts, end_at};
+ghost use Rattle.rules.specs.Notation.{look, binaries, calls, others, coded, operators, operator_codes, code_of, letter_at, code_at, end_at};
+ghost use Rattle.rules.specs.Codes.{Reads, parts_in, literal_number};
 
-use reader::{byte, wide};
+use reader::byte;
 
-// The children and their derivatives.
-const A: u8 = 0x10;
+// A node's kind and operator, as they stand in its bytes, and how many children it has.
+#[derive(Clone, Copy)]
+pub struct Head {
+    pub kind: u8,
+    pub operator: u8,
+    pub children: u8,
+}
 
-const B: u8 = 0x11;
+impl Head {
+    pub const ADD: Head = Head {
+        kind: 4,
+        operator: 0,
+        children: 2,
+    };
 
-const C: u8 = 0x12;
+    pub const MULTIPLY: Head = Head {
+        kind: 4,
+        operator: 2,
+        children: 2,
+    };
 
-const DA: u8 = 0x20;
+    const DIVIDE: Head = Head {
+        kind: 4,
+        operator: 3,
+        children: 2,
+    };
 
-const DB: u8 = 0x21;
+    const POWER: Head = Head {
+        kind: 4,
+        operator: 4,
+        children: 2,
+    };
 
-const DC: u8 = 0x22;
-// The node itself.
-const WHOLE: u8 = 0x30;
-// A new node: its kind, then its operator.
-const DIV: u8 = 0x43;
+    const LESS: Head = Head {
+        kind: 5,
+        operator: 0,
+        children: 2,
+    };
 
-const POW: u8 = 0x44;
+    const GREATER: Head = Head {
+        kind: 5,
+        operator: 2,
+        children: 2,
+    };
 
-const LT: u8 = 0x50;
+    pub const EQUAL: Head = Head {
+        kind: 5,
+        operator: 4,
+        children: 2,
+    };
 
-const GT: u8 = 0x52;
+    const LOG: Head = Head {
+        kind: 7,
+        operator: 1,
+        children: 1,
+    };
 
-const EQ: u8 = 0x54;
-// The literal 0 where the derivative is a literal zero, else what follows.
-const UNLESS_DA: u8 = 0x60;
+    const SIN: Head = Head {
+        kind: 7,
+        operator: 4,
+        children: 1,
+    };
 
-const UNLESS_DB: u8 = 0x61;
+    const COS: Head = Head {
+        kind: 7,
+        operator: 5,
+        children: 1,
+    };
 
-const LOG: u8 = 0x71;
+    const FLOOR: Head = Head {
+        kind: 7,
+        operator: 9,
+        children: 1,
+    };
 
-const SIN: u8 = 0x74;
+    const HILL: Head = Head {
+        kind: 7,
+        operator: 13,
+        children: 3,
+    };
 
-const COS: u8 = 0x75;
+    pub const CONDITIONAL: Head = Head {
+        kind: 8,
+        operator: 0,
+        children: 3,
+    };
+}
 
-const FLOOR: u8 = 0x79;
+// A literal that a rule writes; the exponent is that of a Power, where it is a literal.
+#[derive(Clone, Copy)]
+pub enum Literal {
+    Zero,
+    One,
+    Two,
+    Three,
+    Half,
+    ThreeHalves,
+    MinusOne,
+    Tiny,
+    LnTen,
+    Exponent,
+    ExponentLessOne,
+    // The literal 1 that `power` writes for the power 0.
+    Zeroth,
+}
 
-const HILL: u8 = 0x7d;
-
-const IF: u8 = 0x80;
-// `add` and `mul`, which simplify.
-const ADD: u8 = 0x90;
-
-const MUL: u8 = 0xa0;
-// The derivative of the first argument that equals the extremum.
-const EXTREMUM: u8 = 0xb0;
-// Literals; N is the exponent of a Power where it is one.
-const ZERO: u8 = 0xc0;
-
-const ONE: u8 = 0xc1;
-
-const TWO: u8 = 0xc2;
-
-const THREE: u8 = 0xc3;
-
-const HALF: u8 = 0xc4;
-
-const THREE_HALVES: u8 = 0xc5;
-
-const MINUS_ONE: u8 = 0xc6;
-
-const TINY: u8 = 0xc7;
-
-const LN_TEN: u8 = 0xc8;
-
-const N: u8 = 0xc9;
-
-const N_LESS_ONE: u8 = 0xca;
-// The literal 1 that `power` writes for the power 0.
-const ZEROTH: u8 = 0xcb;
+// What stands at a place of a rule.
+#[derive(Clone, Copy)]
+pub enum Code {
+    // Past the end.
+    Nothing,
+    Child(usize),
+    Derivative(usize),
+    // The node itself.
+    Whole,
+    // A new node, with the parts that follow.
+    Node(Head),
+    // The literal 0 where the derivative of child i is a literal zero, else what follows.
+    Unless(usize),
+    // `add` and `mul`, which simplify.
+    Add,
+    Multiply,
+    // The derivative of the first argument that equals the extremum.
+    Extremum,
+    Literal(Literal),
+}
 
 // A function lays out all its texts before it looks at one of them. So the rules that are read most, and the longest, have a
 // function each.
@@ -229,97 +286,118 @@ fn letter(q: usize, i: usize) -> u8
 }
 
 // The code of a letter that parts follow, and of M.
-fn operator_code(letter: u8) -> u8
-    ensures { result ≡ coded operators operator_codes 0 letter }
+fn operator_code(letter: u8) -> Code
+    ensures { Reads result (coded operators operator_codes 0 letter) }
 {
     match letter {
-        b'+' => ADD,
-        b'*' => MUL,
-        b'/' => DIV,
-        b'^' => POW,
-        b'<' => LT,
-        b'>' => GT,
-        b'=' => EQ,
-        b'?' => IF,
-        b'L' => LOG,
-        b'S' => SIN,
-        b'C' => COS,
-        b'F' => FLOOR,
-        b'H' => HILL,
-        b'M' => EXTREMUM,
-        b'X' => UNLESS_DA,
-        b'Y' => UNLESS_DB,
-        _ => 0,
+        b'+' => Code::Add,
+        b'*' => Code::Multiply,
+        b'/' => Code::Node(Head::DIVIDE),
+        b'^' => Code::Node(Head::POWER),
+        b'<' => Code::Node(Head::LESS),
+        b'>' => Code::Node(Head::GREATER),
+        b'=' => Code::Node(Head::EQUAL),
+        b'?' => Code::Node(Head::CONDITIONAL),
+        b'L' => Code::Node(Head::LOG),
+        b'S' => Code::Node(Head::SIN),
+        b'C' => Code::Node(Head::COS),
+        b'F' => Code::Node(Head::FLOOR),
+        b'H' => Code::Node(Head::HILL),
+        b'M' => Code::Extremum,
+        b'X' => Code::Unless(0),
+        b'Y' => Code::Unless(1),
+        _ => Code::Nothing,
     }
 }
 
 // The code of a letter.
-fn code_of(letter: u8) -> u8
-    ensures { result ≡ code_of letter }
+#[tactic(auto, unfolding(crate::specs::Notation::code_of))]
+fn code_of(letter: u8) -> Code
+    ensures { Reads result (code_of letter) }
 {
     match letter {
-        b'a' => A,
-        b'b' => B,
-        b'c' => C,
-        b'x' => DA,
-        b'y' => DB,
-        b'z' => DC,
-        b'w' => WHOLE,
-        b'0' => ZERO,
-        b'1' => ONE,
-        b'2' => TWO,
-        b'3' => THREE,
-        b'h' => HALF,
-        b't' => THREE_HALVES,
-        b'-' => MINUS_ONE,
-        b'e' => TINY,
-        b'T' => LN_TEN,
-        b'n' => N,
-        b'm' => N_LESS_ONE,
-        b'o' => ZEROTH,
+        b'a' => Code::Child(0),
+        b'b' => Code::Child(1),
+        b'c' => Code::Child(2),
+        b'x' => Code::Derivative(0),
+        b'y' => Code::Derivative(1),
+        b'z' => Code::Derivative(2),
+        b'w' => Code::Whole,
+        b'0' => Code::Literal(Literal::Zero),
+        b'1' => Code::Literal(Literal::One),
+        b'2' => Code::Literal(Literal::Two),
+        b'3' => Code::Literal(Literal::Three),
+        b'h' => Code::Literal(Literal::Half),
+        b't' => Code::Literal(Literal::ThreeHalves),
+        b'-' => Code::Literal(Literal::MinusOne),
+        b'e' => Code::Literal(Literal::Tiny),
+        b'T' => Code::Literal(Literal::LnTen),
+        b'n' => Code::Literal(Literal::Exponent),
+        b'm' => Code::Literal(Literal::ExponentLessOne),
+        b'o' => Code::Literal(Literal::Zeroth),
         _ => operator_code(letter),
     }
 }
 
-// A code of a rule, 0 past its end.
-pub fn code(q: usize, i: usize) -> u8
-    ensures { result ≡ code_at q i }
-{
-    code_of(letter(q, i))
-}
-
-// How many parts follow a code.
-pub fn parts_of(kind: usize, operator: usize) -> usize
-    ensures { (result ≡ parts kind operator) × (result ≤ 3) }
-{
-    match kind {
-        4 => 2,
-        5 => 2,
-        6 => 1,
-        7 => { if operator == 13 { 3 } else { 1 } }
-        8 => 3,
-        9 => 2,
-        10 => 2,
-        _ => 0,
+impl Code {
+    // How many parts follow it.
+    pub fn parts(self) -> usize
+        ensures { result ≡ parts_in self }
+    {
+        match self {
+            Code::Node(head) => usize::from(head.children),
+            Code::Unless(_) => 1,
+            Code::Add | Code::Multiply => 2,
+            _ => 0,
+        }
     }
 }
 
-// The code after the part that starts at a code.
-pub fn end_of(q: usize, i: usize, levels: usize) -> usize
-    ensures { result ≡ end_at levels q i }
-{
-    if levels == 0 {
-        return i;
+// A part of a rule: the number of the rule, where the part starts, and how many levels it may have.
+#[derive(Clone, Copy)]
+pub struct RulePart {
+    pub rule: usize,
+    pub start: usize,
+    pub levels: usize,
+}
+
+impl RulePart {
+    // A whole rule.
+    pub fn whole(rule: usize) -> RulePart
+        ensures { result ≡ record { rule = rule; start = 0; levels = 16 } }
+    {
+        RulePart {
+            rule,
+            start: 0,
+            levels: 16,
+        }
     }
-    if i >= 128 {
-        return i;
+
+    // The code that it starts with.
+    #[tactic(auto, unfolding(crate::specs::Notation::code_at))]
+    pub fn code(self) -> Code
+        ensures { Reads result (code_at self.rule self.start) }
+    {
+        code_of(letter(self.rule, self.start))
     }
-    let c = wide(code(q, i));
-    let mut left = parts_of(c / 16, c % 16);
-    let mut end = i + 1;
-    while left > 0 {
-        end = end_of(q, end, levels - 1);
-        left -= 1;
+
+    // Where it ends: the start of the part after it.
+    pub fn end(self) -> usize
+        ensures { result ≡ end_at self.levels self.rule self.start }
+    {
+        if self.levels == 0 || self.start >= 128 {
+            return self.start;
+        }
+        let parts = self.code().parts();
+        let mut end = self.start + 1;
+        for _part in 0..parts {
+            let part = RulePart {
+                start: end,
+                levels: self.levels - 1,
+                ..self
+            };
+            end = part.end();
+        }
+        end
     }
-    end
 }

@@ -17,7 +17,8 @@ use Rattle.derivative.proofs.Homomorphism.{get_d_map}
 use Rattle.derivative.proofs.Attributes.{instance_right}
 use Rattle.reader.specs.Read.{is_some}
 use Rattle.rules.specs.Notation.{rule_at, rules_from, end_at, code_at, decoded, made, coded_head, parts, or_zero, literal_code, literal_rule, extremum}
-use Rattle.rules.proofs.Ends.{codes_valid, plain, writes, valid}
+use Rattle.rules.proofs.Ends.{codes_valid, plain, valid}
+use Rattle.rules.specs.Codes.{writes}
 use Rattle.survey.specs.Derived.{children_of, child_of, derived_of, derived_all, zero_literal, rule_for, parts_of}
 use Rattle.survey.specs.Worked.{attribute_parts, worked, worked_all, literal_attributes, inner}
 
@@ -85,25 +86,25 @@ rule_literal t d q i c z h e p = rule_some t d q i c z h e ∙ decoded_past t (d
 abbrev pub rules_for : Formula → ℕ → ℕ → ℕ → ℕ → Rules
 rules_for t d q left i = rules_from (λ j. rule_for t d q j) (λ j. end_at d q j) left i
 
--- the kinds that are left when all others are not
+-- a kind that writes a node
 pub record Writing (k : ℕ) : Type 0 where
   pub writes_node : writes k ≡ true
   pub decodes : (t : Formula) (d q o i : ℕ) → decoded_for t d q k o i ≡ made (coded_head k o) (rules_for t d q (parts k o) i)
 
-pub writing : (k : ℕ) → k < 12 → (k ≡ 0 → ⊥) → (k ≡ 1 → ⊥) → (k ≡ 2 → ⊥) → (k ≡ 3 → ⊥) → (k ≡ 6 → ⊥) → (k ≡ 9 → ⊥) → (k ≡ 10 → ⊥) → (k ≡ 11 → ⊥) → Writing k
-writing zero h h0 h1 h2 h3 h6 h9 h10 h11 = absurd (h0 refl)
-writing (suc zero) h h0 h1 h2 h3 h6 h9 h10 h11 = absurd (h1 refl)
-writing (suc (suc zero)) h h0 h1 h2 h3 h6 h9 h10 h11 = absurd (h2 refl)
-writing (suc (suc (suc zero))) h h0 h1 h2 h3 h6 h9 h10 h11 = absurd (h3 refl)
-writing (suc (suc (suc (suc zero)))) h h0 h1 h2 h3 h6 h9 h10 h11 = record { writes_node = refl; decodes = λ t d q o i. refl }
-writing (suc (suc (suc (suc (suc zero))))) h h0 h1 h2 h3 h6 h9 h10 h11 = record { writes_node = refl; decodes = λ t d q o i. refl }
-writing (suc (suc (suc (suc (suc (suc zero)))))) h h0 h1 h2 h3 h6 h9 h10 h11 = absurd (h6 refl)
-writing (suc (suc (suc (suc (suc (suc (suc zero))))))) h h0 h1 h2 h3 h6 h9 h10 h11 = record { writes_node = refl; decodes = λ t d q o i. refl }
-writing (suc (suc (suc (suc (suc (suc (suc (suc zero)))))))) h h0 h1 h2 h3 h6 h9 h10 h11 = record { writes_node = refl; decodes = λ t d q o i. refl }
-writing (suc (suc (suc (suc (suc (suc (suc (suc (suc zero))))))))) h h0 h1 h2 h3 h6 h9 h10 h11 = absurd (h9 refl)
-writing (suc (suc (suc (suc (suc (suc (suc (suc (suc (suc zero)))))))))) h h0 h1 h2 h3 h6 h9 h10 h11 = absurd (h10 refl)
-writing (suc (suc (suc (suc (suc (suc (suc (suc (suc (suc (suc zero))))))))))) h h0 h1 h2 h3 h6 h9 h10 h11 = absurd (h11 refl)
-writing (suc (suc (suc (suc (suc (suc (suc (suc (suc (suc (suc (suc k)))))))))))) h h0 h1 h2 h3 h6 h9 h10 h11 = absurd (omega arith)
+writing_kind : (k : ℕ) → writes k ≡ true → Writing k
+writing_kind zero e = let z : ◌≡◌ {A = ℕ} 0 1 = cc in absurd (omega arith)
+writing_kind (suc zero) e = let z : ◌≡◌ {A = ℕ} 0 1 = cc in absurd (omega arith)
+writing_kind (suc (suc zero)) e = let z : ◌≡◌ {A = ℕ} 0 1 = cc in absurd (omega arith)
+writing_kind (suc (suc (suc zero))) e = let z : ◌≡◌ {A = ℕ} 0 1 = cc in absurd (omega arith)
+writing_kind (suc (suc (suc (suc zero)))) e = record { writes_node = refl; decodes = λ t d q o i. refl }
+writing_kind (suc (suc (suc (suc (suc zero))))) e = record { writes_node = refl; decodes = λ t d q o i. refl }
+writing_kind (suc (suc (suc (suc (suc (suc zero)))))) e = let z : ◌≡◌ {A = ℕ} 0 1 = cc in absurd (omega arith)
+writing_kind (suc (suc (suc (suc (suc (suc (suc zero))))))) e = record { writes_node = refl; decodes = λ t d q o i. refl }
+writing_kind (suc (suc (suc (suc (suc (suc (suc (suc zero)))))))) e = record { writes_node = refl; decodes = λ t d q o i. refl }
+writing_kind (suc (suc (suc (suc (suc (suc (suc (suc (suc k))))))))) e = let z : ◌≡◌ {A = ℕ} 0 1 = cc in absurd (omega arith)
+
+pub writing : (c : ℕ) → writes (c / 16) ≡ true → Writing (c / 16)
+writing c e = writing_kind (c / 16) e
 
 -- a code's head, which is no literal
 pub record Coded (k o : ℕ) : Type 0 where

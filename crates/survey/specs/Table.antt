@@ -9,7 +9,8 @@ use Rattle.derivative.specs.Differentiate.{differentiate, first_depends, second_
 use Rattle.derivative.specs.Attributes.{attributes_of}
 use Rattle.derivative.specs.Attributes as Spec
 use Rattle.reader.specs.Read.{is_some}
-use Rattle.rules.specs.Notation.{rule_number}
+use Rattle.rules.specs.Notation.{rule_number, code_at}
+use Rattle.rules.specs.declared.RulePart.{RulePart}
 use Rattle.survey.specs.Derived.{derived, zero_literal, children_of}
 use Rattle.survey.specs.declared.Attributes.{Attributes}
 use Rattle.survey.specs.declared.Row.{Row}
@@ -101,6 +102,11 @@ unfolding tree
 number_of s by_state f k =
     let ts = children_of (tree f k) in
     rule_number by_state (first_depends s ts) (count ts) (second_literal ts) (byte_at f (node_size * k)) (byte_at f (node_size * k + 1))
+
+-- the rule of a node is the whole rule of its number, where that has a code
+abbrev pub IsRule : ℕ → Bool → List ℕ → ℕ → Given RulePart → Type 0
+IsRule s by_state f k None = code_at (number_of s by_state f k) 0 ≡ 0
+IsRule s by_state f k (Some r) = (r ≡ record { rule = number_of s by_state f k; start = 0; levels = 16 }) × (code_at (number_of s by_state f k) 0 ≡ 0 → ⊥)
 
 -- ---- filling the table
 

@@ -10,12 +10,13 @@ ghost use Rattle.derivative.specs.Differentiate.{literal_bits, second_literal, f
 ghost use Rattle.derivative.specs.Attributes.{attribute_algebra, attributes_of, primal_attributes, survey as survey_of};
 ghost use Rattle.reader.specs.Read.{is_some};
 ghost use Rattle.rules.specs.Notation.{or_zero, literal_code, extremum as extremum_of, power_number};
+ghost use Rattle.rules.specs.Codes.{literal_number};
 ghost use Rattle.survey.specs.Derived.{children_of, head_of_tree, child_of, derived, derived_of, ruled};
-ghost use Rattle.survey.specs.Table.{tree, number_of, reading, option_of, or_literal, row_in, Owned, Ready, IsChild, Room, Filled, found};
+ghost use Rattle.survey.specs.Table.{tree, number_of, IsRule, reading, option_of, or_literal, row_in, Owned, Ready, IsChild, Room, Filled, found};
 ghost use Rattle.survey.specs.Worked.{attribute_parts, worked, worked_all, summed, literal_attributes, inner, over_sum, Capped};
 
-use reader::{NODE_SIZE, byte, half, long, wide, word};
-use rules::{code, end_of, parts_of};
+use reader::{NODE_SIZE, byte, half, long, word};
+use rules::{Code, Literal, RulePart};
 
 // The bits of the literals 1 and -0.
 const ONE: u64 = 0x3ff0000000000000;
@@ -270,23 +271,22 @@ impl<'a> Node<'a> {
     }
 
     // The bits of a rule's literal.
-    pub fn literal_bits(&self, which: usize) -> u64
-        ensures { result ≡ literal_code (or_zero (second_literal (children_of (tree self.now.formula.now self.now.number)))) which }
+    pub fn literal_bits(&self, literal: Literal) -> u64
+        ensures { result ≡ literal_code (or_zero (second_literal (children_of (tree self.now.formula.now self.now.number)))) (literal_number literal) }
     {
-        match which {
-            0 => 0,
-            1 => ONE,
-            2 => 0x4000000000000000,
-            3 => 0x4008000000000000,
-            4 => 0x3fe0000000000000,
-            5 => 0x3ff8000000000000,
-            6 => 0xbff0000000000000,
-            7 => 0x3e45798ee2308c3a,
-            8 => 0x40026bb1bbb55516,
-            9 => self.exponent_bits(),
-            10 => less_one(self.exponent_bits()),
-            11 => ONE,
-            _ => 0,
+        match literal {
+            Literal::Zero => 0,
+            Literal::One => ONE,
+            Literal::Two => 0x4000000000000000,
+            Literal::Three => 0x4008000000000000,
+            Literal::Half => 0x3fe0000000000000,
+            Literal::ThreeHalves => 0x3ff8000000000000,
+            Literal::MinusOne => 0xbff0000000000000,
+            Literal::Tiny => 0x3e45798ee2308c3a,
+            Literal::LnTen => 0x40026bb1bbb55516,
+            Literal::Exponent => self.exponent_bits(),
+            Literal::ExponentLessOne => less_one(self.exponent_bits()),
+            Literal::Zeroth => ONE,
         }
     }
 }
@@ -347,53 +347,58 @@ impl<'a> Part<'a> {
         selected
     }
 
-    // What the part of a rule that starts at a code gives.
+    // What a part of a rule gives.
     #[cycle(rules)]
-    pub fn rule_attributes(&self, q: usize, i: usize, levels: usize) -> Attributes
-        ensures { reading result ≡ worked self.now.by.symbol self.now.by.state (tree self.now.node.formula.now self.now.node.number) levels q i }
+    pub fn rule_attributes(&self, here: RulePart) -> Attributes
+        ensures { reading result ≡ worked self.now.by.symbol self.now.by.state (tree self.now.node.formula.now self.now.node.number) here.levels here.rule here.start }
     {
-        if levels == 0 || i >= 128 {
+        if here.levels == 0 || here.start >= 128 {
             return Attributes::of_literal(0);
         }
-        let c = wide(code(q, i));
-        let kind = c / 16;
-        if kind >= 12 {
-            return Attributes::of_literal(self.node.literal_bits(c % 16));
-        }
-        match kind {
-            0 => Attributes::of_literal(0),
-            1 => self.node.child_attributes(c % 16),
-            2 => self.diff_attributes(c % 16),
-            3 => self.node.attributes(),
-            6 => {
-                if self.diff_attributes(c % 16).is_zero() {
+        let first = RulePart {
+            start: here.start + 1,
+            levels: here.levels - 1,
+            ..here
+        };
+        let code = here.code();
+        match code {
+            Code::Nothing => Attributes::of_literal(0),
+            Code::Child(i) => self.node.child_attributes(i),
+            Code::Derivative(i) => self.diff_attributes(i),
+            Code::Whole => self.node.attributes(),
+            Code::Node(_) => self.rules_attributes(first, code.parts()).above(),
+            Code::Unless(i) => {
+                if self.diff_attributes(i).is_zero() {
                     return Attributes::of_literal(0);
                 }
-                self.rule_attributes(q, i + 1, levels - 1)
+                self.rule_attributes(first)
             }
-            9 => {
-                let a = self.rule_attributes(q, i + 1, levels - 1);
-                let j = end_of(q, i + 1, levels - 1);
-                a.add(self.rule_attributes(q, j, levels - 1))
+            Code::Add => {
+                let second = RulePart {
+                    start: first.end(),
+                    ..first
+                };
+                let a = self.rule_attributes(first);
+                a.add(self.rule_attributes(second))
             }
-            10 => {
-                let a = self.rule_attributes(q, i + 1, levels - 1);
-                let j = end_of(q, i + 1, levels - 1);
-                a.multiply(self.rule_attributes(q, j, levels - 1))
+            Code::Multiply => {
+                let second = RulePart {
+                    start: first.end(),
+                    ..first
+                };
+                let a = self.rule_attributes(first);
+                a.multiply(self.rule_attributes(second))
             }
-            11 => self.extremum(),
-            _ => {
-                let n = parts_of(kind, c % 16);
-                self.rules_attributes(q, i + 1, n, levels - 1).above()
-            }
+            Code::Extremum => self.extremum(),
+            Code::Literal(literal) => Attributes::of_literal(self.node.literal_bits(literal)),
         }
     }
 
     // Of so many parts one after another.
     #[cycle(rules)]
-    fn rules_attributes(&self, q: usize, i: usize, left: usize, levels: usize) -> Sum
+    fn rules_attributes(&self, here: RulePart, left: usize) -> Sum
         requires { left ≤ 3 }
-        ensures { result ≡ summed (worked_all self.now.by.symbol self.now.by.state (tree self.now.node.formula.now self.now.node.number) levels q left i) }
+        ensures { result ≡ summed (worked_all self.now.by.symbol self.now.by.state (tree self.now.node.formula.now self.now.node.number) here.levels here.rule left here.start) }
     {
         if left == 0 {
             return Sum {
@@ -401,8 +406,12 @@ impl<'a> Part<'a> {
                 levels: 0,
             };
         }
-        let a = self.rule_attributes(q, i, levels);
-        let rest = self.rules_attributes(q, end_of(q, i, levels), left - 1, levels);
+        let next = RulePart {
+            start: here.end(),
+            ..here
+        };
+        let a = self.rule_attributes(here);
+        let rest = self.rules_attributes(next, left - 1);
         Sum {
             nodes: a.nodes + rest.nodes,
             levels: a.levels.max(rest.levels),
@@ -420,12 +429,12 @@ impl<'a> Part<'a> {
     }
 
     // The number of the rule: its kind and its operator, but for Power by a literal, Hill by a state, and what has no rule.
-    pub fn rule(&self) -> usize
+    fn rule_number(&self) -> usize
         ensures { result ≡ number_of self.now.by.symbol self.now.by.state self.now.node.formula.now self.now.node.number }
     {
         let at = NODE_SIZE * self.node.number;
         let formula = self.node.formula;
-        let q = 16 * wide(byte(formula, at)) + wide(byte(formula, at + 1));
+        let q = 16 * usize::from(byte(formula, at)) + usize::from(byte(formula, at + 1));
         match q {
             0x44 => power_rule(self.node.exponent()),
             0x7d => {
@@ -453,6 +462,17 @@ impl<'a> Part<'a> {
         }
     }
 
+    // The rule, where there is one.
+    pub fn rule(&self) -> Option<RulePart>
+        ensures { IsRule self.now.by.symbol self.now.by.state self.now.node.formula.now self.now.node.number result }
+    {
+        let whole = RulePart::whole(self.rule_number());
+        match whole.code() {
+            Code::Nothing => None,
+            _ => Some(whole),
+        }
+    }
+
     // Of the derivative, where a node that has the symbol has a rule. "A part without the symbol gives 0 before any rule is
     // tried."
     fn diff(&self, has: bool) -> Option<Attributes>
@@ -462,11 +482,10 @@ impl<'a> Part<'a> {
         if !has {
             return Some(Attributes::of_literal(0));
         }
-        let q = self.rule();
-        if code(q, 0) == 0 {
-            return None;
+        match self.rule() {
+            Some(rule) => Some(self.rule_attributes(rule)),
+            None => None,
         }
-        Some(self.rule_attributes(q, 0, 16))
     }
 }
 
