@@ -6,8 +6,9 @@ use Prim.Native.Nat.{ℕ, zero, suc, ◌+◌, ◌*◌, ◌/◌, ◌%◌, ◌≤�
 use native.Mathlib.Omega.{arith}
 use lib.Dec.{eqb}
 use borrow.Author.Tests.{eq-eqb, ne_eqb}
-use lib.ListN.{length, get_or, take, drop}
-use Rattle.formula.specs.Text.{byte_at, half_at}
+use lib.ListN.{length, get_or, take, drop, replicate}
+use Rattle.formula.specs.Text.{byte_at, half_at, little_endian}
+use Rattle.writer.specs.Over.{over}
 use Rattle.formula.specs.Operator.{unary, binary, compare, call, Positive, Negative, Not, Add, Subtract, Multiply, Divide, Power, Modulo, Exp, Log, Log10, Sqrt, Sin, Cos, Tan, Tanh, Abs, Floor, Ceil, Min, Max, Hill, InverseGaussianDensity}
 use Rattle.formula.specs.Formula.{Head, number, truth, symbol, operation, junction, ifelse, conditional, malformed, Formula, node, last, size, well_formed}
 use Rattle.formula.specs.Node.{Fields, fields_at, fields_of, encode, node_bytes, inner_fields, node_size}
@@ -19,7 +20,8 @@ use Rattle.reader.proofs.Encode.{copied_tree, encode_length}
 use Rattle.derivative.specs.Differentiate.{second_literal}
 use Rattle.rules.specs.Notation.{or_zero, literal_code}
 use Rattle.survey.specs.Derived.{children_of}
-use Rattle.survey.specs.Table.{tree, Owned, IsChild}
+use Rattle.survey.specs.Table.{tree, Owned, IsChild, row_in}
+use Rattle.survey.specs.declared.Row.{Row}
 use Rattle.survey.proofs.Rows.{own_row}
 use Rattle.survey.proofs.Trees.{tree_ends, opened}
 use Rattle.differentiate.specs.Written.{start, step, bytes, coded_arm, arm_of, arm_literal, literal_part, copy_of}
@@ -34,25 +36,17 @@ node_is k o n h =
     sym (ap (λ (x : ℕ). k ∷ o ∷ x ∷ n / 256 % 256 ∷ 0 ∷ 0 ∷ 0 ∷ 0 ∷ 0 ∷ 0 ∷ 0 ∷ 0 ∷ 0 ∷ 0 ∷ 0 ∷ 0 ∷ []) a
     ∙ ap (λ (x : ℕ). k ∷ o ∷ n ∷ x ∷ 0 ∷ 0 ∷ 0 ∷ 0 ∷ 0 ∷ 0 ∷ 0 ∷ 0 ∷ 0 ∷ 0 ∷ 0 ∷ 0 ∷ []) z)
 
-pub literal_is : (b x0 x1 x2 x3 x4 x5 x6 x7 : ℕ) → x0 ≡ b % 256 → x1 ≡ b / 256 % 256 → x2 ≡ b / 256 / 256 % 256 → x3 ≡ b / 256 / 256 / 256 % 256
-    → x4 ≡ b / 256 / 256 / 256 / 256 % 256 → x5 ≡ b / 256 / 256 / 256 / 256 / 256 % 256 → x6 ≡ b / 256 / 256 / 256 / 256 / 256 / 256 % 256
-    → x7 ≡ b / 256 / 256 / 256 / 256 / 256 / 256 / 256 % 256
-    → 0 ∷ 0 ∷ 0 ∷ 0 ∷ 0 ∷ 0 ∷ 0 ∷ 0 ∷ x0 ∷ x1 ∷ x2 ∷ x3 ∷ x4 ∷ x5 ∷ x6 ∷ x7 ∷ [] ≡ encode (node (number b) last)
-unfolding encode node_bytes
-literal_is b x0 x1 x2 x3 x4 x5 x6 x7 e0 e1 e2 e3 e4 e5 e6 e7 = rw (e0, e1, e2, e3, e4, e5, e6, e7)
+pub literal_is : (b : ℕ) → over (replicate 16 0) 8 (little_endian 8 b) ≡ encode (node (number b) last)
+unfolding over encode node_bytes
+literal_is b = refl
 
-module _ (f T : List ℕ) (k : ℕ) (o : Owned f T k) where
-  pub tree_room : node_size * k + node_size * get_or T (8 * k) 0 ≤ length f
+module _ (f : List ℕ) (T : List Row) (k : ℕ) (o : Owned f T k) where
+  pub tree_room : node_size * k + node_size * (row_in T k).nodes ≤ length f
   tree_room = omega (arith, (own_row f T k o).nodes, tree_ends f k o.formed)
 
-  pub tree_bytes : Bytes f → (n : ℕ) → n ≡ node_size * get_or T (8 * k) 0 → take n (drop (node_size * k) f) ≡ encode (tree f k)
-  unfolding tree
-  tree_bytes h n e =
-      let p : n ≡ node_size * size (tree f k) = omega (arith, (own_row f T k o).nodes) in
-      ap (λ (m : ℕ). take m (drop (node_size * k) f)) p ∙ sym (copied_tree f h (length f) (node_size * k) o.formed)
-
-  pub tree_fits : (out : List ℕ) → length (encode (tree f k)) ≤ length out → node_size * get_or T (8 * k) 0 ≤ length out
-  tree_fits out h = omega (arith, (own_row f T k o).nodes, encode_length (tree f k))
+pub tree_bytes : (f : List ℕ) (k : ℕ) → well_formed (tree f k) ≡ true → Bytes f → (n : ℕ) → n ≡ node_size * size (tree f k) → take n (drop (node_size * k) f) ≡ encode (tree f k)
+unfolding tree
+tree_bytes f k w h n e = ap (λ (m : ℕ). take m (drop (node_size * k) f)) e ∙ sym (copied_tree f h (length f) (node_size * k) w)
 
 -- ---- a node or its record
 
@@ -106,8 +100,8 @@ bytes_room false t x n e h = omega (arith, ap length e, bytes_length false t, si
 
 -- ---- copies
 
-module _ (f T : List ℕ) (k : ℕ) (o : Owned f T k) (m : Bool) where
-  pub copy_record : m ≡ true → list_bytes (numbered k (get_or T (8 * k) 0)) ≡ bytes m (copy k (tree f k))
+module _ (f : List ℕ) (T : List Row) (k : ℕ) (o : Owned f T k) (m : Bool) where
+  pub copy_record : m ≡ true → list_bytes (numbered k ((row_in T k).nodes)) ≡ bytes m (copy k (tree f k))
   copy_record e =
       ap (λ (n : ℕ). list_bytes (numbered k n)) (own_row f T k o).nodes ∙ copy_numbers k (tree f k) ∙ sym (ap (λ (x : Bool). bytes x (copy k (tree f k))) e)
 

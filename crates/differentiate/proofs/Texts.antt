@@ -1,5 +1,5 @@
 -- What each writer writes is the bytes of its part: its nodes, or its records.
-use mathlib.Core.Path.{◌≡◌, refl, sym, ap, ◌∙◌}
+use mathlib.Core.Path.{◌≡◌, refl, sym, ap, ◌∙◌, subst}
 use mathlib.Core.Bool.{Bool, true, false, cond, ◌||◌}
 use mathlib.Core.List.{List, [], ◌∷◌, ◌++◌, append_assoc, append-nil}
 use mathlib.Core.Option.{Option, none, some}
@@ -10,7 +10,7 @@ use lib.Dec.{eqb}
 use borrow.Author.Tests.{eqb-true, eq-eqb, ne_eqb}
 use Rattle.formula.specs.Operator.{binary, Add, Multiply}
 use Rattle.formula.specs.Text.{half_at}
-use Rattle.formula.specs.Formula.{Formula, operation, node, count, depends, well_formed}
+use Rattle.formula.specs.Formula.{Formula, operation, node, count, depth, depends, well_formed}
 use Rattle.formula.specs.Node.{Fields, node_bytes, inner_fields, fields_of, node_size}
 use Rattle.derivative.specs.Rules.{Parts, Rule, child, whole, diff, make, lit, 0·0, instance, instances, unless_zero, zeroth, zero_of}
 use Rattle.derivative.specs.Differentiate.{formulas, the_rule}
@@ -23,7 +23,8 @@ use Rattle.reader.proofs.Heads.{head_fields}
 use Rattle.reader.proofs.Trees.{size_pos}
 use Rattle.rules.specs.Notation.{end_at, code_at, parts, literal_code, literal_rule, extremum}
 use Rattle.survey.specs.Derived.{parts_of, rule_for, children_of, derived_of, zero_literal, head_of_tree, or_else}
-use Rattle.survey.specs.Table.{tree, reading, number_of, IsChild, Ready}
+use Rattle.survey.specs.Table.{tree, reading, number_of, row_in, IsChild, Ready}
+use Rattle.survey.specs.declared.Row.{Row}
 use Rattle.survey.specs.Worked.{worked}
 use Rattle.survey.specs.declared.Attributes as Declared
 use Rattle.survey.proofs.Rows.{owned_child}
@@ -31,6 +32,7 @@ use Rattle.survey.proofs.Worked.{rule_none, rule_long, rule_kind, rule_literal, 
 use Rattle.survey.proofs.Chosen.{no_rule, some_rule}
 use Rattle.differentiate.specs.Written.{Known, Task, start, bytes, bytes_all, arm_of, arms, arm_literal, literal_part, arm_node, recorded, recorded_all, recorded_parts, copy_of, recorded_of, part, parts_bytes, extremum_bytes, extremum_tree, tie_bytes, sum_bytes, product_bytes}
 use Rattle.differentiate.proofs.Lists.{room_as}
+use Rattle.differentiate.proofs.Leaves.{child_text}
 use Rattle.differentiate.proofs.Recorded.{erase_recorded_all, erase_parts, recorded_is, recorded_none}
 
 recorded_by : (s : ℕ) (b : Bool) (k : ℕ) (t : Formula) → recorded s b k t
@@ -138,6 +140,14 @@ module _ (m : Bool) (s : ℕ) (b : Bool) (k : ℕ) (t : Formula) where
         (sym (head_fields (inner_fields (c / 16) (c % 16) n) h.head h.is))
         ∙ ap (λ (x : ℕ). start m (record_of (arm_of t) k) (node_bytes (fields_of h.head x)) ++ bytes_all m ts) (sym (instances_count (d - 1) q n (i + 1)))
         ∙ text_by d q i (make h.head (rules_for t (d - 1) q n (i + 1))) (rule_node t d q i c nz lt e w h)
+
+    pub text_head : (kind op children left : ℕ) → kind ≡ c / 16 → op ≡ c % 16 → children ≡ parts (c / 16) (c % 16) → left ≡ parts (c / 16) (c % 16) → Writing (c / 16)
+        → arm_node m k t kind op children ++ parts_bytes m s b k t (d - 1) q left (i + 1) ≡ text
+    text_head kind op children left ek eo ec el w =
+        ap (λ (x : ℕ). arm_node m k t x op children ++ parts_bytes m s b k t (d - 1) q left (i + 1)) ek
+        ∙ ap (λ (x : ℕ). arm_node m k t (c / 16) x children ++ parts_bytes m s b k t (d - 1) q left (i + 1)) eo
+        ∙ ap (λ (x : ℕ). arm_node m k t (c / 16) (c % 16) x ++ parts_bytes m s b k t (d - 1) q left (i + 1)) (ec ∙ sym el)
+        ∙ text_node w left el
 
   -- ---- parts one after another
 
@@ -264,19 +274,19 @@ module _ (m : Bool) (s : ℕ) (b : Bool) (k : ℕ) (t : Formula) where
 
 -- ---- the derivative of a node
 
-module _ (m : Bool) (s : ℕ) (b : Bool) (f T : List ℕ) (k : ℕ) (o : Known s b f T k) where
+module _ (m : Bool) (s : ℕ) (b : Bool) (f : List ℕ) (T : List Row) (k : ℕ) (o : Known s b f T k) where
   pub ready_of : Ready s b f T k
   ready_of = record { owned = o.owned; below = λ j x y. o.survey j (omega arith) y }
 
-  own_survey : eqb (get_or T (8 * k + 2) 0) 1 ≡ depends s (tree f k)
+  own_survey : (row_in T k).has ≡ depends s (tree f k)
   own_survey = (o.survey k (omega arith) (omega (arith, size_pos (tree f k)))).has
 
-  pub has_not : (get_or T (8 * k + 2) 0 ≡ 1 → ⊥) → bytes m (recorded_literal without_symbol k 0) ≡ bytes m (recorded s b k (tree f k))
-  has_not h = ap (bytes m) (sym (recorded_without s b k (tree f k) (sym own_survey ∙ ne_eqb (get_or T (8 * k + 2) 0) 1 h)))
+  pub has_not : (row_in T k).has ≡ false → bytes m (recorded_literal without_symbol k 0) ≡ bytes m (recorded s b k (tree f k))
+  has_not h = ap (bytes m) (sym (recorded_without s b k (tree f k) (sym own_survey ∙ h)))
 
-  module _ (h : get_or T (8 * k + 2) 0 ≡ 1) (q : ℕ) (e : q ≡ number_of s b f k) where
+  module _ (h : (row_in T k).has ≡ true) (q : ℕ) (e : q ≡ number_of s b f k) where
     has_it : depends s (tree f k) ≡ true
-    has_it = sym own_survey ∙ eq-eqb (get_or T (8 * k + 2) 0) 1 h
+    has_it = sym own_survey ∙ h
 
     pub without_rule : code_at q 0 ≡ 0 → bytes m (recorded_literal without_symbol k 0) ≡ bytes m (recorded s b k (tree f k))
     without_rule z = ap (bytes m) (sym (recorded_ruled s b k (tree f k) none has_it (no_rule s b f k o.owned.formed q e z)))
@@ -297,5 +307,25 @@ pub no_diff : (m : Bool) (s : ℕ) (b : Bool) (f : List ℕ) (k i : ℕ) → wel
     → arm_literal m k (tree f k) 0 ≡ bytes m (recorded_of s b k (tree f k) i)
 no_diff m s b f k i w h = ap (bytes m) (sym (recorded_none f k i w h s b))
 
-pub task_as : (s : ℕ) (b : Bool) (f T : List ℕ) (k d : ℕ) (x y out : List ℕ) → x ≡ y → Task s b f T k d y out → Task s b f T k d x out
+pub task_as : (s : ℕ) (b : Bool) (f : List ℕ) (T : List Row) (k d : ℕ) (x y out : List ℕ) → x ≡ y → Task s b f T k d y out → Task s b f T k d x out
 task_as s b f T k d x y out e t = record { known = t.known; deep = t.deep; room = room_as x y (length out) e t.room }
+
+-- ---- a child as the code has it
+
+module _ (m : Bool) (s : ℕ) (b : Bool) (f : List ℕ) (T : List Row) (k i : ℕ) (g : List ℕ) (U : List Row) (r : ℕ) (h : (g ≡ f) × (U ≡ T) × IsChild f k i r) where
+  pub copy_given : bytes m (copy r (tree g r)) ≡ bytes m (copy_of k (tree f k) i)
+  copy_given = ap (λ (x : List ℕ). bytes m (copy r (tree x r))) h.0 ∙ child_text m f k i r h.2
+
+  pub diff_given : bytes m (recorded s b r (tree g r)) ≡ bytes m (recorded_of s b k (tree f k) i)
+  diff_given = ap (λ (x : List ℕ). bytes m (recorded s b r (tree x r))) h.0 ∙ diff_text m s b f k i r h.2
+
+  pub task_given : (d : ℕ) (out : List ℕ) → Task s b f T k d (bytes m (recorded_of s b k (tree f k) i)) out
+      → Task s b g U r (d - 1) (bytes m (recorded s b r (tree g r))) out
+  task_given d out t =
+      record {
+        known =
+            subst (λ (x : List ℕ). Known s b x U r) (sym h.0)
+            (subst (λ (V : List Row). Known s b f V r) (sym h.1) (known_child m s b f T k t.known i r h.2));
+        deep = omega (arith, ap (λ (x : List ℕ). depth (tree x r)) h.0, h.2.shallower, t.deep);
+        room = room_as _ _ _ diff_given t.room;
+      }

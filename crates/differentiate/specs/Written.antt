@@ -5,11 +5,14 @@ use Rattle.formula.specs.Formula.{Formula, Formulas, last, next, node, count, si
 use Rattle.formula.specs.Node.{encode, inner_fields, node_bytes, fields_of, node_size}
 use Rattle.derivative.specs.Rules.{Algebra, Parts, instance, instances, extremum_from, add_of, mul_of, zero_of}
 use Rattle.derivative.specs.Differentiate.{derivative, second_literal, the_rule}
-use Rattle.derivative.specs.Records.{Record, Recorded, Recordeds, noted, stop, more, gathered, erase_all, arm, by_rule, recorded_literal, copy, copies, written_by, to_the_zeroth, without_symbol, outer, record_bytes, record_size, list_bytes}
+use Rattle.derivative.specs.Records.{Record, Recorded, Recordeds, noted, stop, more, gathered, erase_all, arm, by_rule, recorded_literal, copy, copies, written_by, beside_zero, to_the_zeroth, without_symbol, outer, record_bytes, record_size, list_bytes}
 use Rattle.reader.specs.Read.{is_some}
 use Rattle.rules.specs.Notation.{rules_from, end_at, extremum, or_zero, literal_code}
 use Rattle.survey.specs.Derived.{rule_for, children_of, head_of_tree, or_else}
 use Rattle.survey.specs.Table.{tree, Owned, Surveyed}
+use Rattle.survey.specs.declared.Row.{Row}
+use Rattle.differentiate.specs.declared.Origin.{Origin}
+use Rattle.differentiate.specs.declared.Origin.TheVariants as Origin
 
 -- t is written to the start, and its length is told
 pub record Writes (t out out' : List ℕ) (r : ℕ) : Type 0 where
@@ -17,12 +20,12 @@ pub record Writes (t out out' : List ℕ) (r : ℕ) : Type 0 where
   pub held : out' ≡ t ++ drop (length t) out
 
 -- all rows of a node and of what is below it
-pub record Known (s : ℕ) (by_state : Bool) (f T : List ℕ) (k : ℕ) : Type 0 where
+pub record Known (s : ℕ) (by_state : Bool) (f : List ℕ) (T : List Row) (k : ℕ) : Type 0 where
   pub owned : Owned f T k
   pub survey : (j : ℕ) → k ≤ j → j < k + size (tree f k) → Surveyed s by_state f T j
 
 -- a node, its rows, the levels that it may have, and room for what is to be written
-pub record Task (s : ℕ) (by_state : Bool) (f T : List ℕ) (k levels : ℕ) (t out : List ℕ) : Type 0 where
+pub record Task (s : ℕ) (by_state : Bool) (f : List ℕ) (T : List Row) (k levels : ℕ) (t out : List ℕ) : Type 0 where
   pub known : Known s by_state f T k
   pub deep : depth (tree f k) ≤ levels
   pub room : length t ≤ length out
@@ -67,6 +70,14 @@ coded_arm kind operator =
 -- what the arm of node k, the tree t, writes
 abbrev pub arm_of : Formula → ℕ
 arm_of t = arm (head_of_tree t)
+
+-- the number in the record of a node that is no copy
+abbrev pub rule_by : Origin → Formula → ℕ
+rule_by Origin.Arm t = arm_of t
+rule_by Origin.BesideZero t = beside_zero
+rule_by Origin.ToTheZeroth t = to_the_zeroth
+rule_by Origin.WithoutSymbol t = without_symbol
+rule_by Origin.Outer t = outer
 
 abbrev pub arms : ℕ → Formula → Algebra Recorded
 arms k t = written_by (arm_of t) k
@@ -137,25 +148,20 @@ unfoldable pub product_bytes : Bool → ℕ → Bool → ℕ → Formula → ℕ
 unfolding part
 product_bytes m s by_state k t d q i = bytes m (mul_of (arms k t) (part s by_state k t d q i) (part s by_state k t d q (end_at d q i)))
 
-pub record Small (kind operator children : ℕ) : Type 0 where
-  pub kind_byte : kind < 256
-  pub operator_byte : operator < 256
-  pub few : children ≤ 3
-
 -- an outer node
-abbrev pub outer_node : Bool → ℕ → ℕ → ℕ → List ℕ
-outer_node m kind operator count = start m (by_rule outer 0) (node_bytes (inner_fields kind operator count))
+abbrev pub outer_node : Bool → ℕ → ℕ → ℕ → ℕ → List ℕ
+outer_node m k kind operator count = start m (by_rule outer k) (node_bytes (inner_fields kind operator count))
 
--- an Add, a Multiply, the literal 0 and the formula
-abbrev pub primal_bytes : Bool → Formula → List ℕ
-primal_bytes m t = ((outer_node m 4 0 2 ++ outer_node m 4 2 2) ++ bytes m (recorded_literal outer 0 0)) ++ bytes m (copy 0 t)
+-- an Add, a Multiply, the literal 0 and the formula, whose root has the number k
+abbrev pub primal_bytes : Bool → ℕ → Formula → List ℕ
+primal_bytes m k t = ((outer_node m k 4 0 2 ++ outer_node m k 4 2 2) ++ bytes m (recorded_literal outer k 0)) ++ bytes m (copy k t)
 
 -- what is asked of a derivative: its records, or its nodes
 abbrev pub asked : Bool → List Record → Formula → List ℕ
 asked m rs d = cond m (list_bytes rs) (encode d)
 
 -- a formula that has a derivative, its rows, and room for what is asked of the derivative
-pub record Job (m : Bool) (s : ℕ) (by_state : Bool) (f T : List ℕ) (levels : ℕ) (out : List ℕ) : Type 0 where
+pub record Job (m : Bool) (s : ℕ) (by_state : Bool) (f : List ℕ) (T : List Row) (levels : ℕ) (out : List ℕ) : Type 0 where
   pub known : Known s by_state f T 0
   pub deep : depth (tree f 0) ≤ levels
   pub fine : is_some (derivative s by_state (tree f 0)) ≡ true

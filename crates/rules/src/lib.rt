@@ -48,7 +48,7 @@ impl Head {
         children: 2,
     };
 
-    const GREATER: Head = Head {
+    pub const GREATER: Head = Head {
         kind: 5,
         operator: 2,
         children: 2,

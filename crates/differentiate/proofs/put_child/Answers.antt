@@ -1,37 +1,27 @@
-use native.Mathlib.Omega.{arith}
-use Rattle.survey.proofs.Rows.{owned_child}
+use mathlib.Core.Bool.{false}
 use Rattle.differentiate.proofs.Lists.{as_text, room_as}
-use Rattle.differentiate.proofs.Leaves.{child_text, none_text, bytes_room}
+use Rattle.differentiate.proofs.Leaves.{bytes_room, none_text}
+use Rattle.differentiate.proofs.Texts.{copy_given}
 use Rattle.differentiate.proofs.put_child.Goals as goal
 
-pub put_tree-requires : goal.put_tree-requires
-put_tree-requires c =
-    let args = c.args in
-    let pre = c.requires in
-    let child = c.child in (
-      owned_child args.f.now args.table.now args.k args.i child.result pre.0 child.ensures,
-      room_as _ _ _ (child_text args.records args.f.now args.k args.i child.result child.ensures) pre.1,
-    )
+pub put_copy-requires : goal.put_copy-requires
+put_copy-requires g c =
+    room_as _ _ _
+    (copy_given g.F.Form.records 0 false c.args.node.now.formula.now c.args.node.now.rows.now c.args.node.now.number c.args.i c.in-Some.child.formula.now c.in-Some.child.rows.now c.in-Some.child.number c.in-Some.ensures)
+    c.requires
 
-pub returns-then-i-half : goal.returns-then-i-half
-returns-then-i-half c =
-    let args = c.args in
-    let child = c.child in
-    let put_tree = c.put_tree in
-    as_text _ _ _ _ _ (child_text args.records args.f.now args.k args.i child.result child.ensures) put_tree.ensures
+pub put_literal-requires : goal.put_literal-requires
+put_literal-requires g c =
+    bytes_room g.F.Form.records _ _ _ (none_text g.F.Form.records c.args.node.now.formula.now c.args.node.now.number c.args.i c.args.node.now.owned.formed c.in-None.ensures)
+    c.requires
 
-pub put_arm_literal-requires : goal.put_arm_literal-requires
-put_arm_literal-requires c =
-    let args = c.args in
-    let pre = c.requires in
-    let half = c.half in
-    (pre.0.formed, bytes_room args.records _ _ _ (none_text args.records args.f.now args.k args.i pre.0.formed (omega (arith, half.ensures.0, c.if-i-half.false))) pre.1)
+pub returns-in-Some : goal.returns-in-Some
+returns-in-Some g c =
+    as_text _ _ _ _ _
+    (copy_given g.F.Form.records 0 false c.args.node.now.formula.now c.args.node.now.rows.now c.args.node.now.number c.args.i c.in-Some.child.formula.now c.in-Some.child.rows.now c.in-Some.child.number c.in-Some.ensures)
+    c.put_copy.ensures
 
-pub returns : goal.returns
-returns c =
-    let args = c.args in
-    let pre = c.requires in
-    let half = c.half in
-    let if1 = c.if-i-half in
-    let put_arm_literal = c.put_arm_literal in
-    as_text _ _ _ _ _ (none_text args.records args.f.now args.k args.i pre.0.formed (omega (arith, half.ensures.0, if1.false))) put_arm_literal.ensures
+pub returns-in-None : goal.returns-in-None
+returns-in-None g c =
+    as_text _ _ _ _ _ (none_text g.F.Form.records c.args.node.now.formula.now c.args.node.now.number c.args.i c.args.node.now.owned.formed c.in-None.ensures)
+    c.put_literal.ensures

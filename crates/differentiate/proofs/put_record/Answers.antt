@@ -1,8 +1,13 @@
+use mathlib.Core.Path.{refl}
+use Prim.Native.Nat.{◌+◌}
 use native.Mathlib.Omega.{arith}
-use Rattle.derivative.specs.Records.{by_rule, record_bytes}
-use Rattle.differentiate.proofs.Lists.{written_over}
-use Rattle.differentiate.proofs.Recorded.{record_length}
+use Rattle.formula.specs.Text.{little_endian}
+use Rattle.derivative.specs.Records.{record_bytes}
+use Rattle.writer.proofs.Over.{next_over}
 use Rattle.differentiate.proofs.put_record.Goals as goal
 
 pub returns : goal.returns
-returns c = written_over (record_bytes (by_rule c.args.rule c.args.k)) c.args.out.now _ _ (omega (arith, record_length (by_rule c.args.rule c.args.k))) c.put_record_at.ensures
+unfolding record_bytes
+returns c =
+    next_over c.args.out.now _ _ c.args.at (c.args.at + 4) (little_endian 4 c.args.rule) (little_endian 4 c.args.number) c.put_word.ensures c.put_word-2.ensures refl
+    (omega (arith, c.requires))
