@@ -3,38 +3,41 @@ use mathlib.Core.Path.{◌≡◌, refl, sym, ap, ap₂, ◌∙◌, subst}
 use mathlib.Core.Bool.{Bool, true, false, ◌||◌}
 use mathlib.Core.List.{List, [], ◌∷◌, ◌++◌, map}
 use mathlib.Core.Option.{Option, none, some}
+use mathlib.Core.Logic.{⊎_elim}
 use Prim.Native.Nat.{ℕ, zero, suc, ◌-◌, ◌*◌, ◌/◌, ◌≤◌, ◌<◌}
 use native.Mathlib.Omega.{arith}
 use lib.ListN.{length, take, get_or}
-use lib.Dec.{eqb, ltb}
+use lib.Dec.{ltb}
 use borrow.Author.Tests.{le-ltb, lt-ltb, ltb-true, ltb-false}
 use Rattle.formula.specs.Text.{zeros}
 use Rattle.formula.specs.Operator.{Boolean, Number, ValueKind, same_kind}
 use Rattle.formula.specs.Formula.{Formula, derivative_limit, size}
-use Rattle.formula.specs.Names.{Parameter, Symbol, kinds}
+use Rattle.formula.specs.Names.{Parameter, State, Time, Input, Symbol, SymbolKind, is_state, kinds}
+use denote.Enum.Bare.{sameb}
+use Rattle.names.specs.contracts.Kind.{the_type}
 use Rattle.formula.specs.Path.{Path, placed, root}
 use Rattle.formula.specs.Term.{term}
 use Rattle.formula.specs.Node.{node_size}
 use Rattle.machine.specs.Check.{Fault, fault, kind}
 use Rattle.machine.specs.Compile.{Compiled, compile, lowered_or, own_context, program_room}
 use Rattle.machine.specs.Compile as Compile
-use Rattle.names.specs.Lines.{kind_number}
+use Rattle.names.specs.Lines.{kind_as}
 use Rattle.writer.specs.Over.{zeroed}
-use Rattle.names.proofs.Told.{number_state}
 use Rattle.compile.specs.Outcome.{fault_place, lowered_to}
-use Rattle.compile.specs.declared.Lowered.{Lowered}
-use Rattle.compile.specs.declared.Lowered.TheVariants as Lows
-use Rattle.compile.proofs.Entries.{listed_length}
+use Rattle.compile.proofs.Entries.{Early, listed_length}
 use Rattle.derivative.specs.Differentiate.{derivative}
 use Rattle.derivative.specs.Records.{Record, derivative_records, record_size}
 use Rattle.derivative.specs.Derive.{Derived, Lengths, by_state, continued, derive, derived, fitted, formula_refused, formula_refused_at, refused, too_short}
 use Rattle.derive.specs.Outcome.{Leaves}
-use Rattle.derive.specs.declared.Answer.{Answer}
-use Rattle.derive.specs.declared.Answer.TheVariants as Given
+use Rattle.std.specs.Prelude.{Result, Ok, Err}
+use Rattle.refusals.specs.Refusals.{refusal_at, refusal_of}
+use Rattle.refusals.specs.declared.Refusal.{Refusal}
+use Rattle.names.specs.declared.Kind.{Kind}
+use Rattle.names.specs.declared.Kind.TheVariants as Kinds
 use Rattle.derive.proofs.Parts.{leaves}
 
 -- the path slice before is the one that was lent
-pub from_path : (X : Derived) (r : Answer) (q q₁ q' t t' l l' p p' : List ℕ) → q₁ ≡ q → Leaves X r q₁ q' t t' l l' p p' → Leaves X r q q' t t' l l' p p'
+pub from_path : (X : Derived) (r : Result ℕ Refusal) (q q₁ q' t t' l l' p p' : List ℕ) → q₁ ≡ q → Leaves X r q₁ q' t t' l l' p p' → Leaves X r q q' t t' l l' p p'
 from_path X r q q₁ q' t t' l l' p p' e L = subst (λ (x : List ℕ). Leaves X r x q' t t' l l' p p') e L
 
 none_taken : (t : List ℕ) → take 0 t ≡ []
@@ -117,20 +120,20 @@ module _ (lens : Lengths) (s : ℕ) (f : Formula) (ss : List Symbol) where
   abbrev X : Option Fault → Derived
   X o = continued lens s (lowered_or f ss o)
 
-  module _ (l : Lowered) (q q' : List ℕ) where
-    faulty_at : (o : Option Fault) (n : ℕ) (t w p : List ℕ) → l ≡ lowered_to f o → q' ≡ placed (fault_place o) q → l ≡ Lows.Refused n → Leaves (X o) (Given.Refused n) q q' t t w w p p
-    faulty_at none n t w p e k h = absurd (let z : ◌≡◌ {A = ℕ} 0 1 = cc in omega arith)
-    faulty_at (some x) n t w p e k h = let m : n ≡ x.number = cc in (ap Given.Refused m, k, refl, refl, refl)
+  module _ (q q' : List ℕ) where
+    faulty_at : (o : Option Fault) (r : Refusal) (t w p : List ℕ) → Err r ≡ lowered_to f o → q' ≡ placed (fault_place o) q → Leaves (X o) (Err r) q q' t t w w p p
+    faulty_at none r t w p e k = absurd (let z : ◌≡◌ {A = ℕ} 0 1 = cc in omega arith)
+    faulty_at (some x) r t w p e k = (let m : r ≡ refusal_of x.number = cc in ap (λ (y : Refusal). Err y) m, k, refl, refl, refl)
 
-    pub faulty : (n : ℕ) (t w p : List ℕ) → l ≡ lowered_to f O → q' ≡ placed (fault_place O) q → l ≡ Lows.Refused n → Leaves (X O) (Given.Refused n) q q' t t w w p p
-    faulty n t w p e k h = faulty_at O n t w p e k h
+    pub faulty : (r : Refusal) (t w p : List ℕ) → Err r ≡ lowered_to f O → q' ≡ placed (fault_place O) q → Leaves (X O) (Err r) q q' t t w w p p
+    faulty = faulty_at O
 
-    faultless_at : (o : Option Fault) (b : Bool) → l ≡ lowered_to f o → q' ≡ placed (fault_place o) q → l ≡ Lows.Kind b → (o ≡ none) × (b ≡ same_kind (kind (term f)) Boolean) × (q' ≡ q)
-    faultless_at none b e k h = let m : b ≡ same_kind (kind (term f)) Boolean = cc in (refl, m, k)
-    faultless_at (some x) b e k h = absurd (let z : ◌≡◌ {A = ℕ} 0 1 = cc in omega arith)
+    faultless_at : (o : Option Fault) (b : Bool) → Ok b ≡ lowered_to f o → q' ≡ placed (fault_place o) q → (o ≡ none) × (b ≡ same_kind (kind (term f)) Boolean) × (q' ≡ q)
+    faultless_at none b e k = let m : b ≡ same_kind (kind (term f)) Boolean = cc in (refl, m, k)
+    faultless_at (some x) b e k = absurd (let z : ◌≡◌ {A = ℕ} 0 1 = cc in omega arith)
 
-    pub faultless : (b : Bool) → l ≡ lowered_to f O → q' ≡ placed (fault_place O) q → l ≡ Lows.Kind b → (O ≡ none) × (b ≡ same_kind (kind (term f)) Boolean) × (q' ≡ q)
-    faultless b e k h = faultless_at O b e k h
+    pub faultless : (b : Bool) → Ok b ≡ lowered_to f O → q' ≡ placed (fault_place O) q → (O ≡ none) × (b ≡ same_kind (kind (term f)) Boolean) × (q' ≡ q)
+    faultless = faultless_at O
 
   module _ (e : O ≡ none) where
     pub boolean_root : same_kind (kind (term f)) Boolean ≡ true → X O ≡ refused 7 (some root)
@@ -149,34 +152,49 @@ not_boolean Boolean e = absurd (let z : ◌≡◌ {A = ℕ} 0 1 = cc in omega ar
 
 -- ---- the kinds in a slice
 
-pub kinds_length : (K : List ℕ) (ss : List Symbol) → K ≡ map kind_number (kinds ss) → length K ≡ length ss
+pub kinds_length : (K : List Kind) (ss : List Symbol) → K ≡ map kind_as (kinds ss) → length K ≡ length ss
 kinds_length K ss e = ap length e ∙ listed_length ss
 
-listed_at : (ss : List Symbol) (i : ℕ) → i < length ss → get_or (map kind_number (kinds ss)) i 0 ≡ kind_number (get_or (kinds ss) i Parameter)
-listed_at [] i h = absurd (omega arith)
-listed_at (x ∷ xs) zero h = refl
-listed_at (x ∷ xs) (suc i) h = listed_at xs i (omega arith)
+listed_at : (ss : List Symbol) (i : ℕ) (z : Kind) → i < length ss → get_or (map kind_as (kinds ss)) i z ≡ kind_as (get_or (kinds ss) i Parameter)
+listed_at [] i z h = absurd (omega arith)
+listed_at (x ∷ xs) zero z h = refl
+listed_at (x ∷ xs) (suc i) z h = listed_at xs i z (omega arith)
 
-pub state_is : (K : List ℕ) (ss : List Symbol) (s : ℕ) → K ≡ map kind_number (kinds ss) → s < length ss → eqb (get_or K s 0) 1 ≡ by_state ss s
-state_is K ss s e h = ap (λ (x : List ℕ). eqb (get_or x s 0) 1) e ∙ ap (λ (k : ℕ). eqb k 1) (listed_at ss s h) ∙ sym (number_state (get_or (kinds ss) s Parameter))
+kind_is : (K : List Kind) (ss : List Symbol) (s : ℕ) (z : Kind) → K ≡ map kind_as (kinds ss) → s < length ss → get_or K s z ≡ kind_as (get_or (kinds ss) s Parameter)
+kind_is K ss s z e h = ap (λ (x : List Kind). get_or x s z) e ∙ listed_at ss s z h
+
+-- whether a symbol is a state, as the code asks it
+pub state_is : (K : List Kind) (ss : List Symbol) (s : ℕ) (z : Kind) → K ≡ map kind_as (kinds ss) → s < length ss → sameb the_type (get_or K s z) Kinds.State ≡ by_state ss s
+state_is K ss s z e h = ap (λ (k : Kind). sameb the_type k Kinds.State) (kind_is K ss s z e h) ∙ go (get_or (kinds ss) s Parameter)
+  where
+    go : (k : SymbolKind) → sameb the_type (kind_as k) Kinds.State ≡ is_state k
+    go Parameter = refl
+    go State = refl
+    go Time = refl
+    go Input = refl
 
 -- ---- after the refusals of compile
 
 module _ (b names : List ℕ) (s : ℕ) (q q' : List ℕ) (lens : Lengths) where
-  pub refused_first : (n : ℕ) (place : Option Path) (t l p : List ℕ) → compile b names (length q) lens.program ≡ Compile.refused n place → q' ≡ placed place q
-      → Leaves (derive b names s (length q) lens) (Given.Refused n) q q' t t l l p p
+  pub refused_first : (n : ℕ) (r : Refusal) (place : Option Path) (t l p : List ℕ) → compile b names (length q) lens.program ≡ Compile.refused n place → r ≡ refusal_of n
+      → q' ≡ placed place q → Leaves (derive b names s (length q) lens) (Err r) q q' t t l l p p
   unfolding derive
-  refused_first n place t l p e k =
-      leaves (continued lens s (compile b names (length q) lens.program)) (formula_refused n place) (Given.Refused n) q q' t t l l p p (ap (continued lens s) e)
-      (refl, k, refl, refl, refl)
+  refused_first n r place t l p e i k =
+      leaves (continued lens s (compile b names (length q) lens.program)) (formula_refused n place) (Err r) q q' t t l l p p (ap (continued lens s) e)
+      (ap (λ (x : Refusal). Err x) i, k, refl, refl, refl)
 
   pub goes_on : (X : Compiled) → compile b names (length q) lens.program ≡ X → derive b names s (length q) lens ≡ continued lens s X
   unfolding derive
   goes_on X e = ap (continued lens s) e
 
-pub refused_at_node : (b names : List ℕ) (s : ℕ) (q : List ℕ) (lens : Lengths) (n k : ℕ) (t l p : List ℕ) → compile b names (length q) lens.program ≡ Compile.refused_at n k
-    → Leaves (derive b names s (length q) lens) (Given.RefusedAt n k) q q t t l l p p
-unfolding derive
-refused_at_node b names s q lens n k t l p e =
-    leaves (continued lens s (compile b names (length q) lens.program)) (formula_refused_at n k) (Given.RefusedAt n k) q q t t l l p p (ap (continued lens s) e)
-    (refl, refl, refl, refl, refl)
+module _ (b names : List ℕ) (s : ℕ) (q : List ℕ) (lens : Lengths) (r : Refusal) (t l p : List ℕ) where
+  refused_at_node : (n k : ℕ) → compile b names (length q) lens.program ≡ Compile.refused_at n k → r ≡ refusal_at n k → Leaves (derive b names s (length q) lens) (Err r) q q t t l l p p
+  unfolding derive
+  refused_at_node n k e i =
+      leaves (continued lens s (compile b names (length q) lens.program)) (formula_refused_at n k) (Err r) q q t t l l p p (ap (continued lens s) e)
+      (ap (λ (x : Refusal). Err x) i, refl, refl, refl, refl)
+
+  -- a refusal of prepare
+  pub refused_early : Early (compile b names (length q) lens.program) r → Leaves (derive b names s (length q) lens) (Err r) q q t t l l p p
+  refused_early =
+      ⊎_elim (λ h. refused_first b names s q q lens h.0 r none t l p h.1 h.3 refl) (λ h. refused_at_node h.0 h.1 h.2 h.3)

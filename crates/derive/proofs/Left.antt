@@ -1,7 +1,7 @@
 -- What derive leaves where it answers with a tree: the tree's bytes, and the record of each node, by its bytes.
 use mathlib.Core.Path.{◌≡◌, refl, sym, ap, ◌∙◌}
 use mathlib.Core.List.{List, [], ◌∷◌, ◌++◌, append_assoc}
-use mathlib.Core.Option.{Option, none, some}
+use mathlib.Core.Option.{some}
 use Prim.Native.Nat.{ℕ, zero, suc, ◌+◌, ◌*◌, ◌-◌}
 use native.Mathlib.Omega.{arith}
 use lib.ListN.{length, take, drop, get_elem?}
@@ -18,12 +18,12 @@ use Rattle.derivative.specs.Derive.{Derived, by_state, derive, derived, formula_
 use Rattle.derivative.proofs.Derived.{Derivation, derived_formula}
 use Rattle.derivative.proofs.Erased.{derivative_records_length}
 use Rattle.derivative.proofs.Provenance.{told}
-use Rattle.derive.specs.declared.Answer.{Answer}
-use Rattle.derive.specs.declared.Answer.TheVariants as Given
+use Rattle.std.specs.Prelude.{Result, Ok}
+use Rattle.refusals.specs.declared.Refusal.{Refusal}
 use Rattle.derive.specs.Outcome.{Leaves, answer, lengths}
 
 -- an answer with a tree is of one that was derived
-there : (X : Derived) (n : ℕ) → answer X ≡ Given.Derived n → (d : Formula) × (symbols : List Symbol) × (rs : List Record) × (X ≡ derived d rs symbols) × (size d ≡ n)
+there : (X : Derived) (n : ℕ) → answer X ≡ Ok n → (d : Formula) × (symbols : List Symbol) × (rs : List Record) × (X ≡ derived d rs symbols) × (size d ≡ n)
 there (formula_refused m place) n e = absurd (let z : ◌≡◌ {A = ℕ} 0 1 = cc in omega arith)
 there (formula_refused_at m k) n e = absurd (let z : ◌≡◌ {A = ℕ} 0 1 = cc in omega arith)
 there (refused m place) n e = absurd (let z : ◌≡◌ {A = ℕ} 0 1 = cc in omega arith)
@@ -42,8 +42,8 @@ pub record Written (b names q t t' l l' p : List ℕ) (s n : ℕ) : Type 0 where
   pub nodes : size tree ≡ n
 
 module _
-    (b names q q' t t' l l' p p' : List ℕ) (s n : ℕ) (r : Answer)
-    (e : Leaves (derive b names s (length q) (lengths t l p)) r q q' t t' l l' p p') (a : r ≡ Given.Derived n) where
+    (b names q q' t t' l l' p p' : List ℕ) (s n : ℕ) (r : Result ℕ Refusal)
+    (e : Leaves (derive b names s (length q) (lengths t l p)) r q q' t t' l l' p p') (a : r ≡ Ok n) where
   pub written : Written b names q t t' l l' p s n
   written =
       let x = there (derive b names s (length q) (lengths t l p)) n (sym e.0 ∙ a) in
@@ -77,8 +77,8 @@ record_at (y ∷ rs) rest (suc j) x e =
     ∙ record_at rs rest j x e
 
 module _
-    (b names q q' t t' l l' p p' : List ℕ) (s n : ℕ) (r : Answer)
-    (e : Leaves (derive b names s (length q) (lengths t l p)) r q q' t t' l l' p p') (a : r ≡ Given.Derived n) where
+    (b names q q' t t' l l' p p' : List ℕ) (s n : ℕ) (r : Result ℕ Refusal)
+    (e : Leaves (derive b names s (length q) (lengths t l p)) r q q' t t' l l' p p') (a : r ≡ Ok n) where
   -- Where derive answers with a tree of n nodes: the bytes lent are a formula f, the first 16·n bytes of the tree slice a formula d, there are n records, and for each node j of
   -- d the 8 bytes from 8·j on in the list slice are a record that says of node j and of f what `Told` says.
   pub written_records : (f : Formula) × (d : Formula) × (rs : List Record) × (formula_of b ≡ some f) × (take (node_size * n) t' ≡ encode d) × (length rs ≡ n)

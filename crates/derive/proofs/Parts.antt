@@ -1,6 +1,6 @@
 -- The parts of derive: the formula itself, what its survey found, and what is written.
 use mathlib.Core.Path.{◌≡◌, refl, sym, ap, ◌∙◌, subst}
-use mathlib.Core.Bool.{Bool, true, false, cond, ◌&&◌}
+use mathlib.Core.Bool.{Bool, true, false, ◌&&◌}
 use mathlib.Core.List.{List}
 use mathlib.Core.Option.{Option, none, some}
 use Prim.Native.Nat.{ℕ, ◌*◌, ◌≤◌, ◌<◌, min}
@@ -15,15 +15,18 @@ use Rattle.reader.proofs.Scan.{whole}
 use Rattle.compile.proofs.Entries.{low}
 use Rattle.derivative.specs.Attributes.{Attributes, attributes_of, derivative_attributes, primal_attributes, survey}
 use Rattle.derivative.specs.Differentiate.{and_then, derivative}
-use Rattle.derivative.specs.Derive.{Derived, derive}
+use Rattle.derivative.specs.Derive.{Derived}
 use Rattle.derivative.proofs.Attributes.{derivative_right, map_option}
-use Rattle.survey.specs.Table.{Room, found, reading, tree}
+use Rattle.survey.specs.Table.{Room, found, reading, readings, tree}
 use Rattle.survey.specs.declared.Attributes as Declared
 use Rattle.survey.specs.declared.Found.{Found}
 use Rattle.derive.specs.Outcome.{Leaves}
-use Rattle.derive.specs.declared.Answer.{Answer}
+use Rattle.std.specs.Prelude.{Result, Some, None}
+use Rattle.std.specs.Prelude.{Option as Given}
+use Rattle.refusals.specs.declared.Refusal.{Refusal}
+use Rattle.survey.specs.declared.Row.{Row}
 
-pub leaves : (X Y : Derived) (r : Answer) (q q' t t' l l' p p' : List ℕ) → X ≡ Y → Leaves Y r q q' t t' l l' p p' → Leaves X r q q' t t' l l' p p'
+pub leaves : (X Y : Derived) (r : Result ℕ Refusal) (q q' t t' l l' p p' : List ℕ) → X ≡ Y → Leaves Y r q q' t t' l l' p p' → Leaves X r q q' t t' l l' p p'
 leaves X Y r q q' t t' l l' p p' e L = subst (λ (Z : Derived). Leaves Z r q q' t t' l l' p p') (sym e) L
 
 -- ---- what the survey found
@@ -40,7 +43,7 @@ module _ (b : List ℕ) (f : Formula) (formed : formula_of b ≡ some f) (limit 
   unfolding tree
   tree_at_is = tree_is
 
-  pub surveyed_room : (T : List ℕ) → length b ≤ 2 * length T → Room b T 0 32
+  pub surveyed_room : (T : List Row) → length b ≤ 16 * length T → Room b T 0 32
   unfolding tree
   surveyed_room T l =
       let h = whole b (ap (λ (o : Option Formula). is_some o) formed) in
@@ -50,33 +53,29 @@ module _ (b : List ℕ) (f : Formula) (formed : formula_of b ≡ some f) (limit 
     surveys : found r ≡ survey s st f
     surveys = e ∙ ap (survey s st) tree_is
 
-    attributes : cond r.fine (some (primal_attributes (reading r.own) (reading r.diff))) none ≡ map_option attributes_of (derivative s st f)
-    attributes = fined r.fine (reading r.diff) ∙ ap derivative_attributes surveys ∙ derivative_right s st f
-      where
-        fined : (c : Bool) (a : Attributes)
-            → cond c (some (primal_attributes (reading r.own) a)) none ≡ and_then (cond c (some a) none) (λ d. some (primal_attributes (reading r.own) d))
-        fined true a = refl
-        fined false a = refl
+    attributes : and_then (readings r.diff) (λ d. some (primal_attributes (reading r.own) d)) ≡ map_option attributes_of (derivative s st f)
+    attributes = ap derivative_attributes surveys ∙ derivative_right s st f
 
-    unfine : (c : Bool) (a : Attributes) (o : Option Formula) → c ≡ false → cond c (some a) none ≡ map_option attributes_of o → o ≡ none
-    unfine true a o z h = let y : ◌≡◌ {A = ℕ} 0 1 = cc in absurd (omega arith)
-    unfine false a none z h = refl
-    unfine false a (some d) z h = let y : ◌≡◌ {A = ℕ} 0 1 = cc in absurd (omega arith)
+    none_of : (o : Option Formula) → none ≡ map_option attributes_of o → o ≡ none
+    none_of none h = refl
+    none_of (some d) h = let y : ◌≡◌ {A = ℕ} 0 1 = cc in absurd (omega arith)
 
     -- "8 at `root` from the rules"
-    pub no_derivative : r.fine ≡ false → derivative s st f ≡ none
-    no_derivative h = unfine r.fine (primal_attributes (reading r.own) (reading r.diff)) (derivative s st f) h attributes
+    pub no_derivative : r.diff ≡ None → derivative s st f ≡ none
+    no_derivative h =
+        none_of (derivative s st f)
+        (sym (ap (λ (x : Given Declared.Attributes). and_then (readings x) (λ d. some (primal_attributes (reading r.own) d))) h) ∙ attributes)
 
-    some_fine : (c : Bool) (a : Attributes) (o : Option Formula) → c ≡ true → cond c (some a) none ≡ map_option attributes_of o → (d : Formula) × (o ≡ some d) × (a ≡ attributes_of d)
-    some_fine true a none z h = let y : ◌≡◌ {A = ℕ} 0 1 = cc in absurd (omega arith)
-    some_fine true a (some d) z h = (d, refl, cc)
-    some_fine false a o z h = let y : ◌≡◌ {A = ℕ} 0 1 = cc in absurd (omega arith)
+    some_of : (a : Attributes) (o : Option Formula) → some a ≡ map_option attributes_of o → (d : Formula) × (o ≡ some d) × (a ≡ attributes_of d)
+    some_of a none h = let y : ◌≡◌ {A = ℕ} 0 1 = cc in absurd (omega arith)
+    some_of a (some d) h = (d, refl, cc)
 
     -- a derivative, and its attributes
-    pub has_derivative : (w : Declared.Attributes) → r.fine ≡ true → reading w ≡ primal_attributes (reading r.own) (reading r.diff)
+    pub has_derivative : (w diff : Declared.Attributes) → r.diff ≡ Some diff → reading w ≡ primal_attributes (reading r.own) (reading diff)
         → (d : Formula) × (derivative s st f ≡ some d) × (reading w ≡ attributes_of d)
-    has_derivative w h p =
-        let g = some_fine r.fine (primal_attributes (reading r.own) (reading r.diff)) (derivative s st f) h attributes in
+    has_derivative w diff h p =
+        let g = some_of (primal_attributes (reading r.own) (reading diff)) (derivative s st f)
+        (sym (ap (λ (x : Given Declared.Attributes). and_then (readings x) (λ d. some (primal_attributes (reading r.own) d))) h) ∙ attributes) in
         (g.0, g.1, p ∙ g.2)
 
 -- the capped numbers decide

@@ -3,7 +3,7 @@ use mathlib.Core.Path.{◌≡◌, sym, ap, ap₂, ◌∙◌}
 use mathlib.Core.Bool.{Bool, true}
 use mathlib.Core.List.{List, ◌++◌}
 use mathlib.Core.Option.{Option, none, some}
-use Prim.Native.Nat.{ℕ, ◌+◌, ◌-◌, ◌*◌, ◌/◌, ◌≤◌}
+use Prim.Native.Nat.{ℕ, ◌-◌, ◌*◌, ◌/◌, ◌≤◌}
 use native.Mathlib.Nat.{le_refl}
 use native.Mathlib.Omega.{arith}
 use lib.ListN.{length, take, drop, length-append, length-drop}
@@ -27,7 +27,7 @@ use Rattle.reader.proofs.Heads.{and_first, and_second}
 use Rattle.reader.proofs.Scan.{formula_in}
 use Rattle.writer.specs.Over.{zeroed}
 use Rattle.lower.specs.Piece.{context_of}
-use Rattle.compile.specs.Outcome.{Fits, fault_place, slice_after}
+use Rattle.compile.specs.Outcome.{answer_to, Fits, fault_place, slice_after}
 use Rattle.compile.proofs.Entries.{few, same_context}
 use Rattle.derivative.specs.Differentiate.{derivative}
 use Rattle.derivative.specs.Records.{derivative_records, list_bytes, record_size}
@@ -38,6 +38,9 @@ use Rattle.derivative.proofs.Paths.{derivative_paths}
 use Rattle.survey.specs.Table.{tree}
 use Rattle.differentiate.specs.Written.{Writes}
 use Rattle.compile.specs.Preparation.{Formed}
+use Rattle.std.specs.Prelude.{Result, Ok}
+use Rattle.refusals.specs.declared.Refusal.{Refusal}
+use Rattle.names.specs.declared.Kind.{Kind}
 use Rattle.derive.specs.Outcome.{Derives}
 use Rattle.derive.proofs.Parts.{tree_is}
 use Rattle.derive.proofs.Writable.{derivative_writable}
@@ -62,7 +65,7 @@ module _ (x t t₁ t₂ : List ℕ) (n : ℕ) (room : length x ≤ length t) (W 
       let z : length t₁ - n ≡ length t - length x = omega (arith, same_long, W.count) in
       e ∙ ap₂ (λ (y : List ℕ) (k : ℕ). y ++ zeros k) (ap (take n) W.held ∙ take_at x (drop (length x) t) n (sym W.count)) z
 
-module _ (b K : List ℕ) (s : ℕ) (st : Bool) (program : ℕ) (f : Formula) (ss : List Symbol) (d : Formula) (D : Derives b K s st program f ss d) where
+module _ (b : List ℕ) (K : List Kind) (s : ℕ) (st : Bool) (program : ℕ) (f : Formula) (ss : List Symbol) (d : Formula) (D : Derives b K s st program f ss d) where
   G : Formed b K f ss
   G = D.given.given
 
@@ -152,3 +155,7 @@ module _ (b K : List ℕ) (s : ℕ) (st : Bool) (program : ℕ) (f : Formula) (s
         ep ∙ ap (λ (o : Option Fault). slice_after C (tree_in 128 (take n t₂) 0) o p) faultless
             ∙ ap₂ (λ (x : Context) (g : Formula). filled (image x g) p) same tree_back.0,
       )
+
+      -- and the program has no fault
+      pub accepted : (w : Result Unit Refusal) → w ≡ answer_to O → w ≡ Ok tt
+      accepted w e = e ∙ ap answer_to faultless

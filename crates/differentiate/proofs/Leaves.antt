@@ -6,7 +6,7 @@ use Prim.Native.Nat.{ℕ, zero, suc, ◌+◌, ◌*◌, ◌/◌, ◌%◌, ◌≤�
 use native.Mathlib.Omega.{arith}
 use lib.Dec.{eqb}
 use borrow.Author.Tests.{eq-eqb, ne_eqb}
-use lib.ListN.{length, get_or, take, drop, replicate}
+use lib.ListN.{length, take, drop, replicate}
 use Rattle.formula.specs.Text.{byte_at, half_at, little_endian}
 use Rattle.writer.specs.Over.{over}
 use Rattle.formula.specs.Operator.{unary, binary, compare, call, Positive, Negative, Not, Add, Subtract, Multiply, Divide, Power, Modulo, Exp, Log, Log10, Sqrt, Sin, Cos, Tan, Tanh, Abs, Floor, Ceil, Min, Max, Hill, InverseGaussianDensity}
@@ -16,7 +16,7 @@ use Rattle.derivative.specs.Records.{Record, Recorded, erase, by_rule, copy, arm
 use Rattle.derivative.specs.Provenance.{numbered}
 use Rattle.reader.proofs.Bytes.{Bytes}
 use Rattle.reader.proofs.Trees.{size_pos}
-use Rattle.reader.proofs.Encode.{copied_tree, encode_length}
+use Rattle.reader.proofs.Encode.{copied_tree}
 use Rattle.derivative.specs.Differentiate.{second_literal}
 use Rattle.rules.specs.Notation.{or_zero, literal_code}
 use Rattle.survey.specs.Derived.{children_of}

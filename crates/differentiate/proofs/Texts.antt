@@ -7,7 +7,7 @@ use Prim.Native.Nat.{ℕ, zero, suc, ◌+◌, ◌-◌, ◌*◌, ◌/◌, ◌%◌
 use native.Mathlib.Omega.{arith}
 use lib.ListN.{length, get_or}
 use lib.Dec.{eqb}
-use borrow.Author.Tests.{eqb-true, eq-eqb, ne_eqb}
+use borrow.Author.Tests.{eqb-true}
 use Rattle.formula.specs.Operator.{binary, Add, Multiply}
 use Rattle.formula.specs.Text.{half_at}
 use Rattle.formula.specs.Formula.{Formula, operation, node, count, depth, depends, well_formed}

@@ -1,6 +1,6 @@
 -- What the writers of a derivative's parts write, and what they are given. A writer is asked for the nodes of a part or for its records.
 use Rattle.std.specs.Prelude.{◌≡◌, Bool, true, cond, List, [], ◌∷◌, ◌++◌, ℕ, suc, ◌+◌, ◌*◌, ◌<◌, ◌≤◌, eqb, length, drop, get_or}
-use Rattle.std.proofs.Math.Option.{none, some}
+use Rattle.std.proofs.Math.Option.{some}
 use Rattle.formula.specs.Formula.{Formula, Formulas, last, next, node, count, size, depth, depends}
 use Rattle.formula.specs.Node.{encode, inner_fields, node_bytes, fields_of, node_size}
 use Rattle.derivative.specs.Rules.{Algebra, Parts, instance, instances, extremum_from, add_of, mul_of, zero_of}
@@ -12,7 +12,6 @@ use Rattle.survey.specs.Derived.{rule_for, children_of, head_of_tree, or_else}
 use Rattle.survey.specs.Table.{tree, Owned, Surveyed}
 use Rattle.survey.specs.declared.Row.{Row}
 use Rattle.differentiate.specs.declared.Origin.{Origin}
-use Rattle.differentiate.specs.declared.Origin.TheVariants as Origin
 
 -- t is written to the start, and its length is told
 pub record Writes (t out out' : List ℕ) (r : ℕ) : Type 0 where

@@ -315,7 +315,14 @@ fn write_product<F: Form>(part: &Part, first: RulePart, depth: usize, out: &mut 
 
 // A node, and its parts behind it.
 #[cycle(writing)]
-fn write_node<F: Form>(part: &Part, head: Head, first: RulePart, parts: usize, depth: usize, out: &mut [u8]) -> usize
+fn write_node<F: Form>(
+    part: &Part,
+    head: Head,
+    first: RulePart,
+    parts: usize,
+    depth: usize,
+    out: &mut [u8],
+) -> usize
     requires { (parts ≤ 3) × Task part.now.by.symbol part.now.by.state part.now.node.formula.now part.now.node.rows.now part.now.node.number depth (arm_node F.records part.now.node.number (tree part.now.node.formula.now part.now.node.number) head.kind head.operator head.children ++ parts_bytes F.records part.now.by.symbol part.now.by.state part.now.node.number (tree part.now.node.formula.now part.now.node.number) first.levels first.rule parts first.start) out.old }
     ensures { Writes (arm_node F.records part.now.node.number (tree part.now.node.formula.now part.now.node.number) head.kind head.operator head.children ++ parts_bytes F.records part.now.by.symbol part.now.by.state part.now.node.number (tree part.now.node.formula.now part.now.node.number) first.levels first.rule parts first.start) out.old out.new result }
 {
@@ -325,7 +332,13 @@ fn write_node<F: Form>(part: &Part, head: Head, first: RulePart, parts: usize, d
 
 // So many parts one after another.
 #[cycle(writing)]
-fn write_rules<F: Form>(part: &Part, here: RulePart, left: usize, depth: usize, out: &mut [u8]) -> usize
+fn write_rules<F: Form>(
+    part: &Part,
+    here: RulePart,
+    left: usize,
+    depth: usize,
+    out: &mut [u8],
+) -> usize
     requires { (left ≤ 3) × Task part.now.by.symbol part.now.by.state part.now.node.formula.now part.now.node.rows.now part.now.node.number depth (parts_bytes F.records part.now.by.symbol part.now.by.state part.now.node.number (tree part.now.node.formula.now part.now.node.number) here.levels here.rule left here.start) out.old }
     ensures { Writes (parts_bytes F.records part.now.by.symbol part.now.by.state part.now.node.number (tree part.now.node.formula.now part.now.node.number) here.levels here.rule left here.start) out.old out.new result }
 {
@@ -380,7 +393,13 @@ fn put_primal<F: Form>(whole: &Node, out: &mut [u8]) -> usize
 
 // "0 × formula + derivative, by the rules of `derivative.rs`": the nodes of the tree that the definition gives, or their
 // records, behind them the slice as it was.
-pub fn write_derivative<F: Form>(f: &[u8], depth: usize, by: By, rows: &[Row], out: &mut [u8]) -> usize
+pub fn write_derivative<F: Form>(
+    f: &[u8],
+    depth: usize,
+    by: By,
+    rows: &[Row],
+    out: &mut [u8],
+) -> usize
     requires { Job F.records by.symbol by.state f.now rows.now depth out.old }
     ensures { (d : Formula) → derivative by.symbol by.state (tree f.now 0) ≡ some d → Writes (asked F.records (derivative_records by.symbol by.state (tree f.now 0)) d) out.old out.new result }
 {

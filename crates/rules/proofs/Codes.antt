@@ -1,9 +1,9 @@
 -- What a code says of its number.
-use mathlib.Core.Path.{◌≡◌, refl, sym, ap, ◌∙◌}
-use mathlib.Core.Bool.{Bool, true, false}
-use Prim.Native.Nat.{ℕ, ◌/◌, ◌%◌}
+use mathlib.Core.Path.{◌≡◌, refl, ap, ◌∙◌}
+use mathlib.Core.Bool.{true, false}
+use Prim.Native.Nat.{ℕ, ◌/◌}
 use native.Mathlib.Omega.{arith}
-use Rattle.rules.specs.Codes.{Reads, kind_of, writes, writes_node}
+use Rattle.rules.specs.Codes.{Reads, writes}
 use Rattle.rules.specs.declared.Code.{Code}
 use Rattle.rules.specs.declared.Code.TheVariants as Variant
 

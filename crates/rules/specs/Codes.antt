@@ -1,8 +1,7 @@
 -- The codes of rules as the code has them, by the numbers of Notation.
-use Rattle.std.specs.Prelude.{◌≡◌, Bool, true, false, List, [], ◌∷◌, ℕ, ◌/◌, ◌%◌, ◌≤◌, get_or}
+use Rattle.std.specs.Prelude.{◌≡◌, Bool, true, false, [], ◌∷◌, ℕ, ◌/◌, ◌%◌, ◌≤◌, get_or}
 use Rattle.rules.specs.Notation.{parts}
 use Rattle.rules.specs.declared.Code.{Code}
-use Rattle.rules.specs.declared.Code.TheVariants as Code
 use Rattle.rules.specs.declared.Literal as Declared
 use Rattle.rules.specs.declared.Literal.TheVariants as Lit
 

@@ -1,13 +1,12 @@
 -- The rules of `derivative.rs` in prefix (Polish) notation, a letter for each code. A code is a byte: its upper half is what it does,
 -- its lower half which one.
-use Rattle.std.specs.Prelude.{Bool, true, false, cond, not, ◌&&◌, List, [], ◌∷◌, ℕ, zero, suc, ◌+◌, ◌-◌, ◌*◌, ◌/◌, ◌%◌, get_or, eqb, ltb}
+use Rattle.std.specs.Prelude.{Bool, true, false, cond, List, [], ◌∷◌, ℕ, zero, suc, ◌+◌, ◌*◌, ◌/◌, ◌%◌, get_or, eqb, ltb}
 use Rattle.std.proofs.Math.Option.{Option, none, some}
 use Rattle.formula.specs.Text.{ascii}
 use Rattle.arithmetic.specs.Constant.{ln_ten_bits}
 use Rattle.formula.specs.Formula.{Head}
 use Rattle.formula.specs.Node.{head_of, inner_fields}
 use Rattle.derivative.specs.Rules.{Rule, Rules, child, whole, diff, make, add, mul, unless_zero, zeroth, end, ◌and◌, lit, 0·0, extremum_from, less_one, zero_bits, one_bits}
-use Rattle.derivative.specs.Differentiate.{literal_head}
 
 -- a, b, c are the children, da, db, dc their derivatives, and the whole the node itself; DIV to IF write a node; ADD and MUL simplify
 abbrev pub A : ℕ

@@ -1,15 +1,15 @@
 -- Attributes of trees are within the caps.
-use mathlib.Core.Path.{◌≡◌, refl, sym, ap, ◌∙◌}
+use mathlib.Core.Path.{◌≡◌, ap, ◌∙◌}
 use mathlib.Core.Bool.{Bool}
 use mathlib.Core.List.{List, [], ◌∷◌}
-use Prim.Native.Nat.{ℕ, suc, ◌+◌, ◌-◌, ◌≤◌, ◌<◌, min}
+use Prim.Native.Nat.{ℕ, ◌-◌, ◌<◌}
 use native.Mathlib.Omega.{arith}
-use Rattle.formula.specs.Formula.{Formula, size, depth}
+use Rattle.formula.specs.Formula.{Formula}
 use Rattle.derivative.specs.Rules.{Rule, instance, extremum_from}
 use Rattle.derivative.specs.Attributes.{Attributes, attribute_algebra, attributes_of}
 use Rattle.survey.specs.Derived.{child_of, derived_of}
 use Rattle.survey.specs.Table.{reading}
-use Rattle.survey.specs.Worked.{attribute_parts, worked, worked_all, inner, Capped}
+use Rattle.survey.specs.Worked.{attribute_parts, worked, inner, Capped}
 use Rattle.survey.specs.declared.Attributes as Declared
 use Rattle.survey.proofs.Worked.{instance_capped, worked_capped, extremum_step}
 

@@ -12,9 +12,6 @@ use Rattle.derivative.specs.Attributes.{Attributes, Survey, attributes_of, surve
 use Rattle.derivative.proofs.Attributes.{survey_right, map_option}
 use Rattle.reader.specs.Read.{is_some}
 use Rattle.survey.specs.Derived.{derived, derived_all, or_else, zero_literal}
-use Rattle.survey.specs.Table.{readings, reading}
-use Rattle.std.specs.Prelude.{None, Some}
-use Rattle.survey.specs.declared.Attributes as Declared
 
 pub some_of : {A : Type 0} (a b : A) → ◌≡◌ {A = Option A} (some a) (some b) → a ≡ b
 some_of a b e = cc

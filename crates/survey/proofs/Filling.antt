@@ -2,35 +2,34 @@
 use mathlib.Core.Path.{◌≡◌, refl, sym, ap, ◌∙◌, subst}
 use mathlib.Core.Bool.{Bool, true, false, cond, not, ◌&&◌, ◌||◌}
 use mathlib.Core.Option.{Option, none, some}
-use mathlib.Core.List.{List, [], ◌∷◌}
-use mathlib.Core.Logic.{⊎_elim}
-use Prim.Native.Nat.{ℕ, zero, suc, ◌+◌, ◌-◌, ◌*◌, ◌<◌, ◌≤◌, max}
+use mathlib.Core.List.{List, ◌∷◌}
+use Prim.Native.Nat.{ℕ, suc, ◌+◌, ◌-◌, ◌*◌, ◌<◌, ◌≤◌, max}
 use native.Mathlib.Omega.{arith}
-use lib.ListN.{length, get_or, set, length-set}
+use lib.ListN.{length, set, length-set}
 use lib.Seq.{get_or-set_same, get_or-set_other}
 use lib.Dec.{eqb, ltb}
-use borrow.Author.Tests.{eqb-true, leb-true, leb-false, ltb-true, ltb-false}
+use borrow.Author.Tests.{leb-true, leb-false, ltb-true, ltb-false}
 use Rattle.std.specs.Ordering.{ord_max, nat_cmp, is_lt}
 use Rattle.std.proofs.Common.{Less, Equal, Greater}
 use lib.Dec.{leb}
 use Rattle.formula.specs.Operator.{unary, binary, compare, call}
-use Rattle.formula.specs.Formula.{Head, number, truth, symbol, operation, junction, ifelse, conditional, malformed, Formula, Formulas, node, last, next, count, size, sizes, depth, depths, depends, any_depends, is_symbol, well_formed, all_well_formed}
+use Rattle.formula.specs.Formula.{Head, number, truth, symbol, operation, junction, ifelse, conditional, malformed, Formula, Formulas, node, last, next, size, sizes, depth, depths, depends, any_depends, is_symbol, well_formed, all_well_formed}
 use Rattle.formula.specs.Text.{byte_at, half_at, word_at}
 use Rattle.formula.specs.Node.{Fields, fields_at, fields_of, node_size}
 use Rattle.derivative.specs.Rules.{Rule}
 use Rattle.derivative.specs.Differentiate.{formulas, the_rule, differentiate, differentiate_all, and_then, applied}
-use Rattle.derivative.specs.Attributes.{attributes_of, Attributes}
+use Rattle.derivative.specs.Attributes.{attributes_of}
 use Rattle.reader.specs.Read.{is_some}
 use Rattle.reader.proofs.Heads.{and_first, and_second}
 use Rattle.reader.proofs.Trees.{size_pos}
 use Rattle.survey.specs.Derived.{children_of, head_of_tree, derived, ruled}
-use Rattle.survey.specs.Table.{tree, trees, Own, Surveyed, Owned, Ready, Room, Filled, reading, row_in, empty_row, option_of, or_literal}
+use Rattle.survey.specs.Table.{tree, trees, Own, Surveyed, Ready, Room, Filled, reading, row_in, empty_row, option_of, or_literal}
 use Rattle.survey.specs.Worked.{literal_attributes}
 use Rattle.survey.specs.declared.Attributes as Declared
 use Rattle.std.specs.Option.{unwrap_or, is_some as given_is_some}
 use Rattle.std.specs.Prelude.{Option as Given, None, Some}
 use Rattle.survey.specs.declared.Row.{Row}
-use Rattle.survey.proofs.Trees.{Opened, opened, trees_next, trees_none, tree_ends}
+use Rattle.survey.proofs.Trees.{opened, trees_next, trees_none}
 use Rattle.formula.proofs.Tests.{and_one}
 
 -- ---- a symbol

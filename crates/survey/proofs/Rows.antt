@@ -1,24 +1,23 @@
 -- What the rows of the table say of a node and of its children.
 use mathlib.Core.Path.{◌≡◌, refl, sym, ap, ◌∙◌, subst}
-use mathlib.Core.Bool.{Bool, true, false, cond}
-use mathlib.Core.List.{List, [], ◌∷◌}
+use mathlib.Core.Bool.{Bool, true}
+use mathlib.Core.List.{List}
 use mathlib.Core.Option.{Option, none, some}
 use Prim.Native.Nat.{ℕ, zero, suc, ◌+◌, ◌-◌, ◌*◌, ◌<◌, ◌≤◌, min}
 use native.Mathlib.Omega.{arith}
-use lib.ListN.{length, get_or}
-use lib.Dec.{eqb}
+use lib.ListN.{length}
 use Rattle.formula.specs.Operator.{unary, binary, compare, call}
-use Rattle.formula.specs.Formula.{Head, number, truth, symbol, operation, junction, ifelse, conditional, malformed, Formula, Formulas, node, last, next, count, size, depth, well_formed}
+use Rattle.formula.specs.Formula.{Head, number, truth, symbol, operation, junction, ifelse, conditional, malformed, Formula, Formulas, last, next, count, size, depth, well_formed}
 use Rattle.formula.specs.Text.{byte_at, half_at, long_at}
 use Rattle.formula.specs.Node.{Fields, fields_at, fields_of, node_size}
-use Rattle.derivative.specs.Differentiate.{literal_head, literal_bits, first_literal, second_literal}
+use Rattle.derivative.specs.Differentiate.{literal_head, literal_bits, second_literal}
 use Rattle.derivative.specs.Attributes.{Attributes, attributes_of}
 use Rattle.reader.proofs.Trees.{size_pos}
 use Rattle.survey.specs.Derived.{children_of, child_of, derived, derived_of, zero_literal}
-use Rattle.survey.specs.Table.{tree, trees, nth, IsChild, Own, Owned, Surveyed, Ready, row_in}
+use Rattle.survey.specs.Table.{tree, nth, IsChild, Own, Owned, Surveyed, Ready, row_in}
 use Rattle.survey.specs.declared.Row.{Row}
-use Rattle.rules.specs.Notation.{or_zero, literal_code}
-use Rattle.survey.proofs.Trees.{Opened, opened, Walk, walk_next, walk_stands, Stands, count_is, child_at, derived_at, child_past, derived_past}
+use Rattle.rules.specs.Notation.{literal_code}
+use Rattle.survey.proofs.Trees.{opened, Walk, walk_next, walk_stands, Stands, count_is, child_at, derived_at, child_past, derived_past}
 
 -- ---- a literal
 

@@ -1,12 +1,10 @@
 -- `add` and `mul` over attributes, and the node above trees.
 use mathlib.Core.Path.{◌≡◌, refl, sym, ap, ◌∙◌}
 use mathlib.Core.Bool.{Bool, true, false, cond, ◌||◌}
-use mathlib.Core.List.{List, [], ◌∷◌}
-use mathlib.Core.Option.{Option, none, some}
-use Prim.Native.Nat.{ℕ, suc, ◌+◌, ◌≤◌, min, max}
+use mathlib.Core.List.{[], ◌∷◌}
+use mathlib.Core.Option.{none}
+use Prim.Native.Nat.{ℕ, suc, ◌+◌, min}
 use native.Mathlib.Omega.{arith}
-use Rattle.formula.specs.Operator.{binary, Add, Multiply}
-use Rattle.formula.specs.Formula.{operation}
 use Rattle.derivative.specs.Rules.{Algebra, zero_of, add_of, mul_of}
 use Rattle.derivative.specs.Attributes.{Attributes, attribute_algebra}
 use Rattle.survey.specs.Worked.{literal_attributes, inner, over_sum}

@@ -1,14 +1,12 @@
 -- The steps of the reading of a rule over attributes.
-use mathlib.Core.Path.{◌≡◌, refl, sym, ap, ◌∙◌}
-use mathlib.Core.Bool.{Bool, true, false}
-use mathlib.Core.List.{List, [], ◌∷◌}
-use Prim.Native.Nat.{ℕ, suc, ◌+◌, ◌-◌, ◌*◌, ◌/◌, ◌%◌, ◌≤◌, ◌<◌, max}
+use mathlib.Core.Path.{◌≡◌, sym, ap, ◌∙◌}
+use mathlib.Core.Bool.{Bool}
+use Prim.Native.Nat.{ℕ, ◌+◌, ◌-◌, ◌/◌, ◌%◌, ◌≤◌, ◌<◌, max}
 use native.Mathlib.Omega.{arith}
 use Rattle.formula.specs.Formula.{Formula}
 use Rattle.derivative.specs.Rules.{Algebra, add_of, mul_of}
 use Rattle.derivative.specs.Attributes.{Attributes, attribute_algebra, attributes_of, total_nodes, most_levels}
 use Rattle.rules.specs.Notation.{end_at, code_at, parts}
-use Rattle.survey.specs.Derived.{derived_of}
 use Rattle.survey.specs.Table.{reading}
 use Rattle.survey.specs.Worked.{worked, worked_all, summed, inner, over_sum}
 use Rattle.survey.specs.declared.Attributes as Declared

@@ -1,19 +1,18 @@
 -- A node's number, its children's numbers, and their rows.
-use mathlib.Core.Path.{◌≡◌, refl, sym, ap, ◌∙◌, subst}
-use mathlib.Core.Bool.{Bool, true, false, ◌&&◌}
-use mathlib.Core.List.{List, [], ◌∷◌, map}
-use mathlib.Core.Option.{Option, none, some}
-use Prim.Native.Nat.{ℕ, zero, suc, ◌+◌, ◌-◌, ◌*◌, ◌<◌, ◌≤◌, max}
+use mathlib.Core.Path.{◌≡◌, refl, sym, ap, ◌∙◌}
+use mathlib.Core.Bool.{Bool, true}
+use mathlib.Core.List.{List}
+use mathlib.Core.Option.{some}
+use Prim.Native.Nat.{ℕ, zero, suc, ◌+◌, ◌-◌, ◌*◌, ◌<◌, ◌≤◌}
 use native.Mathlib.Omega.{arith}
 use lib.ListN.{length, get_or}
 use Rattle.formula.specs.Formula.{Head, Formula, Formulas, node, last, next, count, to_list, size, sizes, depth, depths, well_formed, all_well_formed, is_node}
 use Rattle.formula.specs.Text.{half_at}
-use Rattle.formula.specs.Node.{Fields, fields_at, fields_of, head_of, children_at, tree_at, node_size}
-use Rattle.derivative.specs.Attributes.{attributes_of, Attributes}
+use Rattle.formula.specs.Node.{fields_at, fields_of, children_at, tree_at, node_size}
 use Rattle.reader.proofs.Heads.{and_first, and_second}
-use Rattle.reader.proofs.Trees.{node_at, Node, tree_inside, size_pos, depth_pos}
-use Rattle.survey.specs.Derived.{children_of, head_of_tree, derived, derived_all}
-use Rattle.survey.specs.Table.{tree, trees, nth, number_from, IsChild, Own, Owned}
+use Rattle.reader.proofs.Trees.{node_at, tree_inside, size_pos}
+use Rattle.survey.specs.Derived.{children_of, derived, derived_all}
+use Rattle.survey.specs.Table.{tree, trees, nth, number_from, IsChild}
 
 trees_at : (f : List ℕ) (n k : ℕ) → children_at (λ a. tree_at f a) n (node_size * k) ≡ trees f n k
 unfolding tree trees

@@ -1,17 +1,16 @@
 -- What each code of a rule gives, over attributes.
-use mathlib.Core.Path.{◌≡◌, refl, sym, ap, ◌∙◌, subst}
-use mathlib.Core.Bool.{Bool, true, false, cond, not, ◌||◌}
-use mathlib.Core.List.{List, [], ◌∷◌, map}
+use mathlib.Core.Path.{◌≡◌, refl, sym, ap, ◌∙◌}
+use mathlib.Core.Bool.{Bool, true, false, cond, not}
+use mathlib.Core.List.{[], ◌∷◌, map}
 use mathlib.Core.Option.{Option, none, some}
-use Prim.Native.Nat.{ℕ, zero, suc, ◌+◌, ◌-◌, ◌*◌, ◌/◌, ◌%◌, ◌<◌, ◌≤◌, min, max}
+use Prim.Native.Nat.{ℕ, zero, suc, ◌+◌, ◌-◌, ◌*◌, ◌/◌, ◌%◌, ◌<◌, ◌≤◌, min}
 use native.Mathlib.Omega.{arith}
-use native.Mathlib.Numerals.{add-one}
-use lib.ListN.{length, get_or}
-use lib.Dec.{eqb, ltb}
+use lib.ListN.{get_or}
+use lib.Dec.{eqb}
 use borrow.Author.Tests.{eqb-true, lt-ltb, le-ltb}
-use Rattle.formula.specs.Formula.{Head, Formula, Formulas, node, last, next, count, to_list, size, depth}
-use Rattle.derivative.specs.Rules.{Algebra, Rule, Rules, child, whole, diff, make, add, mul, unless_zero, zeroth, end, ◌and◌, lit, 0·0, extremum_from, instance, instances, zero_of, add_of, mul_of}
-use Rattle.derivative.specs.Differentiate.{formulas, literal_head, second_literal}
+use Rattle.formula.specs.Formula.{Head, Formula, count, to_list}
+use Rattle.derivative.specs.Rules.{Algebra, Rule, Rules, child, whole, diff, make, unless_zero, zeroth, lit, 0·0, extremum_from, instance, zero_of, add_of, mul_of}
+use Rattle.derivative.specs.Differentiate.{literal_head, second_literal}
 use Rattle.derivative.specs.Attributes.{Attributes, attribute_algebra, attributes_of, total_nodes, most_levels}
 use Rattle.derivative.proofs.Homomorphism.{get_d_map}
 use Rattle.derivative.proofs.Attributes.{instance_right}

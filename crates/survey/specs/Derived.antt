@@ -1,12 +1,11 @@
 -- The derivative of a part, with the literal 0 where there is none, and what a rule of a node gives.
-use Rattle.std.specs.Prelude.{Bool, true, cond, List, [], ◌∷◌, map, ℕ, get_or}
+use Rattle.std.specs.Prelude.{Bool, true, cond, List, [], ◌∷◌, ℕ, get_or}
 use Rattle.std.proofs.Math.Option.{Option, none, some}
 use Rattle.formula.specs.Formula.{Head, number, Formula, Formulas, node, last, next, count, to_list, depends}
-use Rattle.derivative.specs.Rules.{Algebra, Rule, Parts, instance, instances}
+use Rattle.derivative.specs.Rules.{Algebra, Rule, Parts, instance}
 use Rattle.derivative.specs.Differentiate.{formulas, the_rule, second_literal}
-use Rattle.derivative.specs.Attributes.{Attributes, attribute_algebra, attributes_of, total_nodes, most_levels}
 use Rattle.reader.specs.Read.{is_some}
-use Rattle.rules.specs.Notation.{rule_at, rules_from, end_at, or_zero}
+use Rattle.rules.specs.Notation.{rule_at, or_zero}
 
 abbrev pub zero_literal : Formula
 zero_literal = node (number 0) last

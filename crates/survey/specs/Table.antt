@@ -2,7 +2,7 @@
 use Rattle.std.specs.Prelude.{◌≡◌, Bool, true, false, List, ℕ, zero, suc, ◌+◌, ◌*◌, ◌<◌, ◌≤◌, length, get_or}
 use Rattle.std.specs.Prelude.{Option as Given, None, Some}
 use Rattle.std.proofs.Math.Option.{Option, none, some}
-use Rattle.formula.specs.Formula.{Formula, Formulas, node, last, next, count, to_list, size, depth, depends, well_formed}
+use Rattle.formula.specs.Formula.{Formula, Formulas, last, next, count, size, depth, depends, well_formed}
 use Rattle.formula.specs.Text.{byte_at}
 use Rattle.formula.specs.Node.{node_size, tree_at}
 use Rattle.derivative.specs.Differentiate.{differentiate, first_depends, second_literal}
@@ -11,7 +11,7 @@ use Rattle.derivative.specs.Attributes as Spec
 use Rattle.reader.specs.Read.{is_some}
 use Rattle.rules.specs.Notation.{rule_number, code_at}
 use Rattle.rules.specs.declared.RulePart.{RulePart}
-use Rattle.survey.specs.Derived.{derived, zero_literal, children_of}
+use Rattle.survey.specs.Derived.{derived, children_of}
 use Rattle.survey.specs.declared.Attributes.{Attributes}
 use Rattle.survey.specs.declared.Row.{Row}
 use Rattle.survey.specs.declared.Found.{Found}

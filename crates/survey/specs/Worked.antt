@@ -1,6 +1,6 @@
 -- The attributes that a rule gives, by the attributes of its parts.
 use Rattle.std.specs.Prelude.{Bool, List, map, ℕ, suc, min, ◌≤◌}
-use Rattle.std.proofs.Math.Option.{Option, none, some}
+use Rattle.std.proofs.Math.Option.{none, some}
 use Rattle.formula.specs.Formula.{Formula, to_list}
 use Rattle.derivative.specs.Rules.{Parts, instance, instances}
 use Rattle.derivative.specs.Attributes.{Attributes, attribute_algebra, attributes_of, total_nodes, most_levels}

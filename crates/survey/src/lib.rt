@@ -437,27 +437,9 @@ impl<'a> Part<'a> {
         let q = 16 * usize::from(byte(formula, at)) + usize::from(byte(formula, at + 1));
         match q {
             0x44 => power_rule(self.node.exponent()),
-            0x7d => {
-                if self.by.state {
-                    0x8d
-                } else {
-                    q
-                }
-            }
-            0x7e | 0x80 => {
-                if self.moving() {
-                    0
-                } else {
-                    q
-                }
-            }
-            0x7b | 0x7c => {
-                if self.node.children() == 0 {
-                    0
-                } else {
-                    q
-                }
-            }
+            0x7d => { if self.by.state { 0x8d } else { q } }
+            0x7e | 0x80 => { if self.moving() { 0 } else { q } }
+            0x7b | 0x7c => { if self.node.children() == 0 { 0 } else { q } }
             _ => q,
         }
     }

@@ -1,7 +1,8 @@
-use mathlib.Core.Path.{refl, ap}
-use mathlib.Core.Option.{Option, none, some}
+use mathlib.Core.Path.{ap}
+use mathlib.Core.Option.{Option, some}
 use native.Mathlib.Omega.{arith}
 use lib.ListN.{length}
+use Rattle.std.proofs.lemmas.Result.{err_from_is_err_and}
 use Rattle.formula.specs.Formula.{Formula}
 use Rattle.formula.specs.Path.{root}
 use Rattle.formula.specs.Term.{term}
@@ -9,110 +10,60 @@ use Rattle.machine.specs.Check.{fault}
 use Rattle.machine.specs.Compile.{lowered_or, own_context}
 use Rattle.reader.specs.Read.{is_some}
 use Rattle.derivative.specs.Derive.{continued}
-use Rattle.compile.proofs.Entries.{above_limit, faults_left, limit_of, node_refusal_of, path_kept, path_rooted, prefix, prefix_long, refusal_of, source_of, within_table}
+use Rattle.compile.proofs.Entries.{above_limit, counted, early_of, faults_left, limit_of, path_kept, path_rooted, prefix, source_of}
 use Rattle.derive.proofs.Parts.{leaves}
-use Rattle.derive.proofs.Ends.{from_path, goes_on, refused_at_node, refused_first}
+use Rattle.derive.proofs.Ends.{from_path, goes_on, refused_early, refused_first}
 use Rattle.derive.specs.Outcome.{lengths}
 use Rattle.derive.proofs.derive.Goals as goal
+
+pub returns-in_err-table : goal.returns-in_err-table
+returns-in_err-table c =
+    let args = c.args in
+    let lens = lengths args.tree.now args.list.now args.program.now in
+    let given = err_from_is_err_and c.from_residual.result c.from_residual.ensures.1 in
+    rw (given.1, given.2)
+    (refused_early args.formula.now args.names.now args.symbol args.path.now lens _ args.tree.now args.list.now args.program.now
+    (early_of args.formula.now args.names.now (length args.path.now) (length args.program.now) _ c.in_err-table.ensures))
 
 pub within-requires : goal.within-requires
 within-requires c =
     let args = c.args in
-    let prepare = c.prepare-prepared in
-    let n = c.in-Symbols.count in
-    let S = source_of args.formula.now args.names.now (length args.path.now) (length args.program.now) prepare.result
-    prepare.ensures n c.in-Symbols.is in
+    let S = source_of args.formula.now args.names.now (length args.path.now) (length args.program.now) _ c.in_ok-table.ensures in
     (omega (arith, S.places), ap (λ (o : Option Formula). is_some o) S.formed)
 
-pub slice_bounds-kinds-end : goal.slice_bounds-kinds-end
-slice_bounds-kinds-end c =
+pub returns-in_err-within : goal.returns-in_err-within
+returns-in_err-within c =
     let args = c.args in
-    let prepare = c.prepare-prepared in
-    let n = c.in-Symbols.count in
-    let S = source_of args.formula.now args.names.now (length args.path.now) (length args.program.now) prepare.result
-    prepare.ensures n c.in-Symbols.is in
-    within_table n prepare.result.kinds S.symbols S.count S.kinds_are
+    let lens = lengths args.tree.now args.list.now args.program.now in
+    let S = source_of args.formula.now args.names.now (length args.path.now) (length args.program.now) _ c.in_ok-table.ensures in
+    let given = err_from_is_err_and c.from_residual-in_err-within.result c.from_residual-in_err-within.ensures.1 in
+    let limit = above_limit S _ c.in_err-within.ensures.0 in
+    rw (given.1, given.2)
+    (refused_first args.formula.now args.names.now args.symbol args.path.now _ lens 4 _ (some root) args.tree.now args.list.now args.program.now limit.0 limit.1
+    (path_rooted S _ c.in_err-within.ensures.0 args.path.now _ c.in_err-within.ensures.1))
 
-pub slice_bounds-derive_formula-end : goal.slice_bounds-derive_formula-end
-slice_bounds-derive_formula-end c =
+pub shared_ref_as_front-derive_formula : goal.shared_ref_as_front-derive_formula
+shared_ref_as_front-derive_formula c =
     let args = c.args in
-    let prepare = c.prepare-prepared in
-    let n = c.in-Symbols.count in
-    let S = source_of args.formula.now args.names.now (length args.path.now) (length args.program.now) prepare.result
-    prepare.ensures n c.in-Symbols.is in
-    prefix_long n prepare.result.kinds S.symbols S.count S.kinds_are
+    let S = source_of args.formula.now args.names.now (length args.path.now) (length args.program.now) _ c.in_ok-table.ensures in
+    omega (arith, counted _ _ S.table, S.few)
 
 pub derive_formula-requires : goal.derive_formula-requires
 derive_formula-requires c =
     let args = c.args in
-    let prepare = c.prepare-prepared in
-    let within = c.within in
-    let if1 = c.if-within in
-    let n = c.in-Symbols.count in
-    let S = source_of args.formula.now args.names.now (length args.path.now) (length args.program.now) prepare.result
-    prepare.ensures n c.in-Symbols.is in
-    let limit = limit_of S within.result within.ensures.0 if1.true in
-    let kept = path_kept args.path.now within.new.path within.result within.ensures.1 if1.true in
-    let listed = prefix n prepare.result.kinds S.symbols S.count S.kinds_are in
-    (omega (arith, S.places, ap length kept), (S.f, S.symbols, record { formed = S.formed; limit = limit; listed = listed }))
+    let S = source_of args.formula.now args.names.now (length args.path.now) (length args.program.now) _ c.in_ok-table.ensures in
+    let ok = c.in_ok-within.ensures.0 in (
+      omega (arith, S.places, ap length (path_kept S ok args.path.now _ c.in_ok-within.ensures.1)),
+      (S.f, S.symbols, record { formed = S.formed; limit = limit_of S ok; listed = prefix _ S.symbols S.table }),
+    )
 
-pub returns-then-within : goal.returns-then-within
-returns-then-within c =
+pub returns : goal.returns
+returns c =
     let args = c.args in
-    let prepare = c.prepare-prepared in
-    let within = c.within in
-    let if1 = c.if-within in
-    let formula = c.derive_formula in
-    let the_program = formula.new.program in
-    let the_list = formula.new.list in
-    let the_tree = formula.new.tree in
-    let n = c.in-Symbols.count in
-    let S =
-    source_of args.formula.now args.names.now (length args.path.now) (length args.program.now) prepare.result prepare.ensures n
-    c.in-Symbols.is in
-    let limit = limit_of S within.result within.ensures.0 if1.true in
-    let kept = path_kept args.path.now within.new.path within.result within.ensures.1 if1.true in
-    let listed = prefix n prepare.result.kinds S.symbols S.count S.kinds_are in
-    let q = args.path.now in
-    let tree = args.tree.now in
-    let list = args.list.now in
-    let program = args.program.now in
-    let lens = lengths tree list program in
-    leaves _ _ _ q formula.new.path tree the_tree list the_list program the_program
-    (goes_on args.formula.now args.names.now args.symbol q q lens _
-    (faults_left S within.result within.ensures.0 if1.true))
-    (from_path
-    (continued lens args.symbol (lowered_or S.f S.symbols (fault (own_context S.symbols) (term S.f) root)))
-    formula.result q within.new.path formula.new.path tree the_tree list the_list program the_program kept
-    (formula.ensures S.f S.symbols (record { formed = S.formed; limit = limit; listed = listed })))
-
-pub returns-in-Refused : goal.returns-in-Refused
-returns-in-Refused c =
-    let args = c.args in
-    let prepare = c.prepare-prepared in
-    let n = c.in-Refused.n in
-    let R = refusal_of args.formula.now args.names.now (length args.path.now) (length args.program.now) prepare.result
-    prepare.ensures n c.in-Refused.is in
-    refused_first args.formula.now args.names.now args.symbol args.path.now args.path.now (lengths args.tree.now args.list.now args.program.now) n none args.tree.now args.list.now args.program.now R.0 refl
-
-pub returns-in-RefusedAt : goal.returns-in-RefusedAt
-returns-in-RefusedAt c =
-    let args = c.args in
-    let prepare = c.prepare-prepared in
-    let n = c.in-RefusedAt.n in
-    let k = c.in-RefusedAt.k in
-    refused_at_node args.formula.now args.names.now args.symbol args.path.now (lengths args.tree.now args.list.now args.program.now) n k args.tree.now args.list.now args.program.now
-    (node_refusal_of args.formula.now args.names.now (length args.path.now) (length args.program.now) prepare.result prepare.ensures
-    n k c.in-RefusedAt.is)
-
-pub returns-else-within : goal.returns-else-within
-returns-else-within c =
-    let args = c.args in
-    let prepare = c.prepare-prepared in
-    let n = c.in-Symbols.count in
-    let S = source_of args.formula.now args.names.now (length args.path.now) (length args.program.now) prepare.result
-    prepare.ensures n c.in-Symbols.is in
-    let within = c.within in
-    refused_first args.formula.now args.names.now args.symbol args.path.now within.new.path (lengths args.tree.now args.list.now args.program.now) 4 (some root) args.tree.now args.list.now args.program.now
-    (above_limit S within.result within.ensures.0 c.if-within.false)
-    (path_rooted args.path.now within.new.path within.result within.ensures.1 c.if-within.false)
+    let lens = lengths args.tree.now args.list.now args.program.now in
+    let S = source_of args.formula.now args.names.now (length args.path.now) (length args.program.now) _ c.in_ok-table.ensures in
+    let ok = c.in_ok-within.ensures.0 in
+    let kept = path_kept S ok args.path.now _ c.in_ok-within.ensures.1 in
+    leaves _ _ _ _ _ _ _ _ _ _ _ (goes_on args.formula.now args.names.now args.symbol args.path.now args.path.now lens _ (faults_left S ok))
+    (from_path (continued lens args.symbol (lowered_or S.f S.symbols (fault (own_context S.symbols) (term S.f) root))) _ _ _ _ _ _ _ _ _ _ kept
+    (c.derive_formula.ensures S.f S.symbols (record { formed = S.formed; limit = limit_of S ok; listed = prefix _ S.symbols S.table })))

@@ -1,174 +1,123 @@
-use borrow.Author.Tests.{not-false, not-true}
+use Prim.Native.Nat.{◌≤◌}
+use mathlib.Core.Logic.{⊎_elim}
 use mathlib.Core.Path.{refl, sym, ap, ◌∙◌}
 use mathlib.Core.Bool.{true, false}
 use native.Mathlib.Omega.{arith}
 use Rattle.derivative.specs.Attributes.{Attributes}
 use Rattle.derivative.specs.Derive.{too_short}
+use lib.ListN.{length-replicate}
+use Rattle.survey.specs.declared.Row.{Row}
 use Rattle.survey.specs.Table.{tree}
 use Rattle.differentiate.proofs.Whole.{diff_capped, job_of, own_capped}
 use Rattle.derive.specs.Outcome.{lengths}
-use Rattle.derive.specs.declared.Answer.TheVariants.{Derived}
 use Rattle.derive.proofs.Parts.{has_derivative, leaves, no_derivative, nodes_exact, surveyed_room, too_deep, too_many, within_limit}
 use Rattle.derive.proofs.Ends.{by_is, long_enough, rooms, short, too_large, unruled}
 use Rattle.derive.proofs.derive_number.Goals as goal
 
+pub whole_as_slice-survey_formula : goal.whole_as_slice-survey_formula
+whole_as_slice-survey_formula g c = omega (arith, c.requires.1)
+
 pub survey_formula-found-requires : goal.survey_formula-found-requires
-survey_formula-found-requires c =
+survey_formula-found-requires g c =
     let args = c.args in
     let pre = c.requires in
-    surveyed_room args.formula.now pre.2.0 pre.2.2.given.formed pre.2.2.given.limit args.table.now pre.0
+    surveyed_room args.formula.now pre.3.0 pre.3.2.given.formed pre.3.2.given.limit _ (omega (arith, pre.0, length-replicate {A = Row}))
 
-pub returns-then-not-found : goal.returns-then-not-found
-returns-then-not-found c =
+pub returns-in_default : goal.returns-in_default
+returns-in_default g c =
     let args = c.args in
-    let survey_formula = c.survey_formula-found in
-    let if1 = c.if-not-found in
-    let refuse_at_root = c.refuse_at_root in
-    let program = args.program.now in
-    λ f ss D. leaves _ _ _ args.path.now refuse_at_root.new.path args.tree.now refuse_at_root.new.tree args.list.now refuse_at_root.new.list program program (unruled
-    (lengths args.tree.now args.list.now program) ss _ _ (sym (by_is args.by.symbol f args.by.state ss D.is_state) ∙ no_derivative
-    args.formula.now f D.given.formed D.given.limit args.by.symbol args.by.state survey_formula.result
-    survey_formula.ensures.0 (not-true survey_formula.result.fine if1.true)))
-    (refl, refuse_at_root.ensures.0, refuse_at_root.ensures.1, refuse_at_root.ensures.2, refl)
+    let found = c.survey_formula-found in
+    λ f ss D.
+    leaves _ _ _ _ _ _ _ _ _ _ _
+    (unruled (lengths args.tree.now args.list.now args.program.now) ss _ _
+    (sym (by_is args.by.symbol f args.by.state ss D.is_state)
+    ∙ no_derivative args.formula.now f D.given.formed D.given.limit args.by.symbol args.by.state found.result found.ensures.0 c.in_default.is))
+    (c.refuse_at_root.ensures.0, c.refuse_at_root.ensures.1, c.refuse_at_root.ensures.2, c.refuse_at_root.ensures.3, refl)
 
 pub with_primal-whole-requires : goal.with_primal-whole-requires
-with_primal-whole-requires c =
+with_primal-whole-requires g c =
     let args = c.args in
-    let survey_formula = c.survey_formula-found in
-    let ensures = survey_formula.ensures.0 in
-    let tree2 = tree args.formula.now 0 in (
-      own_capped args.by.symbol args.by.state tree2 survey_formula.result ensures,
-      diff_capped args.by.symbol args.by.state tree2 survey_formula.result ensures
-          (not-false survey_formula.result.fine c.if-not-found.false),
+    let found = c.survey_formula-found in
+    let diff = c.in-Some.diff in
+    let t = tree args.formula.now 0 in (
+      own_capped args.by.symbol args.by.state t found.result found.ensures.0,
+      diff_capped args.by.symbol args.by.state t found.result found.ensures.0 diff c.in-Some.is,
     )
 
-pub refuse_at_root-requires-then-whole-gt16384 : goal.refuse_at_root-requires-then-whole-gt16384
-refuse_at_root-requires-then-whole-gt16384 c = omega (arith, c.requires.1)
-
 pub returns-then-whole-gt16384 : goal.returns-then-whole-gt16384
-returns-then-whole-gt16384 c =
+returns-then-whole-gt16384 g c =
     let args = c.args in
-    let survey_formula = c.survey_formula-found in
-    let if1 = c.if-not-found in
-    let with_primal = c.with_primal-whole in
-    let if2 = c.if-whole-gt16384 in
-    let refuse_at_root2 = c.refuse_at_root-then-whole-gt16384 in
-    let program = args.program.now in
+    let found = c.survey_formula-found in
+    let diff = c.in-Some.diff in
+    let whole = c.with_primal-whole in
+    let lens = lengths args.tree.now args.list.now args.program.now in
     λ f ss D.
-    let H = has_derivative args.formula.now f D.given.formed D.given.limit args.by.symbol args.by.state survey_formula.result
-    survey_formula.ensures.0 with_primal.result (not-false survey_formula.result.fine if1.false) with_primal.ensures in
+    let H = has_derivative args.formula.now f D.given.formed D.given.limit args.by.symbol args.by.state found.result found.ensures.0 whole.result diff c.in-Some.is whole.ensures in
     let e = sym (by_is args.by.symbol f args.by.state ss D.is_state) ∙ H.1 in
-    leaves _ _ _ args.path.now refuse_at_root2.new.path args.tree.now refuse_at_root2.new.tree args.list.now refuse_at_root2.new.list program program
-    (too_large (lengths args.tree.now args.list.now program) ss _ _ H.0 e (too_many with_primal.result H.0 H.2 if2.true))
-    (refl, refuse_at_root2.ensures.0, refuse_at_root2.ensures.1, refuse_at_root2.ensures.2, refl)
-
-pub refuse_at_root-requires-then-whole-gt128 : goal.refuse_at_root-requires-then-whole-gt128
-refuse_at_root-requires-then-whole-gt128 c =
-    let pre = c.requires in
-    omega (arith, pre.1)
-
-pub returns-then-whole-gt128 : goal.returns-then-whole-gt128
-returns-then-whole-gt128 c =
-    let args = c.args in
-    let survey_formula = c.survey_formula-found in
-    let if1 = c.if-not-found in
-    let with_primal = c.with_primal-whole in
-    let if3 = c.if-whole-gt128 in
-    let refuse_at_root3 = c.refuse_at_root-then-whole-gt128 in
-    let program = args.program.now in
-    λ f ss D.
-    let H = has_derivative args.formula.now f D.given.formed D.given.limit args.by.symbol args.by.state survey_formula.result
-    survey_formula.ensures.0 with_primal.result (not-false survey_formula.result.fine if1.false) with_primal.ensures in
-    let e = sym (by_is args.by.symbol f args.by.state ss D.is_state) ∙ H.1 in
-    leaves _ _ _ args.path.now refuse_at_root3.new.path args.tree.now refuse_at_root3.new.tree args.list.now refuse_at_root3.new.list program program
-    (too_large (lengths args.tree.now args.list.now program) ss _ _ H.0 e (too_deep with_primal.result H.0 H.2 if3.true))
-    (refl, refuse_at_root3.ensures.0, refuse_at_root3.ensures.1, refuse_at_root3.ensures.2, refl)
+    leaves _ _ _ _ _ _ _ _ _ _ _
+    (too_large lens ss _ _ H.0 e
+    (⊎_elim (λ h. too_many whole.result H.0 H.2 h) (λ h. too_deep whole.result H.0 H.2 h.1) c.then-whole-gt16384.either))
+    (c.refuse_at_root-then-whole-gt16384.ensures.0, c.refuse_at_root-then-whole-gt16384.ensures.1, c.refuse_at_root-then-whole-gt16384.ensures.2, c.refuse_at_root-then-whole-gt16384.ensures.3, refl)
 
 pub returns-then-too_short : goal.returns-then-too_short
-returns-then-too_short c =
+returns-then-too_short g c =
     let args = c.args in
-    let survey_formula = c.survey_formula-found in
-    let if1 = c.if-not-found in
-    let with_primal = c.with_primal-whole in
-    let if2 = c.if-whole-gt16384 in
-    let if3 = c.if-whole-gt128 in
-    let if4 = c.if-too_short in
-    let too_short2 = c.too_short in
-    let tree2 = args.tree.now in
-    let list = args.list.now in
-    let program = args.program.now in
-    let with_primal_gives = with_primal.result in
-    let clear = c.clear in
+    let found = c.survey_formula-found in
+    let diff = c.in-Some.diff in
+    let whole = c.with_primal-whole in
+    let lens = lengths args.tree.now args.list.now args.program.now in
     λ f ss D.
-    let H = has_derivative args.formula.now f D.given.formed D.given.limit args.by.symbol args.by.state survey_formula.result
-    survey_formula.ensures.0 with_primal_gives (not-false survey_formula.result.fine if1.false) with_primal.ensures in
+    let H = has_derivative args.formula.now f D.given.formed D.given.limit args.by.symbol args.by.state found.result found.ensures.0 whole.result diff c.in-Some.is whole.ensures in
     let e = sym (by_is args.by.symbol f args.by.state ss D.is_state) ∙ H.1 in
-    let n = nodes_exact with_primal_gives H.0 H.2 (omega (arith, if2.false)) in
-    let limit = within_limit with_primal_gives H.0 H.2 (omega (arith, if2.false)) (omega (arith, if3.false)) in
-    let lens = lengths tree2 list program in
-    leaves _ _ _ args.path.now args.path.now tree2 clear.new.tree list clear.new.list program program
-    (short lens ss _ _ H.0 e limit (ap (too_short lens) (sym n) ∙ sym too_short2.ensures ∙ if4.true)) (refl, refl, clear.ensures.0, clear.ensures.1, refl)
+    let few : whole.result.nodes ≤ 16384 = omega (arith, c.if-whole-gt16384.false) in
+    let n = nodes_exact whole.result H.0 H.2 few in
+    let limit = within_limit whole.result H.0 H.2 few (omega (arith, c.if-whole-gt128.false)) in
+    leaves _ _ _ _ _ _ _ _ _ _ _
+    (short lens ss _ _ H.0 e limit (ap (too_short lens) (sym n) ∙ sym c.too_short.ensures ∙ c.if-too_short.true))
+    (refl, refl, c.clear.ensures.0, c.clear.ensures.1, refl)
+
+pub shared_whole_as_slice-write_all : goal.shared_whole_as_slice-write_all
+shared_whole_as_slice-write_all g c = omega (arith, c.requires.1)
 
 pub write_all-requires : goal.write_all-requires
-write_all-requires c =
+write_all-requires g c =
     let args = c.args in
-    let survey_formula = c.survey_formula-found in
-    let if1 = c.if-not-found in
-    let with_primal = c.with_primal-whole in
-    let if2 = c.if-whole-gt16384 in
-    let if3 = c.if-whole-gt128 in
-    let if4 = c.if-too_short in
-    let too_short2 = c.too_short in
-    let tree2 = args.tree.now in
-    let list = args.list.now in
-    let program = args.program.now in
-    let with_primal_gives = with_primal.result in
+    let found = c.survey_formula-found in
+    let diff = c.in-Some.diff in
+    let whole = c.with_primal-whole in
+    let lens = lengths args.tree.now args.list.now args.program.now in
     let pre = c.requires in
-    let f = pre.2.0 in
-    let ss = pre.2.1 in
-    let D = pre.2.2 in
-    let H = has_derivative args.formula.now f D.given.formed D.given.limit args.by.symbol args.by.state survey_formula.result
-    survey_formula.ensures.0 with_primal_gives (not-false survey_formula.result.fine if1.false) with_primal.ensures in
+    let f = pre.3.0 in
+    let ss = pre.3.1 in
+    let D = pre.3.2 in
+    let H = has_derivative args.formula.now f D.given.formed D.given.limit args.by.symbol args.by.state found.result found.ensures.0 whole.result diff c.in-Some.is whole.ensures in
     let e = sym (by_is args.by.symbol f args.by.state ss D.is_state) ∙ H.1 in
-    let n = nodes_exact with_primal_gives H.0 H.2 (omega (arith, if2.false)) in
-    let limit = within_limit with_primal_gives H.0 H.2 (omega (arith, if2.false)) (omega (arith, if3.false)) in
-    let lens = lengths tree2 list program in
-    let fine = not-false survey_formula.result.fine if1.false in
-    let job = job_of args.by.symbol args.by.state args.formula.now args.table.now _ 32
-    (surveyed_room args.formula.now f D.given.formed D.given.limit args.table.now pre.0)
-    survey_formula.auto.table survey_formula.ensures.1 survey_formula.result survey_formula.ensures.0 fine in
-    let r = rooms lens with_primal.result.nodes (sym too_short2.ensures ∙ if4.false) in
-    let nodes_are = ap (λ (x : Attributes). x.nodes) with_primal.ensures in (
-      pre.1,
-      job false with_primal.result.nodes tree2 nodes_are (omega (arith, if2.false)) r.0,
-      job true with_primal.result.nodes list nodes_are (omega (arith, if2.false)) r.1,
-      (f, ss, H.0, record { given = D; derives = e; limit = limit; room = omega (arith, n, r.2) }),
+    let few : whole.result.nodes ≤ 16384 = omega (arith, c.if-whole-gt16384.false) in
+    let n = nodes_exact whole.result H.0 H.2 few in
+    let limit = within_limit whole.result H.0 H.2 few (omega (arith, c.if-whole-gt128.false)) in
+    let job = job_of args.by.symbol args.by.state args.formula.now _ _ 32 (surveyed_room args.formula.now f D.given.formed D.given.limit _ (omega (arith, pre.0, length-replicate {A = Row})))
+    found.auto.rows found.ensures.1 found.result found.ensures.0 diff c.in-Some.is in
+    let room = rooms lens whole.result.nodes (sym c.too_short.ensures ∙ c.if-too_short.false) in
+    let nodes = ap (λ (x : Attributes). x.nodes) whole.ensures in (
+      pre.2,
+      job false whole.result.nodes args.tree.now nodes few room.0,
+      job true whole.result.nodes args.list.now nodes few room.1,
+      (f, ss, H.0, record { given = D; derives = e; limit = limit; room = omega (arith, n, room.2) }),
     )
 
 pub returns : goal.returns
-returns c =
+returns g c =
     let args = c.args in
-    let survey_formula = c.survey_formula-found in
-    let if1 = c.if-not-found in
-    let with_primal = c.with_primal-whole in
-    let if2 = c.if-whole-gt16384 in
-    let if3 = c.if-whole-gt128 in
-    let if4 = c.if-too_short in
-    let too_short2 = c.too_short in
-    let tree2 = args.tree.now in
-    let list = args.list.now in
-    let program = args.program.now in
-    let with_primal_gives = with_primal.result in
-    let write_all = c.write_all in
+    let found = c.survey_formula-found in
+    let diff = c.in-Some.diff in
+    let whole = c.with_primal-whole in
+    let lens = lengths args.tree.now args.list.now args.program.now in
     λ f ss D.
-    let H = has_derivative args.formula.now f D.given.formed D.given.limit args.by.symbol args.by.state survey_formula.result
-    survey_formula.ensures.0 with_primal_gives (not-false survey_formula.result.fine if1.false) with_primal.ensures in
+    let H = has_derivative args.formula.now f D.given.formed D.given.limit args.by.symbol args.by.state found.result found.ensures.0 whole.result diff c.in-Some.is whole.ensures in
     let e = sym (by_is args.by.symbol f args.by.state ss D.is_state) ∙ H.1 in
-    let n = nodes_exact with_primal_gives H.0 H.2 (omega (arith, if2.false)) in
-    let limit = within_limit with_primal_gives H.0 H.2 (omega (arith, if2.false)) (omega (arith, if3.false)) in
-    let lens = lengths tree2 list program in
-    let r = rooms lens with_primal.result.nodes (sym too_short2.ensures ∙ if4.false) in
-    let R = write_all.ensures f ss H.0 (record { given = D; derives = e; limit = limit; room = omega (arith, n, r.2) }) in
-    leaves _ _ _ args.path.now write_all.new.path tree2 write_all.new.tree list write_all.new.list program
-    write_all.new.program (long_enough lens ss _ _ H.0 e limit (ap (too_short lens) (sym n) ∙ sym too_short2.ensures ∙ if4.false))
-    (ap Derived R.0, R.1, R.2, R.3, R.4)
+    let few : whole.result.nodes ≤ 16384 = omega (arith, c.if-whole-gt16384.false) in
+    let n = nodes_exact whole.result H.0 H.2 few in
+    let limit = within_limit whole.result H.0 H.2 few (omega (arith, c.if-whole-gt128.false)) in
+    let room = rooms lens whole.result.nodes (sym c.too_short.ensures ∙ c.if-too_short.false) in
+    let R = c.write_all.ensures f ss H.0 (record { given = D; derives = e; limit = limit; room = omega (arith, n, room.2) }) in
+    leaves _ _ _ _ _ _ _ _ _ _ _ (long_enough lens ss _ _ H.0 e limit (ap (too_short lens) (sym n) ∙ sym c.too_short.ensures ∙ c.if-too_short.false)) R

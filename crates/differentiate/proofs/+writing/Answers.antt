@@ -1,13 +1,13 @@
 use mathlib.Core.Logic.{⊎_elim}
-use Prim.Native.Nat.{ℕ, ◌+◌, ◌-◌, ◌/◌, ◌%◌}
+use Prim.Native.Nat.{ℕ, ◌+◌, ◌-◌, ◌%◌}
 use native.Mathlib.Omega.{arith}
 use mathlib.Core.Path.{refl, ◌∙◌, sym, ap}
 use mathlib.Core.List.{◌++◌}
 use Rattle.formula.specs.Node.{inner_fields}
-use Rattle.derivative.specs.Records.{by_rule as record_of, copy}
+use Rattle.derivative.specs.Records.{by_rule as record_of}
 use Rattle.derivative.specs.Attributes.{attributes_of}
 use Rattle.reader.proofs.Trees.{depth_pos}
-use Rattle.rules.specs.Notation.{code_at, end_at}
+use Rattle.rules.specs.Notation.{code_at}
 use Rattle.rules.specs.declared.RulePart.{RulePart}
 use Rattle.survey.specs.Derived.{derived_of}
 use Rattle.survey.specs.Table.{tree, number_of}
@@ -50,10 +50,16 @@ differentiate-write_rule-requires g t c =
     let part = c.args.part.now in
     let tree2 = tree part.node.formula.now part.node.number in
     let levels = ap (λ (x : RulePart). x.levels) c.in-Some.ensures.0 in
-    λ lives outlives. (omega (arith, levels), (outlives, (task_as part.by.symbol part.by.state part.node.formula.now part.node.rows.now part.node.number c.args.depth _ _ c.args.out.now
-    (ap (λ (x : RulePart). bytes g.F.Form.records (part_of part.by.symbol part.by.state part.node.number tree2 x.levels x.rule x.start)) c.in-Some.ensures.0
-    ∙ by_rule g.F.Form.records part.by.symbol part.by.state part.node.formula.now part.node.rows.now part.node.number c.requires.known c.if-not-has.false (number_of part.by.symbol part.by.state part.node.formula.now part.node.number) refl c.in-Some.ensures.1)
-    c.requires)))
+    λ lives outlives. (
+      omega (arith, levels),
+      (
+        outlives,
+        (task_as part.by.symbol part.by.state part.node.formula.now part.node.rows.now part.node.number c.args.depth _ _ c.args.out.now
+            (ap (λ (x : RulePart). bytes g.F.Form.records (part_of part.by.symbol part.by.state part.node.number tree2 x.levels x.rule x.start)) c.in-Some.ensures.0
+            ∙ by_rule g.F.Form.records part.by.symbol part.by.state part.node.formula.now part.node.rows.now part.node.number c.requires.known c.if-not-has.false (number_of part.by.symbol part.by.state part.node.formula.now part.node.number) refl c.in-Some.ensures.1)
+            c.requires),
+      ),
+    )
 
 pub differentiate-returns-in-Some : goal.differentiate-returns-in-Some
 differentiate-returns-in-Some g t c =
@@ -139,11 +145,18 @@ write_extremum-write_ties-requires g t c =
     let part = c.args.part.now in
     let tree2 = tree part.node.formula.now part.node.number in
     λ lives outlives. (
-      omega (arith, c.children-children.ensures.1, depth_pos tree2, c.requires.deep), (outlives,
-      (omega (arith, c.children-children.ensures.1, c.if-children-eq0.false), (task_as part.by.symbol part.by.state part.node.formula.now part.node.rows.now part.node.number c.args.depth _ _ c.args.out.now
-    (all_ties g.F.Form.records part.by.symbol part.by.state part.node.number tree2 c.children-children.result
-    (c.children-children.ensures.0 ∙ sym (count_is part.node.formula.now part.node.number part.node.owned.formed)) c.if-children-eq0.false)
-    c.requires))))
+      omega (arith, c.children-children.ensures.1, depth_pos tree2, c.requires.deep),
+      (
+        outlives,
+        (
+          omega (arith, c.children-children.ensures.1, c.if-children-eq0.false),
+          (task_as part.by.symbol part.by.state part.node.formula.now part.node.rows.now part.node.number c.args.depth _ _ c.args.out.now
+              (all_ties g.F.Form.records part.by.symbol part.by.state part.node.number tree2 c.children-children.result
+              (c.children-children.ensures.0 ∙ sym (count_is part.node.formula.now part.node.number part.node.owned.formed)) c.if-children-eq0.false)
+              c.requires),
+        ),
+      ),
+    )
 
 pub write_extremum-returns : goal.write_extremum-returns
 write_extremum-returns g t c =
@@ -172,9 +185,15 @@ write_sum-write_rule-requires g t c =
     let part = c.args.part.now in
     let tree2 = tree part.node.formula.now part.node.number in
     let first = c.args.first in
-    λ lives outlives. (omega arith, (outlives, (task_as part.by.symbol part.by.state part.node.formula.now part.node.rows.now part.node.number c.args.depth _ _ c.args.out.now
-    (sum_left g.F.Form.records part.by.symbol part.by.state part.node.number tree2 first.levels first.rule first.start c.end.result c.end.ensures (zero_test g.F.Form.records part.by.symbol part.by.state part.node.number tree2 first.levels first.rule first.start c.is_zero.result c.rule_attributes.result _ c.is_zero.ensures c.rule_attributes.ensures c.if-is_zero.true))
-    c.requires)))
+    λ lives outlives. (
+      omega arith,
+      (
+        outlives,
+        (task_as part.by.symbol part.by.state part.node.formula.now part.node.rows.now part.node.number c.args.depth _ _ c.args.out.now
+            (sum_left g.F.Form.records part.by.symbol part.by.state part.node.number tree2 first.levels first.rule first.start c.end.result c.end.ensures (zero_test g.F.Form.records part.by.symbol part.by.state part.node.number tree2 first.levels first.rule first.start c.is_zero.result c.rule_attributes.result _ c.is_zero.ensures c.rule_attributes.ensures c.if-is_zero.true))
+            c.requires),
+      ),
+    )
 
 pub write_sum-returns-then-is_zero : goal.write_sum-returns-then-is_zero
 write_sum-returns-then-is_zero g t c =
@@ -190,9 +209,15 @@ write_sum-write_rule-requires-then-is_zero-2 g t c =
     let part = c.args.part.now in
     let tree2 = tree part.node.formula.now part.node.number in
     let first = c.args.first in
-    λ lives outlives. (omega arith, (outlives, (task_as part.by.symbol part.by.state part.node.formula.now part.node.rows.now part.node.number c.args.depth _ _ c.args.out.now
-    (sum_right g.F.Form.records part.by.symbol part.by.state part.node.number tree2 first.levels first.rule first.start c.end.result c.end.ensures (zero_test g.F.Form.records part.by.symbol part.by.state part.node.number tree2 first.levels first.rule first.start c.is_zero.result c.rule_attributes.result _ c.is_zero.ensures c.rule_attributes.ensures c.if-is_zero.false) (zero_test g.F.Form.records part.by.symbol part.by.state part.node.number tree2 first.levels first.rule c.end.result c.is_zero-2.result c.rule_attributes-2.result _ c.is_zero-2.ensures c.rule_attributes-2.ensures c.if-is_zero-2.true))
-    c.requires)))
+    λ lives outlives. (
+      omega arith,
+      (
+        outlives,
+        (task_as part.by.symbol part.by.state part.node.formula.now part.node.rows.now part.node.number c.args.depth _ _ c.args.out.now
+            (sum_right g.F.Form.records part.by.symbol part.by.state part.node.number tree2 first.levels first.rule first.start c.end.result c.end.ensures (zero_test g.F.Form.records part.by.symbol part.by.state part.node.number tree2 first.levels first.rule first.start c.is_zero.result c.rule_attributes.result _ c.is_zero.ensures c.rule_attributes.ensures c.if-is_zero.false) (zero_test g.F.Form.records part.by.symbol part.by.state part.node.number tree2 first.levels first.rule c.end.result c.is_zero-2.result c.rule_attributes-2.result _ c.is_zero-2.ensures c.rule_attributes-2.ensures c.if-is_zero-2.true))
+            c.requires),
+      ),
+    )
 
 pub write_sum-returns-then-is_zero-2 : goal.write_sum-returns-then-is_zero-2
 write_sum-returns-then-is_zero-2 g t c =
@@ -208,9 +233,18 @@ write_sum-write_node-requires g t c =
     let part = c.args.part.now in
     let tree2 = tree part.node.formula.now part.node.number in
     let first = c.args.first in
-    λ lives outlives. (omega arith, (outlives, (omega arith, (task_as part.by.symbol part.by.state part.node.formula.now part.node.rows.now part.node.number c.args.depth _ _ c.args.out.now
-    (sum_kept g.F.Form.records part.by.symbol part.by.state part.node.number tree2 first.levels first.rule first.start c.end.result c.end.ensures (zero_test g.F.Form.records part.by.symbol part.by.state part.node.number tree2 first.levels first.rule first.start c.is_zero.result c.rule_attributes.result _ c.is_zero.ensures c.rule_attributes.ensures c.if-is_zero.false) (zero_test g.F.Form.records part.by.symbol part.by.state part.node.number tree2 first.levels first.rule c.end.result c.is_zero-2.result c.rule_attributes-2.result _ c.is_zero-2.ensures c.rule_attributes-2.ensures c.if-is_zero-2.false))
-    c.requires))))
+    λ lives outlives. (
+      omega arith,
+      (
+        outlives,
+        (
+          omega arith,
+          (task_as part.by.symbol part.by.state part.node.formula.now part.node.rows.now part.node.number c.args.depth _ _ c.args.out.now
+              (sum_kept g.F.Form.records part.by.symbol part.by.state part.node.number tree2 first.levels first.rule first.start c.end.result c.end.ensures (zero_test g.F.Form.records part.by.symbol part.by.state part.node.number tree2 first.levels first.rule first.start c.is_zero.result c.rule_attributes.result _ c.is_zero.ensures c.rule_attributes.ensures c.if-is_zero.false) (zero_test g.F.Form.records part.by.symbol part.by.state part.node.number tree2 first.levels first.rule c.end.result c.is_zero-2.result c.rule_attributes-2.result _ c.is_zero-2.ensures c.rule_attributes-2.ensures c.if-is_zero-2.false))
+              c.requires),
+        ),
+      ),
+    )
 
 pub write_sum-returns : goal.write_sum-returns
 write_sum-returns g t c =
@@ -228,7 +262,7 @@ write_product-put_literal-requires g t c =
     let first = c.args.first in
     bytes_room g.F.Form.records _ _ _
     (elim c.then-is_zero.branch [
-      write_product-then-is_zero-via-then-is_zero w ↦
+      | write_product-then-is_zero-via-then-is_zero w ↦
           product_left g.F.Form.records part.by.symbol part.by.state part.node.number tree2 first.levels first.rule first.start c.end.result c.end.ensures
           (zero_test g.F.Form.records part.by.symbol part.by.state part.node.number tree2 first.levels first.rule first.start c.is_zero.result c.rule_attributes-a.result _ c.is_zero.ensures c.rule_attributes-a.ensures w.if-is_zero.true)
       | write_product-then-is_zero-via-else-is_zero+then-is_zero-2 w ↦
@@ -245,7 +279,7 @@ write_product-returns-then-is_zero g t c =
     let first = c.args.first in
     as_text _ _ _ _ _
     (elim c.then-is_zero.branch [
-      write_product-then-is_zero-via-then-is_zero w ↦
+      | write_product-then-is_zero-via-then-is_zero w ↦
           product_left g.F.Form.records part.by.symbol part.by.state part.node.number tree2 first.levels first.rule first.start c.end.result c.end.ensures
           (zero_test g.F.Form.records part.by.symbol part.by.state part.node.number tree2 first.levels first.rule first.start c.is_zero.result c.rule_attributes-a.result _ c.is_zero.ensures c.rule_attributes-a.ensures w.if-is_zero.true)
       | write_product-then-is_zero-via-else-is_zero+then-is_zero-2 w ↦
@@ -260,9 +294,15 @@ write_product-write_rule-requires g t c =
     let part = c.args.part.now in
     let tree2 = tree part.node.formula.now part.node.number in
     let first = c.args.first in
-    λ lives outlives. (omega arith, (outlives, (task_as part.by.symbol part.by.state part.node.formula.now part.node.rows.now part.node.number c.args.depth _ _ c.args.out.now
-    (one_left g.F.Form.records part.by.symbol part.by.state part.node.number tree2 first.levels first.rule first.start c.end.result c.end.ensures (zero_test g.F.Form.records part.by.symbol part.by.state part.node.number tree2 first.levels first.rule first.start c.is_zero.result c.rule_attributes-a.result _ c.is_zero.ensures c.rule_attributes-a.ensures c.if-is_zero.false) (zero_test g.F.Form.records part.by.symbol part.by.state part.node.number tree2 first.levels first.rule c.end.result c.is_zero-else-is_zero.result c.rule_attributes-b.result _ c.is_zero-else-is_zero.ensures c.rule_attributes-b.ensures c.if-is_zero-2.false) (one_test g.F.Form.records part.by.symbol part.by.state part.node.number tree2 first.levels first.rule first.start c.is_one.result c.rule_attributes-a.result _ c.is_one.ensures c.rule_attributes-a.ensures c.if-is_one.true))
-    c.requires)))
+    λ lives outlives. (
+      omega arith,
+      (
+        outlives,
+        (task_as part.by.symbol part.by.state part.node.formula.now part.node.rows.now part.node.number c.args.depth _ _ c.args.out.now
+            (one_left g.F.Form.records part.by.symbol part.by.state part.node.number tree2 first.levels first.rule first.start c.end.result c.end.ensures (zero_test g.F.Form.records part.by.symbol part.by.state part.node.number tree2 first.levels first.rule first.start c.is_zero.result c.rule_attributes-a.result _ c.is_zero.ensures c.rule_attributes-a.ensures c.if-is_zero.false) (zero_test g.F.Form.records part.by.symbol part.by.state part.node.number tree2 first.levels first.rule c.end.result c.is_zero-else-is_zero.result c.rule_attributes-b.result _ c.is_zero-else-is_zero.ensures c.rule_attributes-b.ensures c.if-is_zero-2.false) (one_test g.F.Form.records part.by.symbol part.by.state part.node.number tree2 first.levels first.rule first.start c.is_one.result c.rule_attributes-a.result _ c.is_one.ensures c.rule_attributes-a.ensures c.if-is_one.true))
+            c.requires),
+      ),
+    )
 
 pub write_product-returns-then-is_one : goal.write_product-returns-then-is_one
 write_product-returns-then-is_one g t c =
@@ -278,9 +318,15 @@ write_product-write_rule-requires-then-is_one-2 g t c =
     let part = c.args.part.now in
     let tree2 = tree part.node.formula.now part.node.number in
     let first = c.args.first in
-    λ lives outlives. (omega arith, (outlives, (task_as part.by.symbol part.by.state part.node.formula.now part.node.rows.now part.node.number c.args.depth _ _ c.args.out.now
-    (one_right g.F.Form.records part.by.symbol part.by.state part.node.number tree2 first.levels first.rule first.start c.end.result c.end.ensures (zero_test g.F.Form.records part.by.symbol part.by.state part.node.number tree2 first.levels first.rule first.start c.is_zero.result c.rule_attributes-a.result _ c.is_zero.ensures c.rule_attributes-a.ensures c.if-is_zero.false) (zero_test g.F.Form.records part.by.symbol part.by.state part.node.number tree2 first.levels first.rule c.end.result c.is_zero-else-is_zero.result c.rule_attributes-b.result _ c.is_zero-else-is_zero.ensures c.rule_attributes-b.ensures c.if-is_zero-2.false) (one_test g.F.Form.records part.by.symbol part.by.state part.node.number tree2 first.levels first.rule first.start c.is_one.result c.rule_attributes-a.result _ c.is_one.ensures c.rule_attributes-a.ensures c.if-is_one.false) (one_test g.F.Form.records part.by.symbol part.by.state part.node.number tree2 first.levels first.rule c.end.result c.is_one-2.result c.rule_attributes-b.result _ c.is_one-2.ensures c.rule_attributes-b.ensures c.if-is_one-2.true))
-    c.requires)))
+    λ lives outlives. (
+      omega arith,
+      (
+        outlives,
+        (task_as part.by.symbol part.by.state part.node.formula.now part.node.rows.now part.node.number c.args.depth _ _ c.args.out.now
+            (one_right g.F.Form.records part.by.symbol part.by.state part.node.number tree2 first.levels first.rule first.start c.end.result c.end.ensures (zero_test g.F.Form.records part.by.symbol part.by.state part.node.number tree2 first.levels first.rule first.start c.is_zero.result c.rule_attributes-a.result _ c.is_zero.ensures c.rule_attributes-a.ensures c.if-is_zero.false) (zero_test g.F.Form.records part.by.symbol part.by.state part.node.number tree2 first.levels first.rule c.end.result c.is_zero-else-is_zero.result c.rule_attributes-b.result _ c.is_zero-else-is_zero.ensures c.rule_attributes-b.ensures c.if-is_zero-2.false) (one_test g.F.Form.records part.by.symbol part.by.state part.node.number tree2 first.levels first.rule first.start c.is_one.result c.rule_attributes-a.result _ c.is_one.ensures c.rule_attributes-a.ensures c.if-is_one.false) (one_test g.F.Form.records part.by.symbol part.by.state part.node.number tree2 first.levels first.rule c.end.result c.is_one-2.result c.rule_attributes-b.result _ c.is_one-2.ensures c.rule_attributes-b.ensures c.if-is_one-2.true))
+            c.requires),
+      ),
+    )
 
 pub write_product-returns-then-is_one-2 : goal.write_product-returns-then-is_one-2
 write_product-returns-then-is_one-2 g t c =
@@ -296,9 +342,18 @@ write_product-write_node-requires g t c =
     let part = c.args.part.now in
     let tree2 = tree part.node.formula.now part.node.number in
     let first = c.args.first in
-    λ lives outlives. (omega arith, (outlives, (omega arith, (task_as part.by.symbol part.by.state part.node.formula.now part.node.rows.now part.node.number c.args.depth _ _ c.args.out.now
-    (product_kept g.F.Form.records part.by.symbol part.by.state part.node.number tree2 first.levels first.rule first.start c.end.result c.end.ensures (zero_test g.F.Form.records part.by.symbol part.by.state part.node.number tree2 first.levels first.rule first.start c.is_zero.result c.rule_attributes-a.result _ c.is_zero.ensures c.rule_attributes-a.ensures c.if-is_zero.false) (zero_test g.F.Form.records part.by.symbol part.by.state part.node.number tree2 first.levels first.rule c.end.result c.is_zero-else-is_zero.result c.rule_attributes-b.result _ c.is_zero-else-is_zero.ensures c.rule_attributes-b.ensures c.if-is_zero-2.false) (one_test g.F.Form.records part.by.symbol part.by.state part.node.number tree2 first.levels first.rule first.start c.is_one.result c.rule_attributes-a.result _ c.is_one.ensures c.rule_attributes-a.ensures c.if-is_one.false) (one_test g.F.Form.records part.by.symbol part.by.state part.node.number tree2 first.levels first.rule c.end.result c.is_one-2.result c.rule_attributes-b.result _ c.is_one-2.ensures c.rule_attributes-b.ensures c.if-is_one-2.false))
-    c.requires))))
+    λ lives outlives. (
+      omega arith,
+      (
+        outlives,
+        (
+          omega arith,
+          (task_as part.by.symbol part.by.state part.node.formula.now part.node.rows.now part.node.number c.args.depth _ _ c.args.out.now
+              (product_kept g.F.Form.records part.by.symbol part.by.state part.node.number tree2 first.levels first.rule first.start c.end.result c.end.ensures (zero_test g.F.Form.records part.by.symbol part.by.state part.node.number tree2 first.levels first.rule first.start c.is_zero.result c.rule_attributes-a.result _ c.is_zero.ensures c.rule_attributes-a.ensures c.if-is_zero.false) (zero_test g.F.Form.records part.by.symbol part.by.state part.node.number tree2 first.levels first.rule c.end.result c.is_zero-else-is_zero.result c.rule_attributes-b.result _ c.is_zero-else-is_zero.ensures c.rule_attributes-b.ensures c.if-is_zero-2.false) (one_test g.F.Form.records part.by.symbol part.by.state part.node.number tree2 first.levels first.rule first.start c.is_one.result c.rule_attributes-a.result _ c.is_one.ensures c.rule_attributes-a.ensures c.if-is_one.false) (one_test g.F.Form.records part.by.symbol part.by.state part.node.number tree2 first.levels first.rule c.end.result c.is_one-2.result c.rule_attributes-b.result _ c.is_one-2.ensures c.rule_attributes-b.ensures c.if-is_one-2.false))
+              c.requires),
+        ),
+      ),
+    )
 
 pub write_product-returns : goal.write_product-returns
 write_product-returns g t c =
@@ -417,9 +472,15 @@ write_rule-write_diff-requires g t c =
     let tree2 = tree part.node.formula.now part.node.number in
     let here = c.args.here in
     let number = code_at here.rule here.start in
-    λ lives outlives. (omega (arith, c.if-here-eq0.false, depth_pos tree2, c.requires.deep), (outlives, (task_as part.by.symbol part.by.state part.node.formula.now part.node.rows.now part.node.number c.args.depth _ _ c.args.out.now
-    (ap (λ (x : ℕ). bytes g.F.Form.records (recorded_of part.by.symbol part.by.state part.node.number tree2 x)) c.in-Derivative.ensures.which ∙ text_diff g.F.Form.records part.by.symbol part.by.state part.node.number tree2 here.levels here.rule here.start number c.if-here-eq0.false c.if-here-ge128.false refl (sym c.in-Derivative.ensures.kind))
-    c.requires)))
+    λ lives outlives. (
+      omega (arith, c.if-here-eq0.false, depth_pos tree2, c.requires.deep),
+      (
+        outlives,
+        (task_as part.by.symbol part.by.state part.node.formula.now part.node.rows.now part.node.number c.args.depth _ _ c.args.out.now
+            (ap (λ (x : ℕ). bytes g.F.Form.records (recorded_of part.by.symbol part.by.state part.node.number tree2 x)) c.in-Derivative.ensures.which ∙ text_diff g.F.Form.records part.by.symbol part.by.state part.node.number tree2 here.levels here.rule here.start number c.if-here-eq0.false c.if-here-ge128.false refl (sym c.in-Derivative.ensures.kind))
+            c.requires),
+      ),
+    )
 
 pub write_rule-returns-in-Derivative : goal.write_rule-returns-in-Derivative
 write_rule-returns-in-Derivative g t c =
@@ -437,9 +498,15 @@ write_rule-write_sum-requires g t c =
     let tree2 = tree part.node.formula.now part.node.number in
     let here = c.args.here in
     let number = code_at here.rule here.start in
-    λ lives outlives. (omega (arith, c.if-here-eq0.false, depth_pos tree2, c.requires.deep), (outlives, (task_as part.by.symbol part.by.state part.node.formula.now part.node.rows.now part.node.number c.args.depth _ _ c.args.out.now
-    (text_sum g.F.Form.records part.by.symbol part.by.state part.node.number tree2 here.levels here.rule here.start number c.if-here-eq0.false c.if-here-ge128.false refl (sym c.in-Add.ensures.kind))
-    c.requires)))
+    λ lives outlives. (
+      omega (arith, c.if-here-eq0.false, depth_pos tree2, c.requires.deep),
+      (
+        outlives,
+        (task_as part.by.symbol part.by.state part.node.formula.now part.node.rows.now part.node.number c.args.depth _ _ c.args.out.now
+            (text_sum g.F.Form.records part.by.symbol part.by.state part.node.number tree2 here.levels here.rule here.start number c.if-here-eq0.false c.if-here-ge128.false refl (sym c.in-Add.ensures.kind))
+            c.requires),
+      ),
+    )
 
 pub write_rule-returns-in-Add : goal.write_rule-returns-in-Add
 write_rule-returns-in-Add g t c =
@@ -457,9 +524,15 @@ write_rule-write_product-requires g t c =
     let tree2 = tree part.node.formula.now part.node.number in
     let here = c.args.here in
     let number = code_at here.rule here.start in
-    λ lives outlives. (omega (arith, c.if-here-eq0.false, depth_pos tree2, c.requires.deep), (outlives, (task_as part.by.symbol part.by.state part.node.formula.now part.node.rows.now part.node.number c.args.depth _ _ c.args.out.now
-    (text_product g.F.Form.records part.by.symbol part.by.state part.node.number tree2 here.levels here.rule here.start number c.if-here-eq0.false c.if-here-ge128.false refl (sym c.in-Multiply.ensures.kind))
-    c.requires)))
+    λ lives outlives. (
+      omega (arith, c.if-here-eq0.false, depth_pos tree2, c.requires.deep),
+      (
+        outlives,
+        (task_as part.by.symbol part.by.state part.node.formula.now part.node.rows.now part.node.number c.args.depth _ _ c.args.out.now
+            (text_product g.F.Form.records part.by.symbol part.by.state part.node.number tree2 here.levels here.rule here.start number c.if-here-eq0.false c.if-here-ge128.false refl (sym c.in-Multiply.ensures.kind))
+            c.requires),
+      ),
+    )
 
 pub write_rule-returns-in-Multiply : goal.write_rule-returns-in-Multiply
 write_rule-returns-in-Multiply g t c =
@@ -477,9 +550,15 @@ write_rule-write_extremum-requires g t c =
     let tree2 = tree part.node.formula.now part.node.number in
     let here = c.args.here in
     let number = code_at here.rule here.start in
-    λ lives outlives. (omega (arith, c.if-here-eq0.false, depth_pos tree2, c.requires.deep), (outlives, (task_as part.by.symbol part.by.state part.node.formula.now part.node.rows.now part.node.number c.args.depth _ _ c.args.out.now
-    (text_extremum g.F.Form.records part.by.symbol part.by.state part.node.number tree2 here.levels here.rule here.start number c.if-here-eq0.false c.if-here-ge128.false refl (sym c.in-Extremum.ensures.kind))
-    c.requires)))
+    λ lives outlives. (
+      omega (arith, c.if-here-eq0.false, depth_pos tree2, c.requires.deep),
+      (
+        outlives,
+        (task_as part.by.symbol part.by.state part.node.formula.now part.node.rows.now part.node.number c.args.depth _ _ c.args.out.now
+            (text_extremum g.F.Form.records part.by.symbol part.by.state part.node.number tree2 here.levels here.rule here.start number c.if-here-eq0.false c.if-here-ge128.false refl (sym c.in-Extremum.ensures.kind))
+            c.requires),
+      ),
+    )
 
 pub write_rule-returns-in-Extremum : goal.write_rule-returns-in-Extremum
 write_rule-returns-in-Extremum g t c =
@@ -497,10 +576,19 @@ write_rule-write_node-requires g t c =
     let tree2 = tree part.node.formula.now part.node.number in
     let here = c.args.here in
     let number = code_at here.rule here.start in
-    λ lives outlives. (omega (arith, c.if-here-eq0.false), (outlives, (omega (arith, c.parts.ensures, c.in-Node.ensures.few), (task_as part.by.symbol part.by.state part.node.formula.now part.node.rows.now part.node.number c.args.depth _ _ c.args.out.now
-    (text_head g.F.Form.records part.by.symbol part.by.state part.node.number tree2 here.levels here.rule here.start number c.if-here-eq0.false c.if-here-ge128.false refl c.in-Node.head.kind c.in-Node.head.operator c.in-Node.head.children c.parts.result c.in-Node.ensures.kind c.in-Node.ensures.which
-    c.in-Node.ensures.parts_follow (c.parts.ensures ∙ c.in-Node.ensures.parts_follow) (writing number (sym c.in-Node.ensures.node)))
-    c.requires))))
+    λ lives outlives. (
+      omega (arith, c.if-here-eq0.false),
+      (
+        outlives,
+        (
+          omega (arith, c.parts.ensures, c.in-Node.ensures.few),
+          (task_as part.by.symbol part.by.state part.node.formula.now part.node.rows.now part.node.number c.args.depth _ _ c.args.out.now
+              (text_head g.F.Form.records part.by.symbol part.by.state part.node.number tree2 here.levels here.rule here.start number c.if-here-eq0.false c.if-here-ge128.false refl c.in-Node.head.kind c.in-Node.head.operator c.in-Node.head.children c.parts.result c.in-Node.ensures.kind c.in-Node.ensures.which
+              c.in-Node.ensures.parts_follow (c.parts.ensures ∙ c.in-Node.ensures.parts_follow) (writing number (sym c.in-Node.ensures.node)))
+              c.requires),
+        ),
+      ),
+    )
 
 pub write_rule-returns-in-Node : goal.write_rule-returns-in-Node
 write_rule-returns-in-Node g t c =
@@ -543,11 +631,17 @@ write_rule-write_rule-requires g t c =
     let tree2 = tree part.node.formula.now part.node.number in
     let here = c.args.here in
     let number = code_at here.rule here.start in
-    λ lives outlives. (omega (arith, c.if-here-eq0.false), (outlives, (task_as part.by.symbol part.by.state part.node.formula.now part.node.rows.now part.node.number c.args.depth _ _ c.args.out.now
-    (text_unless_no g.F.Form.records part.by.symbol part.by.state part.node.number tree2 here.levels here.rule here.start number c.if-here-eq0.false c.if-here-ge128.false refl (sym c.in-Unless.ensures.kind)
-    (tested c.is_zero.result c.diff_attributes.result (derived_of part.by.symbol part.by.state tree2 (number % 16)) _ c.is_zero.ensures
-    (c.diff_attributes.ensures ∙ ap (λ (x : ℕ). attributes_of (derived_of part.by.symbol part.by.state tree2 x)) c.in-Unless.ensures.which) c.if-is_zero.false))
-    c.requires)))
+    λ lives outlives. (
+      omega (arith, c.if-here-eq0.false),
+      (
+        outlives,
+        (task_as part.by.symbol part.by.state part.node.formula.now part.node.rows.now part.node.number c.args.depth _ _ c.args.out.now
+            (text_unless_no g.F.Form.records part.by.symbol part.by.state part.node.number tree2 here.levels here.rule here.start number c.if-here-eq0.false c.if-here-ge128.false refl (sym c.in-Unless.ensures.kind)
+            (tested c.is_zero.result c.diff_attributes.result (derived_of part.by.symbol part.by.state tree2 (number % 16)) _ c.is_zero.ensures
+            (c.diff_attributes.ensures ∙ ap (λ (x : ℕ). attributes_of (derived_of part.by.symbol part.by.state tree2 x)) c.in-Unless.ensures.which) c.if-is_zero.false))
+            c.requires),
+      ),
+    )
 
 pub write_rule-returns-else-is_zero : goal.write_rule-returns-else-is_zero
 write_rule-returns-else-is_zero g t c =
@@ -587,11 +681,15 @@ write_rules-write_rules-requires g t c =
     let text = next_part g.F.Form.records part.by.symbol part.by.state part.node.number tree2 here.levels here.rule c.args.left here.start c.end.result c.if-left-eq0.false c.end.ensures in
     let room = room_as _ _ _ text c.requires.1.room in
     λ lives outlives. (
-      omega (arith, c.if-left-eq0.false), (outlives,
+      omega (arith, c.if-left-eq0.false),
       (
-        omega (arith, c.requires.0),
-        record { known = c.requires.1.known; deep = c.requires.1.deep; room = behind_room c.write_rule-n.ensures rest room },
-      )))
+        outlives,
+        (
+          omega (arith, c.requires.0),
+          record { known = c.requires.1.known; deep = c.requires.1.deep; room = behind_room c.write_rule-n.ensures rest room },
+        ),
+      ),
+    )
 
 pub write_rules-returns : goal.write_rules-returns
 write_rules-returns g t c =
@@ -607,9 +705,15 @@ pub write_ties-write_diff-requires : goal.write_ties-write_diff-requires
 write_ties-write_diff-requires g t c =
     let part = c.args.part.now in
     let tree2 = tree part.node.formula.now part.node.number in
-    λ lives outlives. (omega arith, (outlives, (task_as part.by.symbol part.by.state part.node.formula.now part.node.rows.now part.node.number c.args.depth _ _ c.args.out.now
-    (last_tie g.F.Form.records part.by.symbol part.by.state part.node.number tree2 c.args.i c.args.left c.if-left-eq0.true)
-    c.requires.1)))
+    λ lives outlives. (
+      omega arith,
+      (
+        outlives,
+        (task_as part.by.symbol part.by.state part.node.formula.now part.node.rows.now part.node.number c.args.depth _ _ c.args.out.now
+            (last_tie g.F.Form.records part.by.symbol part.by.state part.node.number tree2 c.args.i c.args.left c.if-left-eq0.true)
+            c.requires.1),
+      ),
+    )
 
 pub write_ties-returns-then-left-eq0 : goal.write_ties-returns-then-left-eq0
 write_ties-returns-then-left-eq0 g t c =
@@ -655,11 +759,15 @@ write_ties-write_ties-requires g t c =
     let both = front (tie ++ one) rest c.args.out.now room in
     let done = behind_writes c.put_tie-n.ensures one both c.write_diff-2.ensures in
     λ lives outlives. (
-      omega (arith, c.if-left-eq0.false), (outlives,
+      omega (arith, c.if-left-eq0.false),
       (
-        omega (arith, c.requires.0, c.if-left-eq0.false),
-        record { known = c.requires.1.known; deep = c.requires.1.deep; room = behind_room done rest room },
-      )))
+        outlives,
+        (
+          omega (arith, c.requires.0, c.if-left-eq0.false),
+          record { known = c.requires.1.known; deep = c.requires.1.deep; room = behind_room done rest room },
+        ),
+      ),
+    )
 
 pub write_ties-returns : goal.write_ties-returns
 write_ties-returns g t c =

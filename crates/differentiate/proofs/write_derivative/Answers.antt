@@ -1,4 +1,3 @@
-use native.Mathlib.Omega.{arith}
 use Rattle.survey.specs.Table.{tree}
 use Rattle.differentiate.specs.Written.{bytes, recorded, primal_bytes}
 use Rattle.differentiate.proofs.Lists.{front, behind_room, behind_writes}

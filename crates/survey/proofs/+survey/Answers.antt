@@ -71,7 +71,7 @@ invariant_of-part t c =
     record {
       ready =
           ready args.by.symbol args.by.state args.f.now args.rows.now args.k args.depth loop.invariant.0 loop.rows loop.has loop.fine loop.levels
-    loop.next (c.half-children.result - loop._child) loop.invariant.1 (omega (arith, c.loop-child.auto._child-end, c.loop-child-test.false))
+          loop.next (c.half-children.result - loop._child) loop.invariant.1 (omega (arith, c.loop-child.auto._child-end, c.loop-child-test.false))
           (record { nodes = loop.next - args.k; levels = loop.levels + 1; has = loop.has; fine = false; diff = empty_row.diff }) refl refl;
     }
 

@@ -19,7 +19,7 @@ returns c =
     let row = row_in c.survey.new.rows 0 in (
       ap (λ (x : Option Attributes). record { own = reading c.attributes.result; has_symbol = row.has; diff = x })
           (elim c.if-row.branch [
-            then-row w ↦ ap readings w.diff-is ∙ sym (ap (λ (x : Bool). cond x (some (reading row.diff)) none) w.if-row.true)
+            | then-row w ↦ ap readings w.diff-is ∙ sym (ap (λ (x : Bool). cond x (some (reading row.diff)) none) w.if-row.true)
             | else-row w ↦ ap readings w.diff-is ∙ sym (ap (λ (x : Bool). cond x (some (reading row.diff)) none) w.if-row.false)
           ])
           ∙ survey_is args.by.symbol args.by.state (tree args.f.now 0) (reading c.attributes.result) (reading row.diff) row.has row.fine

@@ -1,4 +1,3 @@
-use Prim.Native.Nat.{◌≤◌}
 use mathlib.Core.Path.{◌≡◌}
 use Rattle.derivative.specs.Records.{list_bytes}
 use Rattle.derivative.specs.Provenance.{numbered}

@@ -1,5 +1,3 @@
-use native.Mathlib.Omega.{arith}
-use mathlib.Core.Path.{refl}
 use Rattle.survey.specs.Table.{option_of}
 use Rattle.survey.proofs.Rows.{own_right, row_inside}
 use Rattle.survey.proofs.Node.attributes.Goals as goal

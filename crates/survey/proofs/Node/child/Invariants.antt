@@ -1,4 +1,4 @@
-use Prim.Native.Nat.{◌≤◌, ◌+◌, ◌-◌, ◌*◌}
+use Prim.Native.Nat.{◌+◌, ◌-◌, ◌*◌}
 use Rattle.formula.specs.Text.{half_at}
 use Rattle.formula.specs.Node.{node_size}
 use Rattle.survey.proofs.Trees.{Walk}

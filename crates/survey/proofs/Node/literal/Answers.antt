@@ -1,4 +1,3 @@
-use native.Mathlib.Omega.{arith}
 use mathlib.Core.Path.{◌∙◌, sym}
 use Rattle.survey.proofs.Rows.{literal_yes, literal_no}
 use Rattle.survey.proofs.Node.literal.Goals as goal

@@ -62,8 +62,7 @@ pub rule_attributes-add-requires : goal.rule_attributes-add-requires
 rule_attributes-add-requires measure c =
     let part = c.args.self.now in
     let here = c.args.here in
-    let t = tree part.node.formula.now part.node.number in
-    (
+    let t = tree part.node.formula.now part.node.number in (
       capped_worked part.by.symbol part.by.state t (here.levels - 1) here.rule (here.start + 1) c.rule_attributes-a.result c.rule_attributes-a.ensures,
       capped_worked part.by.symbol part.by.state t (here.levels - 1) here.rule c.end.result c.rule_attributes-in-Add.result c.rule_attributes-in-Add.ensures,
     )
@@ -81,8 +80,7 @@ pub rule_attributes-multiply-requires : goal.rule_attributes-multiply-requires
 rule_attributes-multiply-requires measure c =
     let part = c.args.self.now in
     let here = c.args.here in
-    let t = tree part.node.formula.now part.node.number in
-    (
+    let t = tree part.node.formula.now part.node.number in (
       capped_worked part.by.symbol part.by.state t (here.levels - 1) here.rule (here.start + 1) c.rule_attributes-a-in-Multiply.result c.rule_attributes-a-in-Multiply.ensures,
       capped_worked part.by.symbol part.by.state t (here.levels - 1) here.rule c.end-in-Multiply.result c.rule_attributes-in-Multiply.result c.rule_attributes-in-Multiply.ensures,
     )

@@ -1,7 +1,7 @@
-use Prim.Native.Nat.{◌<◌, ◌≤◌, ◌-◌}
+use Prim.Native.Nat.{◌-◌}
 use mathlib.Core.Path.{◌≡◌}
 use Rattle.derivative.specs.Rules.{instance, extremum_from}
-use Rattle.derivative.specs.Attributes.{attribute_algebra, attributes_of}
+use Rattle.derivative.specs.Attributes.{attribute_algebra}
 use Rattle.survey.specs.Table.{tree, reading}
 use Rattle.survey.specs.Worked.{attribute_parts}
 use Rattle.survey.proofs.Part.extremum.Given as goal

@@ -1,6 +1,6 @@
 use native.Mathlib.Omega.{arith}
 use Prim.Native.Nat.{◌+◌, ◌*◌}
-use mathlib.Core.Path.{◌∙◌, ap, sym}
+use mathlib.Core.Path.{◌∙◌, ap}
 use Rattle.derivative.specs.Differentiate.{first_depends}
 use Rattle.rules.specs.Notation.{power_number}
 use Rattle.survey.specs.Derived.{children_of}
