@@ -6,3 +6,4 @@ pub mod Entries
 pub mod Own
 pub mod Back
 pub mod Cut
+pub mod Numbers

@@ -42,3 +42,19 @@ number_back (suc (suc (suc (suc (suc (suc (suc (suc (suc (suc (suc zero)))))))))
 number_back (suc (suc (suc (suc (suc (suc (suc (suc (suc (suc (suc (suc zero)))))))))))) k low high = refl
 number_back (suc (suc (suc (suc (suc (suc (suc (suc (suc (suc (suc (suc (suc zero))))))))))))) k low high = refl
 number_back (suc (suc (suc (suc (suc (suc (suc (suc (suc (suc (suc (suc (suc (suc n)))))))))))))) k low high = absurd (omega arith)
+
+-- a number from 3 to 11 names no node
+pub no_node : (n k : ℕ) → 3 ≤ n → n ≤ 11 → node_of (refusal_at n k) ≡ None
+no_node zero k low high = absurd (omega arith)
+no_node (suc zero) k low high = absurd (omega arith)
+no_node (suc (suc zero)) k low high = absurd (omega arith)
+no_node (suc (suc (suc zero))) k low high = refl
+no_node (suc (suc (suc (suc zero)))) k low high = refl
+no_node (suc (suc (suc (suc (suc zero))))) k low high = refl
+no_node (suc (suc (suc (suc (suc (suc zero)))))) k low high = refl
+no_node (suc (suc (suc (suc (suc (suc (suc zero))))))) k low high = refl
+no_node (suc (suc (suc (suc (suc (suc (suc (suc zero)))))))) k low high = refl
+no_node (suc (suc (suc (suc (suc (suc (suc (suc (suc zero))))))))) k low high = refl
+no_node (suc (suc (suc (suc (suc (suc (suc (suc (suc (suc zero)))))))))) k low high = refl
+no_node (suc (suc (suc (suc (suc (suc (suc (suc (suc (suc (suc zero))))))))))) k low high = refl
+no_node (suc (suc (suc (suc (suc (suc (suc (suc (suc (suc (suc (suc n)))))))))))) k low high = absurd (omega arith)
