@@ -16,12 +16,13 @@ use Rattle.layout.specs.Opcode.{step_of}
 use Rattle.layout.proofs.Records.{step_back}
 use Rattle.layout.specs.Image.{entry_count, entry_counts, path_count, path_counts}
 use Rattle.reader.specs.declared.Fields.{Fields}
-use Rattle.lower.specs.Piece.{Lists, Piece, Says, SaysAt, arm, inner_count, kids, leaf, operands_piece, own_piece, past, place, term_piece}
+use Rattle.lower.specs.Piece.{Lists, Piece, Says, SaysAt, arm, context_of, inner_count, kids, leaf, operands_piece, own_piece, past, place, term_piece}
 use Rattle.lower.specs.Ready.{Ready}
 use Rattle.lower.specs.declared.Layout.{Layout}
 use Rattle.lower.specs.declared.Cursor.{Cursor}
 use Rattle.lower.specs.declared.Site.{Site}
-use Rattle.lower.specs.declared.Chain.{Chain}
+use Rattle.lower.specs.declared.Choice.{Choice}
+use Rattle.lower.specs.declared.Source.{Source}
 use Rattle.lower.specs.declared.Value.{Value}
 use Rattle.lower.specs.Low.{Low, Faulty}
 use Rattle.lower.proofs.Keeps.{kept_here, kept_then}
@@ -89,13 +90,15 @@ pub arm_ready : {L : Layout} {p : List ℕ} {s : Site} {c : Cursor} (b : List �
 arm_ready {L} {p} {s} {c} b d j left x y e R = subst (λ (z : ℕ). Ready L p s c (instruction_count (arm b d j left z)) (path_count (arm b d j left z)) (entry_count (arm b d j left z))) e R
 
 -- the arms of a choice
-abbrev pub arms_of : {L : Layout} {p : List ℕ} {s : Site} {c : Cursor} (C : Context) (g : C.generated ≡ L.generated) (b : List ℕ) (d : ℕ) (y z : Chain) (v : Value)
-    → Ready L p s c (4 + instruction_count (arm b d y.conjunction y.left c.node) + instruction_count (arm b d z.conjunction z.left (past b d y.left c.node)))
-    (path_count (arm b d y.conjunction y.left c.node) + path_count (arm b d z.conjunction z.left (past b d y.left c.node)))
-    (entry_count (arm b d y.conjunction y.left c.node) + entry_count (arm b d z.conjunction z.left (past b d y.left c.node))) → Arms L p s c
-arms_of {L} {p} {s} {c} C g b d y z v R =
-    arms C g (arm b d y.conjunction y.left c.node) (arm b d z.conjunction z.left (past b d y.left c.node)) v (past b d y.left c.node)
-    (past b d z.left (past b d y.left c.node)) R
+abbrev pub arms_of : {p : List ℕ} {s : Site} {c : Cursor} (S : Source) (d : ℕ) (A : Choice) (v : Value)
+    → let y = arm S.bytes.now d A.yes.conjunction A.yes.left c.node in
+    let z = arm S.bytes.now d A.no.conjunction A.no.left (past S.bytes.now d A.yes.left c.node) in
+    Ready S.layout p s c (4 + instruction_count y + instruction_count z) (path_count y + path_count z) (entry_count y + entry_count z)
+    → Arms S.layout p s c
+arms_of {p} {s} {c} S d A v R =
+    arms (context_of S.kinds.now S.layout.generated) refl (arm S.bytes.now d A.yes.conjunction A.yes.left c.node)
+    (arm S.bytes.now d A.no.conjunction A.no.left (past S.bytes.now d A.yes.left c.node)) v (past S.bytes.now d A.yes.left c.node)
+    (past S.bytes.now d A.no.left (past S.bytes.now d A.yes.left c.node)) R
 
 -- an arm by another name of its cursor
 pub arm_from : (L : Layout) (C : Context) (b : List ℕ) (d : ℕ) (j : Bool) (left : ℕ) (P : Path) (k : ℕ) (p p' : List ℕ) (r : Low) (x y : Cursor) → x ≡ y

@@ -199,7 +199,7 @@ yes_of j left = cond j (left - 1) 0
 abbrev pub no_of : Bool → ℕ → ℕ
 no_of j left = cond j 0 (left - 1)
 
-pub link_splits : (b : List ℕ) (d left at : ℕ) (j : Bool) → 2 ≤ left
+link_splits : (b : List ℕ) (d left at : ℕ) (j : Bool) → 2 ≤ left
     → arm b d j left at ≡ branch (arm b d true 1 at) (arm b d j (yes_of j left) (past b d 1 at)) (arm b d j (no_of j left) (past b d (yes_of j left) (past b d 1 at)))
 link_splits b d left at true h =
     arm_and b d left at h
@@ -208,7 +208,7 @@ link_splits b d left at false h =
     arm_or b d left at h
     ∙ rw (arm_one b d 1 at true refl, past_one b d 1 at refl, arm_none b d 0 (at + node_size * size (tree_in d b at)) false refl, past_none b d 0 (at + node_size * size (tree_in d b at)) refl)
 
-pub link_past : (b : List ℕ) (d left at : ℕ) (j : Bool) → 2 ≤ left → past b d (no_of j left) (past b d (yes_of j left) (past b d 1 at)) ≡ past b d left at
+link_past : (b : List ℕ) (d left at : ℕ) (j : Bool) → 2 ≤ left → past b d (no_of j left) (past b d (yes_of j left) (past b d 1 at)) ≡ past b d left at
 link_past b d left at true h =
     past_none b d 0 (past b d (left - 1) (past b d 1 at)) refl ∙ ap (λ (x : ℕ). past b d (left - 1) x) (past_one b d 1 at refl) ∙ past_step b d left at (λ z. omega arith)
 link_past b d left at false h =
@@ -225,9 +225,16 @@ operands_past b d left at n = ap (λ (x : ℕ). past b d (left - 1) x) (past_one
 
 -- ---- a term that is a conditional of children
 
-module _ {L : Layout} {p : List ℕ} {s : Site} {c : Cursor} (b : List ℕ) (d : ℕ) (j : Bool) (y₀ n₀ : ℕ) (T : Term) (m : ℕ)
-    (splits : T ≡ branch (arm b d true 1 c.node) (arm b d j y₀ (past b d 1 c.node)) (arm b d j n₀ (past b d y₀ (past b d 1 c.node))))
-    (end_is : past b d n₀ (past b d y₀ (past b d 1 c.node)) ≡ m) (R : Ready L p s c (instruction_count T) (inner_count T) (entry_count T)) (C : Context) where
+-- the term T of some children from a byte on is a conditional: the first is its condition, the others are its arms, and m is their end
+pub record Split (b : List ℕ) (d : ℕ) (j : Bool) (y₀ n₀ : ℕ) (T : Term) (m at : ℕ) : Type 0 where
+  pub splits : T ≡ branch (arm b d true 1 at) (arm b d j y₀ (past b d 1 at)) (arm b d j n₀ (past b d y₀ (past b d 1 at)))
+  pub end_is : past b d n₀ (past b d y₀ (past b d 1 at)) ≡ m
+
+pub link_split : (b : List ℕ) (d left at : ℕ) (j : Bool) → 2 ≤ left → Split b d j (yes_of j left) (no_of j left) (arm b d j left at) (past b d left at) at
+link_split b d left at j h = record { splits = link_splits b d left at j h; end_is = link_past b d left at j h }
+
+module _ {L : Layout} {p : List ℕ} {s : Site} {c : Cursor} {b : List ℕ} {d : ℕ} {j : Bool} {y₀ n₀ : ℕ} {T : Term} {m : ℕ} (X : Split b d j y₀ n₀ T m c.node)
+    (R : Ready L p s c (instruction_count T) (inner_count T) (entry_count T)) (C : Context) where
   abbrev at₁ : ℕ
   at₁ = past b d 1 c.node
 
@@ -244,15 +251,15 @@ module _ {L : Layout} {p : List ℕ} {s : Site} {c : Cursor} (b : List ℕ) (d :
   A₁ = term_piece C T₁ (place L p s ▸ condition) s.path c at₁
 
   R' : Ready L p s c (instruction_count (branch T₁ Y Z)) (inner_count (branch T₁ Y Z)) (entry_count (branch T₁ Y Z))
-  R' = subst (λ (x : Term). Ready L p s c (instruction_count x) (inner_count x) (entry_count x)) splits R
+  R' = subst (λ (x : Term). Ready L p s c (instruction_count x) (inner_count x) (entry_count x)) X.splits R
 
   abbrev U : Piece
   U = own_piece C T (place L p s) s.path c m
 
   as_split : (p₂ : List ℕ) (r : Low) → Says (own_piece C (branch T₁ Y Z) (place L p s) s.path c (past b d n₀ (past b d y₀ at₁))) L c p p₂ r → Says U L c p p₂ r
   as_split p₂ r S =
-      subst (λ (x : ℕ). Says (own_piece C T (place L p s) s.path c x) L c p p₂ r) end_is
-      (subst (λ (x : Term). Says (own_piece C x (place L p s) s.path c (past b d n₀ (past b d y₀ at₁))) L c p p₂ r) (sym splits) S)
+      subst (λ (x : ℕ). Says (own_piece C T (place L p s) s.path c x) L c p p₂ r) X.end_is
+      (subst (λ (x : Term). Says (own_piece C x (place L p s) s.path c (past b d n₀ (past b d y₀ at₁))) L c p p₂ r) (sym X.splits) S)
 
   pub split_first : Ready L p s c (instruction_count T₁) (path_count T₁) (entry_count T₁)
   split_first = ready_condition C T₁ Y Z at₁ (past b d n₀ (past b d y₀ at₁)) R'

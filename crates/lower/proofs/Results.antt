@@ -4,6 +4,8 @@ use mathlib.Core.Bool.{Bool, true, false, beq}
 use mathlib.Core.List.{List}
 use Prim.Native.Nat.{ℕ}
 use Rattle.std.specs.Prelude.{Result, Ok, Err}
+use Rattle.std.specs.Result.{IsErrAnd}
+use Rattle.std.proofs.lemmas.Result.{err_from_is_err_and}
 use Rattle.refusals.specs.declared.Refusal.{Refusal}
 use Rattle.formula.specs.Operator.{same_kind}
 use Rattle.formula.specs.Term.{Terms}
@@ -21,8 +23,10 @@ pub as_faulty : {r : Result Value Fault} {x : Fault} (c : Cursor) → r ≡ Err 
 as_faulty c e = ap (λ (x : Result Value Fault). low_of x c) e
 
 -- an error that is handed up
-pub handed_up : {r r' : Result Value Fault} {x y : Fault} (c : Cursor) → r ≡ Err x → r' ≡ Err y → y ≡ x → low_of r' c ≡ low_of r c
-handed_up c e e' same = ap (λ (z : Result Value Fault). low_of z c) (e' ∙ ap Err same ∙ sym e)
+pub handed_up : {r : Result Value Fault} {x : Fault} (r' : Result Value Fault) (c : Cursor) → r ≡ Err x → IsErrAnd r' (λ y. y ≡ x) → low_of r' c ≡ low_of r c
+handed_up r' c e h =
+    let up = err_from_is_err_and r' h in
+    ap (λ (z : Result Value Fault). low_of z c) (up.1 ∙ ap Err up.2 ∙ sym e)
 
 pub done_as : {v w : Value} {c e : Cursor} → v ≡ w → c ≡ e → Done v c ≡ Done w e
 done_as x y = ap₂ (λ (a : Value) (b : Cursor). Done a b) x y

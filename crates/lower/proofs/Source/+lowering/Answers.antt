@@ -1,8 +1,7 @@
 use mathlib.Core.Bool.{Bool, cond, true, ◌&&◌}
 use mathlib.Core.Path.{◌≡◌, ap, refl, subst, sym, ◌∙◌}
 use native.Mathlib.Omega.{arith}
-use Rattle.std.proofs.lemmas.Result.{err_from_is_err_and}
-use Prim.Native.Nat.{ℕ, ◌+◌, ◌-◌, ◌*◌}
+use Prim.Native.Nat.{ℕ, ◌+◌, ◌-◌, ◌*◌, ◌≤◌, ◌<◌}
 use Rattle.formula.specs.Formula.{all_well_formed, size}
 use Rattle.formula.specs.Node.{node_size, tree_in}
 use Rattle.formula.specs.Term.{apply, term, terms}
@@ -15,7 +14,7 @@ use Rattle.lower.proofs.Collects as collects
 use Rattle.lower.proofs.Compose.{enter_room, fewer_registers, path_one}
 use Rattle.lower.proofs.Ends.{not_false, not_true}
 use Rattle.lower.proofs.Kids.{first_well, kids_none, none_well, one_well, past_none, stands}
-use Rattle.lower.proofs.Lowers.{link_past, link_splits, no_of, none_done, one_done, own_done, ready_one, ready_own, rest_well_at, rest_well_past, split_arms, split_done, split_first, split_node, split_refused, yes_of}
+use Rattle.lower.proofs.Lowers.{Split, link_split, none_done, one_done, own_done, ready_one, ready_own, rest_well_at, rest_well_past, split_arms, split_done, split_first, split_node, split_refused}
 use Rattle.lower.proofs.Results.{as_done, as_faulty, done_as, fault_as, handed_up, lists_as_is, same_as, says_as}
 use Rattle.lower.proofs.Says.{refused, taken}
 use Rattle.lower.proofs.Wholes as wholes
@@ -26,12 +25,8 @@ branch-returns-then-not-v t c =
     let args = c.args in
     let pre = c.requires in
     let source = args.self.now in
-    let b = source.bytes.now in
-    let here = args.c.now in
-    let context = context_of source.kinds.now source.layout.generated in
-    let yes = args.arms.yes in
-    let no = args.arms.no in
-    let arms = arms_of context refl b args.levels yes no args.v pre.ready in
+    let d = args.levels in
+    let arms = arms_of source d args.arms args.v pre.ready in
     says_as _ _ _ _ _ (fault_as c.fault.ensures) (choices.not_boolean arms (not_true _ _ refl c.if-not-v.true))
 
 pub branch-returns-then-unsupported : goal.branch-returns-then-unsupported
@@ -39,12 +34,8 @@ branch-returns-then-unsupported t c =
     let args = c.args in
     let pre = c.requires in
     let source = args.self.now in
-    let b = source.bytes.now in
-    let here = args.c.now in
-    let context = context_of source.kinds.now source.layout.generated in
-    let yes = args.arms.yes in
-    let no = args.arms.no in
-    let arms = arms_of context refl b args.levels yes no args.v pre.ready in
+    let d = args.levels in
+    let arms = arms_of source d args.arms args.v pre.ready in
     says_as _ _ _ _ _ (fault_as c.fault-then-unsupported.ensures)
     (choices.unsupported_here arms (not_false _ _ refl c.if-not-v.false) c.unsupported.result c.unsupported.ensures c.if-unsupported.true)
 
@@ -54,16 +45,15 @@ branch-returns-in_err-y t c =
     let pre = c.requires in
     let source = args.self.now in
     let b = source.bytes.now in
+    let d = args.levels in
     let here = args.c.now in
-    let context = context_of source.kinds.now source.layout.generated in
     let yes = args.arms.yes in
-    let no = args.arms.no in
-    let arms = arms_of context refl b args.levels yes no args.v pre.ready in
+    let arms = arms_of source d args.arms args.v pre.ready in
     let begun = choices.begun arms (not_false _ _ refl c.if-not-v.false) c.unsupported.result c.unsupported.ensures c.if-unsupported.false in
-    let said = arm_from _ _ b args.levels yes.conjunction yes.left _ _ _ _ _ _ (further here 1) c.advance.ensures c.lower.ensures in
+    let said = arm_from _ _ b d yes.conjunction yes.left _ _ _ _ _ _ (further here 1) c.advance.ensures c.lower.ensures in
     let was = as_faulty c.lower.new.c c.in_err-y.was in
-    let up = err_from_is_err_and c.from_residual.result c.from_residual.ensures.1 in
-    says_as _ _ _ _ _ (handed_up c.lower.new.c c.in_err-y.was up.1 up.2) (choices.first_refused arms begun c.lower.new.p _ _ _ (refused _ _ _ _ _ _ _ _ said was) was)
+    says_as _ _ _ _ _ (handed_up _ c.lower.new.c c.in_err-y.was c.from_residual.ensures.1)
+    (choices.first_refused arms begun c.lower.new.p _ _ _ (refused _ _ _ _ _ _ _ _ said was) was)
 
 pub branch-overflow_add-target : goal.branch-overflow_add-target
 branch-overflow_add-target t c =
@@ -71,13 +61,12 @@ branch-overflow_add-target t c =
     let pre = c.requires in
     let source = args.self.now in
     let b = source.bytes.now in
+    let d = args.levels in
     let here = args.c.now in
-    let context = context_of source.kinds.now source.layout.generated in
     let yes = args.arms.yes in
-    let no = args.arms.no in
-    let arms = arms_of context refl b args.levels yes no args.v pre.ready in
+    let arms = arms_of source d args.arms args.v pre.ready in
     let begun = choices.begun arms (not_false _ _ refl c.if-not-v.false) c.unsupported.result c.unsupported.ensures c.if-unsupported.false in
-    let said = arm_from _ _ b args.levels yes.conjunction yes.left _ _ _ _ _ _ (further here 1) c.advance.ensures c.lower.ensures in
+    let said = arm_from _ _ b d yes.conjunction yes.left _ _ _ _ _ _ (further here 1) c.advance.ensures c.lower.ensures in
     let e = c.lower.new.c in
     let first = choices.first arms begun c.lower.new.p c.in_ok-y.y e (taken _ _ _ _ _ _ c.in_ok-y.y e said (as_done e c.in_ok-y.was)) in
     omega (arith, choices.is_code arms begun first, c.well_formed.1.0.0, pre.ready.code, pre.ready.records, pre.ready.lists)
@@ -88,16 +77,16 @@ branch-put_slot-requires-2 t c =
     let pre = c.requires in
     let source = args.self.now in
     let b = source.bytes.now in
+    let d = args.levels in
     let here = args.c.now in
-    let context = context_of source.kinds.now source.layout.generated in
     let yes = args.arms.yes in
-    let no = args.arms.no in
-    let arms = arms_of context refl b args.levels yes no args.v pre.ready in
+    let arms = arms_of source d args.arms args.v pre.ready in
     let begun = choices.begun arms (not_false _ _ refl c.if-not-v.false) c.unsupported.result c.unsupported.ensures c.if-unsupported.false in
-    let said = arm_from _ _ b args.levels yes.conjunction yes.left _ _ _ _ _ _ (further here 1) c.advance.ensures c.lower.ensures in
+    let said = arm_from _ _ b d yes.conjunction yes.left _ _ _ _ _ _ (further here 1) c.advance.ensures c.lower.ensures in
     let e = c.lower.new.c in
-    let first = choices.first arms begun c.lower.new.p c.in_ok-y.y e (taken _ _ _ _ _ _ c.in_ok-y.y e said (as_done e c.in_ok-y.was)) in (
-      omega (arith, c.put_slot.auto.p, choices.n₁' arms begun first, choices.is_code arms begun first, pre.ready.code, pre.ready.records, pre.ready.lists),
+    let first = choices.first arms begun c.lower.new.p c.in_ok-y.y e (taken _ _ _ _ _ _ c.in_ok-y.y e said (as_done e c.in_ok-y.was)) in
+    let ready = pre.ready in (
+      omega (arith, c.put_slot.auto.p, choices.n₁' arms begun first, choices.is_code arms begun first, ready.code, ready.records, ready.lists),
       omega arith,
     )
 
@@ -107,19 +96,20 @@ branch-advance-requires-2 t c =
     let pre = c.requires in
     let source = args.self.now in
     let b = source.bytes.now in
+    let d = args.levels in
     let here = args.c.now in
-    let context = context_of source.kinds.now source.layout.generated in
     let yes = args.arms.yes in
-    let no = args.arms.no in
-    let arms = arms_of context refl b args.levels yes no args.v pre.ready in
+    let arms = arms_of source d args.arms args.v pre.ready in
     let begun = choices.begun arms (not_false _ _ refl c.if-not-v.false) c.unsupported.result c.unsupported.ensures c.if-unsupported.false in
-    let said = arm_from _ _ b args.levels yes.conjunction yes.left _ _ _ _ _ _ (further here 1) c.advance.ensures c.lower.ensures in
+    let said = arm_from _ _ b d yes.conjunction yes.left _ _ _ _ _ _ (further here 1) c.advance.ensures c.lower.ensures in
     let e = c.lower.new.c in
     let first = choices.first arms begun c.lower.new.p c.in_ok-y.y e (taken _ _ _ _ _ _ c.in_ok-y.y e said (as_done e c.in_ok-y.was)) in
     let ready = pre.ready in
-    let fewer = fewer_registers (arm b args.levels yes.conjunction yes.left here.node) in (
-      omega (arith, choices.is_code arms begun first, choices.is_reg arms begun first, fewer, ready.registers, c.well_formed.1.0.0, ready.code, ready.records, ready.lists),
-      omega (arith, choices.is_code arms begun first, choices.is_reg arms begun first, fewer, ready.registers, c.well_formed.1.0.0, ready.code, ready.records, ready.lists),
+    let code = choices.is_code arms begun first in
+    let reg = choices.is_reg arms begun first in
+    let fewer = fewer_registers (arm b d yes.conjunction yes.left here.node) in (
+      omega (arith, code, reg, fewer, ready.registers, c.well_formed.1.0.0, ready.code, ready.records, ready.lists),
+      omega (arith, code, reg, fewer, ready.registers, c.well_formed.1.0.0, ready.code, ready.records, ready.lists),
     )
 
 pub branch-lower-requires-2 : goal.branch-lower-requires-2
@@ -128,24 +118,23 @@ branch-lower-requires-2 t c =
     let pre = c.requires in
     let source = args.self.now in
     let b = source.bytes.now in
+    let d = args.levels in
     let here = args.c.now in
-    let context = context_of source.kinds.now source.layout.generated in
     let yes = args.arms.yes in
     let no = args.arms.no in
-    let arms = arms_of context refl b args.levels yes no args.v pre.ready in
+    let arms = arms_of source d args.arms args.v pre.ready in
     let begun = choices.begun arms (not_false _ _ refl c.if-not-v.false) c.unsupported.result c.unsupported.ensures c.if-unsupported.false in
-    let said = arm_from _ _ b args.levels yes.conjunction yes.left _ _ _ _ _ _ (further here 1) c.advance.ensures c.lower.ensures in
+    let said = arm_from _ _ b d yes.conjunction yes.left _ _ _ _ _ _ (further here 1) c.advance.ensures c.lower.ensures in
     let e = c.lower.new.c in
     let first = choices.first arms begun c.lower.new.p c.in_ok-y.y e (taken _ _ _ _ _ _ c.in_ok-y.y e said (as_done e c.in_ok-y.was)) in
     let copied = choices.copied arms begun first c.put_slot.new.p c.put_slot-2.new.p c.put_slot.ensures c.put_slot-2.ensures in
     let there = sym (choices.is_node arms begun first) in (
       omega arith,
       (
-        ready_to b args.levels no.conjunction no.left _ (further e 2) c.advance-2.ensures
-            (arm_ready b args.levels no.conjunction no.left _ _ there (choices.ready_arm arms begun first copied)),
+        ready_to b d no.conjunction no.left _ (further e 2) c.advance-2.ensures
+            (arm_ready b d no.conjunction no.left _ _ there (choices.ready_arm arms begun first copied)),
         (
-          well_to b args.levels no.left _ (further e 2) c.advance-2.ensures
-              (subst (λ (x : ℕ). all_well_formed (kids b args.levels no.left x) ≡ true) there pre.formed.1),
+          well_to b d no.left _ (further e 2) c.advance-2.ensures (subst (λ (x : ℕ). all_well_formed (kids b d no.left x) ≡ true) there pre.formed.1),
           omega arith,
           pre.formed.3,
         ),
@@ -158,21 +147,21 @@ branch-returns-in_err-z t c =
     let pre = c.requires in
     let source = args.self.now in
     let b = source.bytes.now in
+    let d = args.levels in
     let here = args.c.now in
-    let context = context_of source.kinds.now source.layout.generated in
     let yes = args.arms.yes in
     let no = args.arms.no in
-    let arms = arms_of context refl b args.levels yes no args.v pre.ready in
+    let arms = arms_of source d args.arms args.v pre.ready in
     let begun = choices.begun arms (not_false _ _ refl c.if-not-v.false) c.unsupported.result c.unsupported.ensures c.if-unsupported.false in
-    let said = arm_from _ _ b args.levels yes.conjunction yes.left _ _ _ _ _ _ (further here 1) c.advance.ensures c.lower.ensures in
+    let said = arm_from _ _ b d yes.conjunction yes.left _ _ _ _ _ _ (further here 1) c.advance.ensures c.lower.ensures in
     let e = c.lower.new.c in
     let first = choices.first arms begun c.lower.new.p c.in_ok-y.y e (taken _ _ _ _ _ _ c.in_ok-y.y e said (as_done e c.in_ok-y.was)) in
     let copied = choices.copied arms begun first c.put_slot.new.p c.put_slot-2.new.p c.put_slot.ensures c.put_slot-2.ensures in
-    let said2 = arm_at _ _ b args.levels no.conjunction no.left _ _ _ _ _ _ e.node (past b args.levels yes.left here.node) (choices.is_node arms begun first)
-    (arm_from _ _ b args.levels no.conjunction no.left _ _ _ _ _ _ (further e 2) c.advance-2.ensures c.lower-2.ensures) in
+    let said2 = arm_at _ _ b d no.conjunction no.left _ _ _ _ _ _ e.node (past b d yes.left here.node) (choices.is_node arms begun first)
+    (arm_from _ _ b d no.conjunction no.left _ _ _ _ _ _ (further e 2) c.advance-2.ensures c.lower-2.ensures) in
     let was = as_faulty c.lower-2.new.c c.in_err-z.was in
-    let up = err_from_is_err_and c.from_residual-in_err-z.result c.from_residual-in_err-z.ensures.1 in
-    says_as _ _ _ _ _ (handed_up c.lower-2.new.c c.in_err-z.was up.1 up.2) (choices.second_refused arms begun first copied c.lower-2.new.p _ _ _ (refused _ _ _ _ _ _ _ _ said2 was) was)
+    says_as _ _ _ _ _ (handed_up _ c.lower-2.new.c c.in_err-z.was c.from_residual-in_err-z.ensures.1)
+    (choices.second_refused arms begun first copied c.lower-2.new.p _ _ _ (refused _ _ _ _ _ _ _ _ said2 was) was)
 
 pub branch-join-requires : goal.branch-join-requires
 branch-join-requires t c =
@@ -180,34 +169,27 @@ branch-join-requires t c =
     let pre = c.requires in
     let source = args.self.now in
     let b = source.bytes.now in
+    let d = args.levels in
     let here = args.c.now in
-    let context = context_of source.kinds.now source.layout.generated in
     let yes = args.arms.yes in
     let no = args.arms.no in
-    let arms = arms_of context refl b args.levels yes no args.v pre.ready in
+    let arms = arms_of source d args.arms args.v pre.ready in
     let begun = choices.begun arms (not_false _ _ refl c.if-not-v.false) c.unsupported.result c.unsupported.ensures c.if-unsupported.false in
-    let said = arm_from _ _ b args.levels yes.conjunction yes.left _ _ _ _ _ _ (further here 1) c.advance.ensures c.lower.ensures in
+    let said = arm_from _ _ b d yes.conjunction yes.left _ _ _ _ _ _ (further here 1) c.advance.ensures c.lower.ensures in
     let e = c.lower.new.c in
     let first = choices.first arms begun c.lower.new.p c.in_ok-y.y e (taken _ _ _ _ _ _ c.in_ok-y.y e said (as_done e c.in_ok-y.was)) in
     let copied = choices.copied arms begun first c.put_slot.new.p c.put_slot-2.new.p c.put_slot.ensures c.put_slot-2.ensures in
-    let said2 = arm_at _ _ b args.levels no.conjunction no.left _ _ _ _ _ _ e.node (past b args.levels yes.left here.node) (choices.is_node arms begun first)
-    (arm_from _ _ b args.levels no.conjunction no.left _ _ _ _ _ _ (further e 2) c.advance-2.ensures c.lower-2.ensures) in
+    let said2 = arm_at _ _ b d no.conjunction no.left _ _ _ _ _ _ e.node (past b d yes.left here.node) (choices.is_node arms begun first)
+    (arm_from _ _ b d no.conjunction no.left _ _ _ _ _ _ (further e 2) c.advance-2.ensures c.lower-2.ensures) in
     let h = c.lower-2.new.c in
     let second = choices.second arms begun first copied c.lower-2.new.p c.in_ok-z.z h (taken _ _ _ _ _ _ c.in_ok-z.z h said2 (as_done h c.in_ok-z.was)) in
-    let ready = pre.ready in (
-      omega (arith, choices.n₄' arms begun first copied second, choices.is_code arms begun first, ready.code, ready.records, ready.lists),
-      omega (arith, choices.n₄' arms begun first copied second, choices.z_code arms begun first copied second, choices.is_code arms begun first, ready.code, ready.records, ready.lists),
-      omega (
-        arith,
-        choices.is_code arms begun first,
-        choices.is_reg arms begun first,
-        fewer_registers (arm b args.levels yes.conjunction yes.left here.node),
-        ready.registers,
-        c.well_formed.1.0.0,
-        ready.code,
-        ready.records,
-        ready.lists,
-      ),
+    let ready = pre.ready in
+    let long = choices.n₄' arms begun first copied second in
+    let code = choices.is_code arms begun first in
+    let fewer = fewer_registers (arm b d yes.conjunction yes.left here.node) in (
+      omega (arith, long, code, ready.code, ready.records, ready.lists),
+      omega (arith, long, choices.z_code arms begun first copied second, code, ready.code, ready.records, ready.lists),
+      omega (arith, code, choices.is_reg arms begun first, fewer, ready.registers, c.well_formed.1.0.0, ready.code, ready.records, ready.lists),
     )
 
 pub branch-returns : goal.branch-returns
@@ -216,18 +198,18 @@ branch-returns t c =
     let pre = c.requires in
     let source = args.self.now in
     let b = source.bytes.now in
+    let d = args.levels in
     let here = args.c.now in
-    let context = context_of source.kinds.now source.layout.generated in
     let yes = args.arms.yes in
     let no = args.arms.no in
-    let arms = arms_of context refl b args.levels yes no args.v pre.ready in
+    let arms = arms_of source d args.arms args.v pre.ready in
     let begun = choices.begun arms (not_false _ _ refl c.if-not-v.false) c.unsupported.result c.unsupported.ensures c.if-unsupported.false in
-    let said = arm_from _ _ b args.levels yes.conjunction yes.left _ _ _ _ _ _ (further here 1) c.advance.ensures c.lower.ensures in
+    let said = arm_from _ _ b d yes.conjunction yes.left _ _ _ _ _ _ (further here 1) c.advance.ensures c.lower.ensures in
     let e = c.lower.new.c in
     let first = choices.first arms begun c.lower.new.p c.in_ok-y.y e (taken _ _ _ _ _ _ c.in_ok-y.y e said (as_done e c.in_ok-y.was)) in
     let copied = choices.copied arms begun first c.put_slot.new.p c.put_slot-2.new.p c.put_slot.ensures c.put_slot-2.ensures in
-    let said2 = arm_at _ _ b args.levels no.conjunction no.left _ _ _ _ _ _ e.node (past b args.levels yes.left here.node) (choices.is_node arms begun first)
-    (arm_from _ _ b args.levels no.conjunction no.left _ _ _ _ _ _ (further e 2) c.advance-2.ensures c.lower-2.ensures) in
+    let said2 = arm_at _ _ b d no.conjunction no.left _ _ _ _ _ _ e.node (past b d yes.left here.node) (choices.is_node arms begun first)
+    (arm_from _ _ b d no.conjunction no.left _ _ _ _ _ _ (further e 2) c.advance-2.ensures c.lower-2.ensures) in
     let h = c.lower-2.new.c in
     let second = choices.second arms begun first copied c.lower-2.new.p c.in_ok-z.z h (taken _ _ _ _ _ _ c.in_ok-z.z h said2 (as_done h c.in_ok-z.was)) in
     choices.both_joined arms begun first copied second c.join.new.p _ c.join.ensures.0 c.join.ensures.1
@@ -238,22 +220,17 @@ link-lower-requires t c =
     let pre = c.requires in
     let source = args.self.now in
     let b = source.bytes.now in
+    let d = args.levels in
     let here = args.c.now in
     let context = context_of source.kinds.now source.layout.generated in
-    let j = args.chain.conjunction in
     let left = args.chain.left in
     let node = here.node in
-    let yes = yes_of j left in
-    let no = no_of j left in
-    let whole = arm b args.levels j left node in
-    let after = past b args.levels left node in
-    let splits = link_splits b args.levels left node j pre.formed.1 in
-    let ends = link_past b args.levels left node j pre.formed.1 in
+    let split = link_split b d left node args.chain.conjunction pre.formed.1 in
     let some_left : left ≡ 0 → ⊥ = λ z. omega (arith, pre.formed.1) in (
       omega (arith, pre.formed.1),
       (
-        split_first b args.levels j yes no whole after splits ends pre.ready context,
-        (one_well b args.levels 1 node refl (first_well b args.levels left node some_left pre.formed.0), omega arith, omega arith),
+        split_first split pre.ready context,
+        (one_well b d 1 node refl (first_well b d left node some_left pre.formed.0), omega arith, omega arith),
       ),
     )
 
@@ -263,21 +240,15 @@ link-returns-in_err-first t c =
     let pre = c.requires in
     let source = args.self.now in
     let b = source.bytes.now in
+    let d = args.levels in
     let here = args.c.now in
     let context = context_of source.kinds.now source.layout.generated in
-    let j = args.chain.conjunction in
     let left = args.chain.left in
     let node = here.node in
-    let yes = yes_of j left in
-    let no = no_of j left in
-    let whole = arm b args.levels j left node in
-    let after = past b args.levels left node in
-    let splits = link_splits b args.levels left node j pre.formed.1 in
-    let ends = link_past b args.levels left node j pre.formed.1 in
-    let some_left : left ≡ 0 → ⊥ = λ z. omega (arith, pre.formed.1) in
+    let split = link_split b d left node args.chain.conjunction pre.formed.1 in
     let was = as_faulty c.lower.new.c c.in_err-first.was in
-    let up = err_from_is_err_and c.from_residual.result c.from_residual.ensures.1 in
-    says_as _ _ _ _ _ (handed_up c.lower.new.c c.in_err-first.was up.1 up.2) (split_refused b args.levels j yes no whole after splits ends pre.ready context c.lower.new.p _ _ _ (refused _ _ _ _ _ _ _ _ c.lower.ensures was) was)
+    says_as _ _ _ _ _ (handed_up _ c.lower.new.c c.in_err-first.was c.from_residual.ensures.1)
+    (split_refused split pre.ready context c.lower.new.p _ _ _ (refused _ _ _ _ _ _ _ _ c.lower.ensures was) was)
 
 pub link-branch-self-requires : goal.link-branch-self-requires
 link-branch-self-requires t c =
@@ -285,30 +256,25 @@ link-branch-self-requires t c =
     let pre = c.requires in
     let source = args.self.now in
     let b = source.bytes.now in
+    let d = args.levels in
     let here = args.c.now in
     let context = context_of source.kinds.now source.layout.generated in
-    let j = args.chain.conjunction in
     let left = args.chain.left in
     let node = here.node in
-    let yes = yes_of j left in
-    let no = no_of j left in
-    let whole = arm b args.levels j left node in
-    let after = past b args.levels left node in
-    let splits = link_splits b args.levels left node j pre.formed.1 in
-    let ends = link_past b args.levels left node j pre.formed.1 in
+    let split = link_split b d left node args.chain.conjunction pre.formed.1 in
     let some_left : left ≡ 0 → ⊥ = λ z. omega (arith, pre.formed.1) in
     let e = c.lower.new.c in
-    let first = taken _ _ _ _ _ _ c.in_ok-first.first e c.lower.ensures (as_done e c.in_ok-first.was) in
+    let v = c.in_ok-first.first in
+    let first = taken _ _ _ _ _ _ v e c.lower.ensures (as_done e c.in_ok-first.was) in
     let rest = left - 1 in
-    let is = sym c.if-chain.true in (
+    let is = sym c.if-chain.true in
+    let there = split_node split pre.ready context c.lower.new.p v e first in (
       omega (arith, pre.formed.1),
       (
-        split_arms b args.levels j yes no whole after splits ends pre.ready context c.lower.new.p c.in_ok-first.first e first rest 0
-            (ap (λ (x : Bool). cond x rest 0) is) (ap (λ (x : Bool). cond x 0 rest) is),
+        split_arms split pre.ready context c.lower.new.p v e first rest 0 (ap (λ (x : Bool). cond x rest 0) is) (ap (λ (x : Bool). cond x 0 rest) is),
         (
-          rest_well_at b args.levels left node e.node some_left pre.formed.0
-              (split_node b args.levels j yes no whole after splits ends pre.ready context c.lower.new.p c.in_ok-first.first e first),
-          none_well b args.levels 0 (past b args.levels rest e.node) refl,
+          rest_well_at b d left node e.node some_left pre.formed.0 there,
+          none_well b d 0 (past b d rest e.node) refl,
           omega (arith, pre.formed.2),
           omega arith,
         ),
@@ -321,24 +287,18 @@ link-returns-then-chain t c =
     let pre = c.requires in
     let source = args.self.now in
     let b = source.bytes.now in
+    let d = args.levels in
     let here = args.c.now in
     let context = context_of source.kinds.now source.layout.generated in
-    let j = args.chain.conjunction in
     let left = args.chain.left in
     let node = here.node in
-    let yes = yes_of j left in
-    let no = no_of j left in
-    let whole = arm b args.levels j left node in
-    let after = past b args.levels left node in
-    let splits = link_splits b args.levels left node j pre.formed.1 in
-    let ends = link_past b args.levels left node j pre.formed.1 in
-    let some_left : left ≡ 0 → ⊥ = λ z. omega (arith, pre.formed.1) in
+    let split = link_split b d left node args.chain.conjunction pre.formed.1 in
     let e = c.lower.new.c in
-    let first = taken _ _ _ _ _ _ c.in_ok-first.first e c.lower.ensures (as_done e c.in_ok-first.was) in
+    let v = c.in_ok-first.first in
+    let first = taken _ _ _ _ _ _ v e c.lower.ensures (as_done e c.in_ok-first.was) in
     let rest = left - 1 in
     let is = sym c.if-chain.true in
-    split_done b args.levels j yes no whole after splits ends pre.ready context c.lower.new.p c.in_ok-first.first e first rest 0
-    (ap (λ (x : Bool). cond x rest 0) is) (ap (λ (x : Bool). cond x 0 rest) is) c.branch-self.new.p _ c.branch-self.ensures
+    split_done split pre.ready context c.lower.new.p v e first rest 0 (ap (λ (x : Bool). cond x rest 0) is) (ap (λ (x : Bool). cond x 0 rest) is) c.branch-self.new.p _ c.branch-self.ensures
 
 pub link-branch-self-requires-2 : goal.link-branch-self-requires-2
 link-branch-self-requires-2 t c =
@@ -346,30 +306,25 @@ link-branch-self-requires-2 t c =
     let pre = c.requires in
     let source = args.self.now in
     let b = source.bytes.now in
+    let d = args.levels in
     let here = args.c.now in
     let context = context_of source.kinds.now source.layout.generated in
-    let j = args.chain.conjunction in
     let left = args.chain.left in
     let node = here.node in
-    let yes = yes_of j left in
-    let no = no_of j left in
-    let whole = arm b args.levels j left node in
-    let after = past b args.levels left node in
-    let splits = link_splits b args.levels left node j pre.formed.1 in
-    let ends = link_past b args.levels left node j pre.formed.1 in
+    let split = link_split b d left node args.chain.conjunction pre.formed.1 in
     let some_left : left ≡ 0 → ⊥ = λ z. omega (arith, pre.formed.1) in
     let e = c.lower.new.c in
-    let first = taken _ _ _ _ _ _ c.in_ok-first.first e c.lower.ensures (as_done e c.in_ok-first.was) in
+    let v = c.in_ok-first.first in
+    let first = taken _ _ _ _ _ _ v e c.lower.ensures (as_done e c.in_ok-first.was) in
     let rest = left - 1 in
-    let is = sym c.if-chain.false in (
+    let is = sym c.if-chain.false in
+    let there = split_node split pre.ready context c.lower.new.p v e first in (
       omega (arith, pre.formed.1),
       (
-        split_arms b args.levels j yes no whole after splits ends pre.ready context c.lower.new.p c.in_ok-first.first e first 0 rest
-            (ap (λ (x : Bool). cond x rest 0) is) (ap (λ (x : Bool). cond x 0 rest) is),
+        split_arms split pre.ready context c.lower.new.p v e first 0 rest (ap (λ (x : Bool). cond x rest 0) is) (ap (λ (x : Bool). cond x 0 rest) is),
         (
-          none_well b args.levels 0 e.node refl,
-          rest_well_past b args.levels left node e.node some_left pre.formed.0
-              (split_node b args.levels j yes no whole after splits ends pre.ready context c.lower.new.p c.in_ok-first.first e first),
+          none_well b d 0 e.node refl,
+          rest_well_past b d left node e.node some_left pre.formed.0 there,
           omega arith,
           omega (arith, pre.formed.2),
         ),
@@ -382,24 +337,18 @@ link-returns t c =
     let pre = c.requires in
     let source = args.self.now in
     let b = source.bytes.now in
+    let d = args.levels in
     let here = args.c.now in
     let context = context_of source.kinds.now source.layout.generated in
-    let j = args.chain.conjunction in
     let left = args.chain.left in
     let node = here.node in
-    let yes = yes_of j left in
-    let no = no_of j left in
-    let whole = arm b args.levels j left node in
-    let after = past b args.levels left node in
-    let splits = link_splits b args.levels left node j pre.formed.1 in
-    let ends = link_past b args.levels left node j pre.formed.1 in
-    let some_left : left ≡ 0 → ⊥ = λ z. omega (arith, pre.formed.1) in
+    let split = link_split b d left node args.chain.conjunction pre.formed.1 in
     let e = c.lower.new.c in
-    let first = taken _ _ _ _ _ _ c.in_ok-first.first e c.lower.ensures (as_done e c.in_ok-first.was) in
+    let v = c.in_ok-first.first in
+    let first = taken _ _ _ _ _ _ v e c.lower.ensures (as_done e c.in_ok-first.was) in
     let rest = left - 1 in
     let is = sym c.if-chain.false in
-    split_done b args.levels j yes no whole after splits ends pre.ready context c.lower.new.p c.in_ok-first.first e first 0 rest
-    (ap (λ (x : Bool). cond x rest 0) is) (ap (λ (x : Bool). cond x 0 rest) is) c.branch-self-2.new.p _ c.branch-self-2.ensures
+    split_done split pre.ready context c.lower.new.p v e first 0 rest (ap (λ (x : Bool). cond x rest 0) is) (ap (λ (x : Bool). cond x 0 rest) is) c.branch-self-2.new.p _ c.branch-self-2.ensures
 
 pub lower-enter-site-requires : goal.lower-enter-site-requires
 lower-enter-site-requires t c =
@@ -407,11 +356,11 @@ lower-enter-site-requires t c =
     let pre = c.requires in
     let source = args.self.now in
     let b = source.bytes.now in
+    let d = args.levels in
     let here = args.c.now in
-    let context = context_of source.kinds.now source.layout.generated in
     let j = args.chain.conjunction in
     let left = args.chain.left in
-    enter_room pre.ready (path_one (arm b args.levels j left here.node)) args.step pre.formed.1
+    enter_room pre.ready (path_one (arm b d j left here.node)) args.step pre.formed.1
 
 pub lower-constant-requires : goal.lower-constant-requires
 lower-constant-requires t c =
@@ -419,14 +368,13 @@ lower-constant-requires t c =
     let pre = c.requires in
     let source = args.self.now in
     let b = source.bytes.now in
+    let d = args.levels in
     let here = args.c.now in
-    let context = context_of source.kinds.now source.layout.generated in
     let j = args.chain.conjunction in
     let left = args.chain.left in
-    let enter = c.enter-site in (
-      omega (arith, pre.ready.code, pre.ready.records, pre.ready.lists, enter.auto.p, instruction_count_pos (arm b args.levels j left here.node)),
-      pre.ready.registers,
-    )
+    let enter = c.enter-site in
+    let ready = pre.ready in
+    (omega (arith, ready.code, ready.records, ready.lists, enter.auto.p, instruction_count_pos (arm b d j left here.node)), ready.registers)
 
 pub lower-returns-then-chain-eq0 : goal.lower-returns-then-chain-eq0
 lower-returns-then-chain-eq0 t c =
@@ -434,13 +382,13 @@ lower-returns-then-chain-eq0 t c =
     let pre = c.requires in
     let source = args.self.now in
     let b = source.bytes.now in
-    let here = args.c.now in
+    let d = args.levels in
     let context = context_of source.kinds.now source.layout.generated in
     let j = args.chain.conjunction in
     let left = args.chain.left in
     let enter = c.enter-site in
-    none_done b args.levels j left pre.ready args.step pre.formed.1 enter.result enter.new.p enter.ensures.0 enter.ensures.1 context c.if-chain-eq0.true
-    c.constant.new.p _ (done_as c.constant.ensures.0 c.constant.ensures.1) c.truth.result c.truth.ensures c.constant.ensures.2
+    none_done b d j left pre.ready args.step pre.formed.1 enter.result enter.new.p enter.ensures.0 enter.ensures.1 context c.if-chain-eq0.true c.constant.new.p _
+    (done_as c.constant.ensures.0 c.constant.ensures.1) c.truth.result c.truth.ensures c.constant.ensures.2
 
 pub lower-node-requires : goal.lower-node-requires
 lower-node-requires t c =
@@ -448,16 +396,13 @@ lower-node-requires t c =
     let pre = c.requires in
     let source = args.self.now in
     let b = source.bytes.now in
+    let d = args.levels in
     let here = args.c.now in
-    let context = context_of source.kinds.now source.layout.generated in
     let j = args.chain.conjunction in
     let left = args.chain.left in
     let enter = c.enter-site in (
       omega arith,
-      (
-        ready_one b args.levels j left pre.ready args.step pre.formed.1 enter.result enter.new.p enter.ensures.0 enter.ensures.1 c.if-chain-eq1.true,
-        first_well b args.levels left here.node (λ z. omega (arith, c.if-chain-eq1.true)) pre.formed.0,
-      ),
+      (ready_one b d j left pre.ready args.step pre.formed.1 enter.result enter.new.p enter.ensures.0 enter.ensures.1 c.if-chain-eq1.true, first_well b d left here.node (λ z. omega (arith, c.if-chain-eq1.true)) pre.formed.0),
     )
 
 pub lower-returns-then-chain-eq1 : goal.lower-returns-then-chain-eq1
@@ -466,13 +411,12 @@ lower-returns-then-chain-eq1 t c =
     let pre = c.requires in
     let source = args.self.now in
     let b = source.bytes.now in
-    let here = args.c.now in
+    let d = args.levels in
     let context = context_of source.kinds.now source.layout.generated in
     let j = args.chain.conjunction in
     let left = args.chain.left in
     let enter = c.enter-site in
-    one_done b args.levels j left pre.ready args.step pre.formed.1 enter.result enter.new.p enter.ensures.0 enter.ensures.1 context c.if-chain-eq1.true
-    c.node.new.p _ c.node.ensures
+    one_done b d j left pre.ready args.step pre.formed.1 enter.result enter.new.p enter.ensures.0 enter.ensures.1 context c.if-chain-eq1.true c.node.new.p _ c.node.ensures
 
 pub lower-link-requires : goal.lower-link-requires
 lower-link-requires t c =
@@ -480,14 +424,13 @@ lower-link-requires t c =
     let pre = c.requires in
     let source = args.self.now in
     let b = source.bytes.now in
-    let here = args.c.now in
-    let context = context_of source.kinds.now source.layout.generated in
+    let d = args.levels in
     let j = args.chain.conjunction in
     let left = args.chain.left in
     let enter = c.enter-site in (
       omega arith,
       (
-        ready_own b args.levels j left pre.ready args.step pre.formed.1 enter.result enter.new.p enter.ensures.0 enter.ensures.1,
+        ready_own b d j left pre.ready args.step pre.formed.1 enter.result enter.new.p enter.ensures.0 enter.ensures.1,
         (pre.formed.0, omega (arith, c.if-chain-eq0.false, c.if-chain-eq1.false), pre.formed.2),
       ),
     )
@@ -498,12 +441,12 @@ lower-returns t c =
     let pre = c.requires in
     let source = args.self.now in
     let b = source.bytes.now in
-    let here = args.c.now in
+    let d = args.levels in
     let context = context_of source.kinds.now source.layout.generated in
     let j = args.chain.conjunction in
     let left = args.chain.left in
     let enter = c.enter-site in
-    own_done b args.levels j left pre.ready args.step pre.formed.1 enter.result enter.new.p enter.ensures.0 enter.ensures.1 context c.link.new.p _ c.link.ensures
+    own_done b d j left pre.ready args.step pre.formed.1 enter.result enter.new.p enter.ensures.0 enter.ensures.1 context c.link.new.p _ c.link.ensures
 
 pub node-node-f-requires : goal.node-node-f-requires
 node-node-f-requires t c =
@@ -515,14 +458,12 @@ node-overflow_add-c t c =
     let pre = c.requires in
     let source = args.self.now in
     let b = source.bytes.now in
+    let d = args.levels in
     let here = args.c.now in
-    let context = context_of source.kinds.now source.layout.generated in
-    let node = c.node-f in
-    let f = node.result in
+    let f = c.node-f.result in
+    let read = c.node-f.ensures.0 in
     let at = here.node in
-    let next = at + node_size in
-    let whole = term (tree_in args.levels b at) in
-    omega (arith, wholes.node_inside b args.levels at f node.ensures.0 pre.formed)
+    omega (arith, wholes.node_inside b d at f read pre.formed)
 
 pub node-returns-then-f-le-SYMBOL : goal.node-returns-then-f-le-SYMBOL
 node-returns-then-f-le-SYMBOL t c =
@@ -530,15 +471,16 @@ node-returns-then-f-le-SYMBOL t c =
     let pre = c.requires in
     let source = args.self.now in
     let b = source.bytes.now in
+    let d = args.levels in
     let here = args.c.now in
-    let context = context_of source.kinds.now source.layout.generated in
-    let node = c.node-f in
-    let f = node.result in
+    let f = c.node-f.result in
+    let read = c.node-f.ensures.0 in
     let at = here.node in
     let next = at + node_size in
-    let whole = term (tree_in args.levels b at) in
-    as_node _ _ whole (leaf f) _ _ next _ next here _ _ _ (wholes.leaf_term_is b args.levels at f node.ensures.0 pre.formed (omega (arith, c.if-f-le-SYMBOL.true)))
-    (wholes.leaf_size b args.levels at f node.ensures.0 pre.formed (omega (arith, c.if-f-le-SYMBOL.true))) c.leaf.ensures
+    let whole = term (tree_in d b at) in
+    let small : f.kind < 3 = omega (arith, c.if-f-le-SYMBOL.true) in
+    as_node _ _ whole (leaf f) _ _ next _ next here _ _ _ (wholes.leaf_term_is b d at f read pre.formed small) (wholes.leaf_size b d at f read pre.formed small)
+    c.leaf.ensures
 
 pub node-overflow_sub-below : goal.node-overflow_sub-below
 node-overflow_sub-below t c =
@@ -546,14 +488,13 @@ node-overflow_sub-below t c =
     let pre = c.requires in
     let source = args.self.now in
     let b = source.bytes.now in
+    let d = args.levels in
     let here = args.c.now in
-    let context = context_of source.kinds.now source.layout.generated in
-    let node = c.node-f in
-    let f = node.result in
+    let f = c.node-f.result in
+    let read = c.node-f.ensures.0 in
     let at = here.node in
-    let next = at + node_size in
-    let whole = term (tree_in args.levels b at) in
-    omega (arith, wholes.node_deep b args.levels at f node.ensures.0 pre.formed)
+    let deep = wholes.node_deep b d at f read pre.formed in
+    omega (arith, deep)
 
 pub node-returns-then-f-lt2 : goal.node-returns-then-f-lt2
 node-returns-then-f-lt2 t c =
@@ -561,15 +502,14 @@ node-returns-then-f-lt2 t c =
     let pre = c.requires in
     let source = args.self.now in
     let b = source.bytes.now in
+    let d = args.levels in
     let here = args.c.now in
-    let context = context_of source.kinds.now source.layout.generated in
-    let node = c.node-f in
-    let f = node.result in
+    let f = c.node-f.result in
+    let read = c.node-f.ensures.0 in
     let at = here.node in
-    let next = at + node_size in
-    let whole = term (tree_in args.levels b at) in
+    let whole = term (tree_in d b at) in
     says_as _ _ _ _ _ (fault_as c.fault.ensures)
-    (miscounted_here pre.ready _ whole _ (wholes.few_is b args.levels at f node.ensures.0 pre.formed c.if-f-eq-BOOLEAN.true c.if-f-lt2.true))
+    (miscounted_here pre.ready _ whole _ (wholes.few_is b d at f read pre.formed c.if-f-eq-BOOLEAN.true c.if-f-lt2.true))
 
 pub node-link-requires : goal.node-link-requires
 node-link-requires t c =
@@ -577,19 +517,19 @@ node-link-requires t c =
     let pre = c.requires in
     let source = args.self.now in
     let b = source.bytes.now in
+    let d = args.levels in
     let here = args.c.now in
-    let context = context_of source.kinds.now source.layout.generated in
-    let node = c.node-f in
-    let f = node.result in
+    let f = c.node-f.result in
+    let read = c.node-f.ensures.0 in
     let at = here.node in
     let next = at + node_size in
-    let whole = term (tree_in args.levels b at) in (
-      omega (arith, node.ensures.1, wholes.node_deep b args.levels at f node.ensures.0 pre.formed),
-      (
-        ready_term whole (arm b (args.levels - 1) (eqb f.operator 0) f.children next)
-            (wholes.link_is b args.levels at f node.ensures.0 pre.formed c.if-f-eq-BOOLEAN.true (omega (arith, c.if-f-lt2.false))) pre.ready next,
-        (wholes.kids_well b args.levels at f node.ensures.0 pre.formed, omega (arith, c.if-f-lt2.false), node.ensures.1),
-      ),
+    let whole = term (tree_in d b at) in
+    let well = wholes.kids_well b d at f read pre.formed in
+    let deep = wholes.node_deep b d at f read pre.formed in
+    let linked = wholes.link_is b d at f read pre.formed c.if-f-eq-BOOLEAN.true (omega (arith, c.if-f-lt2.false)) in
+    let chain = arm b (d - 1) (eqb f.operator 0) f.children next in (
+      omega (arith, c.node-f.ensures.1, deep),
+      (ready_term whole chain linked pre.ready next, (well, omega (arith, c.if-f-lt2.false), c.node-f.ensures.1)),
     )
 
 pub node-returns-then-f-eq-BOOLEAN : goal.node-returns-then-f-eq-BOOLEAN
@@ -598,16 +538,17 @@ node-returns-then-f-eq-BOOLEAN t c =
     let pre = c.requires in
     let source = args.self.now in
     let b = source.bytes.now in
+    let d = args.levels in
     let here = args.c.now in
-    let context = context_of source.kinds.now source.layout.generated in
-    let node = c.node-f in
-    let f = node.result in
+    let f = c.node-f.result in
+    let read = c.node-f.ensures.0 in
     let at = here.node in
     let next = at + node_size in
-    let whole = term (tree_in args.levels b at) in
-    as_node _ _ whole (arm b (args.levels - 1) (eqb f.operator 0) f.children next) _ _ _ _ next here _ _ _
-    (wholes.link_is b args.levels at f node.ensures.0 pre.formed c.if-f-eq-BOOLEAN.true (omega (arith, c.if-f-lt2.false)))
-    (wholes.past_is b args.levels at f node.ensures.0 pre.formed) c.link.ensures
+    let whole = term (tree_in d b at) in
+    let end_is = wholes.past_is b d at f read pre.formed in
+    let linked = wholes.link_is b d at f read pre.formed c.if-f-eq-BOOLEAN.true (omega (arith, c.if-f-lt2.false)) in
+    let chain = arm b (d - 1) (eqb f.operator 0) f.children next in
+    as_node _ _ whole chain _ _ _ _ next here _ _ _ linked end_is c.link.ensures
 
 pub node-returns-then-f-ne3 : goal.node-returns-then-f-ne3
 node-returns-then-f-ne3 t c =
@@ -615,17 +556,15 @@ node-returns-then-f-ne3 t c =
     let pre = c.requires in
     let source = args.self.now in
     let b = source.bytes.now in
+    let d = args.levels in
     let here = args.c.now in
-    let context = context_of source.kinds.now source.layout.generated in
-    let node = c.node-f in
-    let f = node.result in
+    let f = c.node-f.result in
+    let read = c.node-f.ensures.0 in
     let at = here.node in
-    let next = at + node_size in
-    let whole = term (tree_in args.levels b at) in
-    let below = args.levels - 1 in
+    let whole = term (tree_in d b at) in
     let chosen = sym c.chooses.ensures ∙ c.if-chooses.true in
     says_as _ _ _ _ _ (fault_as c.fault-then-f-ne3.ensures)
-    (miscounted_here pre.ready _ whole _ (wholes.wrong_is b args.levels at f node.ensures.0 pre.formed chosen c.if-f-ne3.true))
+    (miscounted_here pre.ready _ whole _ (wholes.wrong_is b d at f read pre.formed chosen c.if-f-ne3.true))
 
 pub node-lower-requires : goal.node-lower-requires
 node-lower-requires t c =
@@ -633,24 +572,30 @@ node-lower-requires t c =
     let pre = c.requires in
     let source = args.self.now in
     let b = source.bytes.now in
+    let d = args.levels in
     let here = args.c.now in
     let context = context_of source.kinds.now source.layout.generated in
-    let node = c.node-f in
-    let f = node.result in
+    let f = c.node-f.result in
+    let read = c.node-f.ensures.0 in
     let at = here.node in
     let next = at + node_size in
-    let whole = term (tree_in args.levels b at) in
-    let below = args.levels - 1 in
+    let whole = term (tree_in d b at) in
+    let after = at + node_size * size (tree_in d b at) in
+    let well = wholes.kids_well b d at f read pre.formed in
+    let deep = wholes.node_deep b d at f read pre.formed in
+    let end_is = wholes.past_is b d at f read pre.formed in
+    let below = d - 1 in
     let chosen = sym c.chooses.ensures ∙ c.if-chooses.true in
     let three = c.if-f-ne3.false in
-    let splits = wholes.branch_is b args.levels at f node.ensures.0 pre.formed chosen three in
-    let after = at + node_size * size (tree_in args.levels b at) in
-    let ends = three_past b below next ∙ (ap (λ (x : ℕ). past b below x next) (sym three) ∙ wholes.past_is b args.levels at f node.ensures.0 pre.formed) in
-    let moved = ready_moved pre.ready next in
-    let well = wholes.kids_well b args.levels at f node.ensures.0 pre.formed in (
-      omega (arith, wholes.node_deep b args.levels at f node.ensures.0 pre.formed),
+    let split : Split b below true 1 1 whole after next =
+    record {
+      splits = wholes.branch_is b d at f read pre.formed chosen three;
+      end_is = three_past b below next ∙ (ap (λ (x : ℕ). past b below x next) (sym three) ∙ end_is);
+    } in
+    let moved = ready_moved pre.ready next in (
+      omega (arith, deep),
       (
-        split_first b below true 1 1 whole after splits ends moved context,
+        split_first split moved context,
         (one_well b below 1 next refl (first_well b below f.children next (λ z. omega (arith, three)) well), omega arith, omega arith),
       ),
     )
@@ -661,25 +606,28 @@ node-returns-in_err-condition t c =
     let pre = c.requires in
     let source = args.self.now in
     let b = source.bytes.now in
+    let d = args.levels in
     let here = args.c.now in
     let context = context_of source.kinds.now source.layout.generated in
-    let node = c.node-f in
-    let f = node.result in
+    let f = c.node-f.result in
+    let read = c.node-f.ensures.0 in
     let at = here.node in
     let next = at + node_size in
-    let whole = term (tree_in args.levels b at) in
-    let below = args.levels - 1 in
+    let whole = term (tree_in d b at) in
+    let after = at + node_size * size (tree_in d b at) in
+    let end_is = wholes.past_is b d at f read pre.formed in
+    let below = d - 1 in
     let chosen = sym c.chooses.ensures ∙ c.if-chooses.true in
     let three = c.if-f-ne3.false in
-    let splits = wholes.branch_is b args.levels at f node.ensures.0 pre.formed chosen three in
-    let after = at + node_size * size (tree_in args.levels b at) in
-    let ends = three_past b below next ∙ (ap (λ (x : ℕ). past b below x next) (sym three) ∙ wholes.past_is b args.levels at f node.ensures.0 pre.formed) in
+    let split : Split b below true 1 1 whole after next =
+    record {
+      splits = wholes.branch_is b d at f read pre.formed chosen three;
+      end_is = three_past b below next ∙ (ap (λ (x : ℕ). past b below x next) (sym three) ∙ end_is);
+    } in
     let moved = ready_moved pre.ready next in
-    let well = wholes.kids_well b args.levels at f node.ensures.0 pre.formed in
     let was = as_faulty c.lower.new.c c.in_err-condition.was in
-    let up = err_from_is_err_and c.from_residual.result c.from_residual.ensures.1 in
-    says_as _ _ _ _ _ (handed_up c.lower.new.c c.in_err-condition.was up.1 up.2) (as_node _ _ whole whole _ _ _ _ next here _ _ _ refl refl
-    (split_refused b below true 1 1 whole after splits ends moved context c.lower.new.p _ _ _ (refused _ _ _ _ _ _ _ _ c.lower.ensures was) was))
+    says_as _ _ _ _ _ (handed_up _ c.lower.new.c c.in_err-condition.was c.from_residual.ensures.1) (as_node _ _ whole whole _ _ _ _ next here _ _ _ refl refl
+    (split_refused split moved context c.lower.new.p _ _ _ (refused _ _ _ _ _ _ _ _ c.lower.ensures was) was))
 
 pub node-branch-self-requires : goal.node-branch-self-requires
 node-branch-self-requires t c =
@@ -687,28 +635,34 @@ node-branch-self-requires t c =
     let pre = c.requires in
     let source = args.self.now in
     let b = source.bytes.now in
+    let d = args.levels in
     let here = args.c.now in
     let context = context_of source.kinds.now source.layout.generated in
-    let node = c.node-f in
-    let f = node.result in
+    let f = c.node-f.result in
+    let read = c.node-f.ensures.0 in
     let at = here.node in
     let next = at + node_size in
-    let whole = term (tree_in args.levels b at) in
-    let below = args.levels - 1 in
+    let whole = term (tree_in d b at) in
+    let after = at + node_size * size (tree_in d b at) in
+    let well = wholes.kids_well b d at f read pre.formed in
+    let deep = wholes.node_deep b d at f read pre.formed in
+    let end_is = wholes.past_is b d at f read pre.formed in
+    let below = d - 1 in
     let chosen = sym c.chooses.ensures ∙ c.if-chooses.true in
     let three = c.if-f-ne3.false in
-    let splits = wholes.branch_is b args.levels at f node.ensures.0 pre.formed chosen three in
-    let after = at + node_size * size (tree_in args.levels b at) in
-    let ends = three_past b below next ∙ (ap (λ (x : ℕ). past b below x next) (sym three) ∙ wholes.past_is b args.levels at f node.ensures.0 pre.formed) in
+    let split : Split b below true 1 1 whole after next =
+    record {
+      splits = wholes.branch_is b d at f read pre.formed chosen three;
+      end_is = three_past b below next ∙ (ap (λ (x : ℕ). past b below x next) (sym three) ∙ end_is);
+    } in
     let moved = ready_moved pre.ready next in
-    let well = wholes.kids_well b args.levels at f node.ensures.0 pre.formed in
     let e = c.lower.new.c in
     let v = c.in_ok-condition.condition in
     let first = taken _ _ _ _ _ _ v e c.lower.ensures (as_done e c.in_ok-condition.was) in
-    let there = split_node b below true 1 1 whole after splits ends moved context c.lower.new.p v e first in (
-      omega (arith, wholes.node_deep b args.levels at f node.ensures.0 pre.formed),
+    let there = split_node split moved context c.lower.new.p v e first in (
+      omega (arith, deep),
       (
-        split_arms b below true 1 1 whole after splits ends moved context c.lower.new.p v e first 1 1 refl refl,
+        split_arms split moved context c.lower.new.p v e first 1 1 refl refl,
         (two_well b below next e.node f.children three well there, three_well b below next e.node f.children three well there, omega arith, omega arith),
       ),
     )
@@ -719,26 +673,30 @@ node-returns-then-chooses t c =
     let pre = c.requires in
     let source = args.self.now in
     let b = source.bytes.now in
+    let d = args.levels in
     let here = args.c.now in
     let context = context_of source.kinds.now source.layout.generated in
-    let node = c.node-f in
-    let f = node.result in
+    let f = c.node-f.result in
+    let read = c.node-f.ensures.0 in
     let at = here.node in
     let next = at + node_size in
-    let whole = term (tree_in args.levels b at) in
-    let below = args.levels - 1 in
+    let whole = term (tree_in d b at) in
+    let after = at + node_size * size (tree_in d b at) in
+    let end_is = wholes.past_is b d at f read pre.formed in
+    let below = d - 1 in
     let chosen = sym c.chooses.ensures ∙ c.if-chooses.true in
     let three = c.if-f-ne3.false in
-    let splits = wholes.branch_is b args.levels at f node.ensures.0 pre.formed chosen three in
-    let after = at + node_size * size (tree_in args.levels b at) in
-    let ends = three_past b below next ∙ (ap (λ (x : ℕ). past b below x next) (sym three) ∙ wholes.past_is b args.levels at f node.ensures.0 pre.formed) in
+    let split : Split b below true 1 1 whole after next =
+    record {
+      splits = wholes.branch_is b d at f read pre.formed chosen three;
+      end_is = three_past b below next ∙ (ap (λ (x : ℕ). past b below x next) (sym three) ∙ end_is);
+    } in
     let moved = ready_moved pre.ready next in
-    let well = wholes.kids_well b args.levels at f node.ensures.0 pre.formed in
     let e = c.lower.new.c in
     let v = c.in_ok-condition.condition in
     let first = taken _ _ _ _ _ _ v e c.lower.ensures (as_done e c.in_ok-condition.was) in
     as_node _ _ whole whole _ _ _ _ next here _ _ _ refl refl
-    (split_done b below true 1 1 whole after splits ends moved context c.lower.new.p v e first 1 1 refl refl c.branch-self.new.p _ c.branch-self.ensures)
+    (split_done split moved context c.lower.new.p v e first 1 1 refl refl c.branch-self.new.p _ c.branch-self.ensures)
 
 pub node-operands-requires : goal.node-operands-requires
 node-operands-requires t c =
@@ -746,26 +704,30 @@ node-operands-requires t c =
     let pre = c.requires in
     let source = args.self.now in
     let b = source.bytes.now in
+    let d = args.levels in
     let here = args.c.now in
     let context = context_of source.kinds.now source.layout.generated in
-    let node = c.node-f in
-    let f = node.result in
+    let f = c.node-f.result in
+    let read = c.node-f.ensures.0 in
     let at = here.node in
     let next = at + node_size in
-    let whole = term (tree_in args.levels b at) in
-    let below = args.levels - 1 in
+    let whole = term (tree_in d b at) in
+    let well = wholes.kids_well b d at f read pre.formed in
+    let deep = wholes.node_deep b d at f read pre.formed in
+    let below = d - 1 in
     let unchosen = sym c.chooses.ensures ∙ c.if-chooses.false in
-    let knows = wholes.knows b args.levels at f node.ensures.0 pre.formed (omega (arith, c.if-f-le-SYMBOL.false)) c.if-f-eq-BOOLEAN.false unchosen in
+    let large : 3 ≤ f.kind = omega (arith, c.if-f-le-SYMBOL.false) in
+    let knows = wholes.knows b d at f read pre.formed large c.if-f-eq-BOOLEAN.false unchosen in
     let op = knows.op in
     let parts = terms (kids b below f.children next) in
-    let after = past b below f.children next in
+    let ends = past b below f.children next in
     let count = wholes.count_kids b below f.children next in
-    let is = wholes.apply_is b args.levels at f node.ensures.0 pre.formed (omega (arith, c.if-f-le-SYMBOL.false)) c.if-f-eq-BOOLEAN.false unchosen in
+    let is = wholes.apply_is b d at f read pre.formed large c.if-f-eq-BOOLEAN.false unchosen in
     let moved = ready_term whole (apply op parts) is pre.ready next in (
-      omega (arith, node.ensures.1, wholes.node_deep b args.levels at f node.ensures.0 pre.formed),
+      omega (arith, c.node-f.ensures.1, deep),
       (
-        operands_asked parts f.children c.listing.result _ c.listing.ensures (wholes.ready_operands context refl op parts f _ after knows refl count moved),
-        (wholes.kids_well b args.levels at f node.ensures.0 pre.formed, omega (arith, node.ensures.1)),
+        operands_asked parts f.children c.listing.result _ c.listing.ensures (wholes.ready_operands context refl op parts f _ ends knows refl count moved),
+        (well, omega (arith, c.node-f.ensures.1)),
       ),
     )
 
@@ -775,27 +737,30 @@ node-returns-in_err-v t c =
     let pre = c.requires in
     let source = args.self.now in
     let b = source.bytes.now in
+    let d = args.levels in
     let here = args.c.now in
     let context = context_of source.kinds.now source.layout.generated in
-    let node = c.node-f in
-    let f = node.result in
+    let f = c.node-f.result in
+    let read = c.node-f.ensures.0 in
     let at = here.node in
     let next = at + node_size in
-    let whole = term (tree_in args.levels b at) in
-    let below = args.levels - 1 in
+    let whole = term (tree_in d b at) in
+    let end_is = wholes.past_is b d at f read pre.formed in
+    let below = d - 1 in
     let unchosen = sym c.chooses.ensures ∙ c.if-chooses.false in
-    let knows = wholes.knows b args.levels at f node.ensures.0 pre.formed (omega (arith, c.if-f-le-SYMBOL.false)) c.if-f-eq-BOOLEAN.false unchosen in
+    let large : 3 ≤ f.kind = omega (arith, c.if-f-le-SYMBOL.false) in
+    let knows = wholes.knows b d at f read pre.formed large c.if-f-eq-BOOLEAN.false unchosen in
     let op = knows.op in
     let parts = terms (kids b below f.children next) in
-    let after = past b below f.children next in
+    let ends = past b below f.children next in
     let count = wholes.count_kids b below f.children next in
-    let is = wholes.apply_is b args.levels at f node.ensures.0 pre.formed (omega (arith, c.if-f-le-SYMBOL.false)) c.if-f-eq-BOOLEAN.false unchosen in
+    let is = wholes.apply_is b d at f read pre.formed large c.if-f-eq-BOOLEAN.false unchosen in
     let moved = ready_term whole (apply op parts) is pre.ready next in
     let said = lists_as _ _ _ _ _ _ _ _ _ _ _ _ _ _ c.takes.ensures c.listing.ensures c.operands.ensures in
     let was = as_faulty c.operands.new.c c.in_err-v.was in
-    let up = err_from_is_err_and c.from_residual-in_err-v.result c.from_residual-in_err-v.ensures.1 in
-    says_as _ _ _ _ _ (handed_up c.operands.new.c c.in_err-v.was up.1 up.2) (as_node _ _ whole (apply op parts) _ _ _ _ next here _ _ _ is (wholes.past_is b args.levels at f node.ensures.0 pre.formed)
-    (wholes.operands_refused context refl op parts f _ after knows refl count moved c.operands.new.p _ _ _ (collects.turned _ _ _ _ _ _ _ _ _ _ _ said was) was))
+    says_as _ _ _ _ _ (handed_up _ c.operands.new.c c.in_err-v.was c.from_residual-in_err-v.ensures.1)
+    (as_node _ _ whole (apply op parts) _ _ _ _ next here _ _ _ is end_is
+    (wholes.operands_refused context refl op parts f _ ends knows refl count moved c.operands.new.p _ _ _ (collects.turned _ _ _ _ _ _ _ _ _ _ _ said was) was))
 
 pub node-operation-requires : goal.node-operation-requires
 node-operation-requires t c =
@@ -803,35 +768,33 @@ node-operation-requires t c =
     let pre = c.requires in
     let source = args.self.now in
     let b = source.bytes.now in
+    let d = args.levels in
     let here = args.c.now in
     let context = context_of source.kinds.now source.layout.generated in
-    let node = c.node-f in
-    let f = node.result in
+    let f = c.node-f.result in
+    let read = c.node-f.ensures.0 in
     let at = here.node in
     let next = at + node_size in
-    let whole = term (tree_in args.levels b at) in
-    let below = args.levels - 1 in
+    let whole = term (tree_in d b at) in
+    let below = d - 1 in
     let unchosen = sym c.chooses.ensures ∙ c.if-chooses.false in
-    let knows = wholes.knows b args.levels at f node.ensures.0 pre.formed (omega (arith, c.if-f-le-SYMBOL.false)) c.if-f-eq-BOOLEAN.false unchosen in
+    let large : 3 ≤ f.kind = omega (arith, c.if-f-le-SYMBOL.false) in
+    let knows = wholes.knows b d at f read pre.formed large c.if-f-eq-BOOLEAN.false unchosen in
     let op = knows.op in
     let parts = terms (kids b below f.children next) in
-    let after = past b below f.children next in
+    let ends = past b below f.children next in
     let count = wholes.count_kids b below f.children next in
-    let is = wholes.apply_is b args.levels at f node.ensures.0 pre.formed (omega (arith, c.if-f-le-SYMBOL.false)) c.if-f-eq-BOOLEAN.false unchosen in
+    let is = wholes.apply_is b d at f read pre.formed large c.if-f-eq-BOOLEAN.false unchosen in
     let moved = ready_term whole (apply op parts) is pre.ready next in
     let said = lists_as _ _ _ _ _ _ _ _ _ _ _ _ _ _ c.takes.ensures c.listing.ensures c.operands.ensures in
     let e = c.operands.new.c in
     let v = c.in_ok-v.v in
-    let collected = collects.collected _ _ _ _ _ _ _ _ _ v e said (as_done e c.in_ok-v.was) in (
-      wholes.ready_finish context refl op parts f _ after knows refl count moved c.operands.new.p v e c.operands.auto.p collected,
+    let collected = collects.collected _ _ _ _ _ _ _ _ _ v e said (as_done e c.in_ok-v.was) in
+    let room = wholes.ready_operands context refl op parts f _ ends knows refl count moved in
+    let entry = wholes.e_entry context refl op parts f _ ends knows refl count moved c.operands.new.p v e c.operands.auto.p collected in (
+      wholes.ready_finish context refl op parts f _ ends knows refl count moved c.operands.new.p v e c.operands.auto.p collected,
       knows.small,
-      omega (
-        arith,
-        node.ensures.1,
-        (wholes.ready_operands context refl op parts f _ after knows refl count moved).lists,
-        wholes.e_entry context refl op parts f _ after knows refl count moved c.operands.new.p v e c.operands.auto.p collected,
-        c.well_formed.1.0.0,
-      ),
+      omega (arith, c.node-f.ensures.1, room.lists, entry, c.well_formed.1.0.0),
     )
 
 pub node-returns : goal.node-returns
@@ -840,28 +803,31 @@ node-returns t c =
     let pre = c.requires in
     let source = args.self.now in
     let b = source.bytes.now in
+    let d = args.levels in
     let here = args.c.now in
     let context = context_of source.kinds.now source.layout.generated in
-    let node = c.node-f in
-    let f = node.result in
+    let f = c.node-f.result in
+    let read = c.node-f.ensures.0 in
     let at = here.node in
     let next = at + node_size in
-    let whole = term (tree_in args.levels b at) in
-    let below = args.levels - 1 in
+    let whole = term (tree_in d b at) in
+    let end_is = wholes.past_is b d at f read pre.formed in
+    let below = d - 1 in
     let unchosen = sym c.chooses.ensures ∙ c.if-chooses.false in
-    let knows = wholes.knows b args.levels at f node.ensures.0 pre.formed (omega (arith, c.if-f-le-SYMBOL.false)) c.if-f-eq-BOOLEAN.false unchosen in
+    let large : 3 ≤ f.kind = omega (arith, c.if-f-le-SYMBOL.false) in
+    let knows = wholes.knows b d at f read pre.formed large c.if-f-eq-BOOLEAN.false unchosen in
     let op = knows.op in
     let parts = terms (kids b below f.children next) in
-    let after = past b below f.children next in
+    let ends = past b below f.children next in
     let count = wholes.count_kids b below f.children next in
-    let is = wholes.apply_is b args.levels at f node.ensures.0 pre.formed (omega (arith, c.if-f-le-SYMBOL.false)) c.if-f-eq-BOOLEAN.false unchosen in
+    let is = wholes.apply_is b d at f read pre.formed large c.if-f-eq-BOOLEAN.false unchosen in
     let moved = ready_term whole (apply op parts) is pre.ready next in
     let said = lists_as _ _ _ _ _ _ _ _ _ _ _ _ _ _ c.takes.ensures c.listing.ensures c.operands.ensures in
     let e = c.operands.new.c in
     let v = c.in_ok-v.v in
     let collected = collects.collected _ _ _ _ _ _ _ _ _ v e said (as_done e c.in_ok-v.was) in
-    as_node _ _ whole (apply op parts) _ _ _ _ next here _ _ _ is (wholes.past_is b args.levels at f node.ensures.0 pre.formed)
-    (wholes.finished context refl op parts f _ after knows refl count moved c.operands.new.p v e c.operands.auto.p collected c.operation.new.p _ c.operation.ensures)
+    as_node _ _ whole (apply op parts) _ _ _ _ next here _ _ _ is end_is
+    (wholes.finished context refl op parts f _ ends knows refl count moved c.operands.new.p v e c.operands.auto.p collected c.operation.new.p _ c.operation.ensures)
 
 pub operands-returns-then-o-eq0 : goal.operands-returns-then-o-eq0
 operands-returns-then-o-eq0 t c =
@@ -869,10 +835,11 @@ operands-returns-then-o-eq0 t c =
     let pre = c.requires in
     let source = args.self.now in
     let b = source.bytes.now in
+    let d = args.levels in
     let here = args.c.now in
-    let context = context_of source.kinds.now source.layout.generated in
-    collects.none_left _ args.o.first _ args.o.boolean _ _ _ here args.p.now (past_none b args.levels args.o.left here.node c.if-o-eq0.true) pre.ready.sound
-    args.o.lists _ _ refl (ap terms (kids_none b args.levels here.node args.o.left c.if-o-eq0.true))
+    let o = args.o in
+    collects.none_left _ o.first _ o.boolean _ _ _ here args.p.now (past_none b d o.left here.node c.if-o-eq0.true) pre.ready.sound o.lists _ _ refl
+    (ap terms (kids_none b d here.node o.left c.if-o-eq0.true))
 
 pub operand-lower-requires : goal.operand-lower-requires
 operand-lower-requires t c =
@@ -880,20 +847,21 @@ operand-lower-requires t c =
     let pre = c.requires in
     let source = args.self.now in
     let b = source.bytes.now in
+    let d = args.levels in
     let here = args.c.now in
     let context = context_of source.kinds.now source.layout.generated in
     let o = args.o in
     let node = here.node in
-    let second = past b args.levels 1 node in
-    let after = past b args.levels o.left node in
-    let child = arm b args.levels true 1 node in
-    let others = terms (kids b args.levels (o.left - 1) second) in
+    let second = past b d 1 node in
+    let after = past b d o.left node in
+    let child = arm b d true 1 node in
+    let others = terms (kids b d (o.left - 1) second) in
     let some_left : o.left ≡ 0 → ⊥ = λ z. omega (arith, z, pre.formed.2) in
-    let ready = operands_ready b args.levels o.left node o.lists o.first some_left pre.ready in (
+    let ready = operands_ready b d o.left node o.lists o.first some_left pre.ready in (
       omega (arith, pre.formed.2),
       (
         collects.ready_child o.lists context o.boolean child others o.first second after ready,
-        (one_well b args.levels 1 node refl (first_well b args.levels o.left node some_left pre.formed.0), omega (arith, pre.formed.1), omega arith),
+        (one_well b d 1 node refl (first_well b d o.left node some_left pre.formed.0), omega (arith, pre.formed.1), omega arith),
       ),
     )
 
@@ -903,20 +871,20 @@ operand-returns-in_err-v t c =
     let pre = c.requires in
     let source = args.self.now in
     let b = source.bytes.now in
+    let d = args.levels in
     let here = args.c.now in
     let context = context_of source.kinds.now source.layout.generated in
     let o = args.o in
     let node = here.node in
-    let second = past b args.levels 1 node in
-    let after = past b args.levels o.left node in
-    let child = arm b args.levels true 1 node in
-    let others = terms (kids b args.levels (o.left - 1) second) in
+    let second = past b d 1 node in
+    let after = past b d o.left node in
+    let child = arm b d true 1 node in
+    let others = terms (kids b d (o.left - 1) second) in
     let some_left : o.left ≡ 0 → ⊥ = λ z. omega (arith, z, pre.formed.2) in
-    let ready = operands_ready b args.levels o.left node o.lists o.first some_left pre.ready in
+    let ready = operands_ready b d o.left node o.lists o.first some_left pre.ready in
     let said = at_argument _ _ _ _ o.first _ _ _ _ _ _ c.lower.ensures in
     let was = as_faulty c.lower.new.c c.in_err-v.was in
-    let up = err_from_is_err_and c.from_residual.result c.from_residual.ensures.1 in
-    lists_as_is _ _ _ _ _ _ _ _ (handed_up c.lower.new.c c.in_err-v.was up.1 up.2) (operands_as _ _ _ _ _ _ _ _ _ _ _ _ b args.levels o.left node some_left
+    lists_as_is _ _ _ _ _ _ _ _ (handed_up _ c.lower.new.c c.in_err-v.was c.from_residual.ensures.1) (operands_as _ _ _ _ _ _ _ _ _ _ _ _ b d o.left node some_left
     (collects.child_refused o.lists context o.boolean child others o.first second after ready c.lower.new.p _ _ _ (refused _ _ _ _ _ _ _ _ said was) was))
 
 pub operand-operands-requires : goal.operand-operands-requires
@@ -925,16 +893,17 @@ operand-operands-requires t c =
     let pre = c.requires in
     let source = args.self.now in
     let b = source.bytes.now in
+    let d = args.levels in
     let here = args.c.now in
     let context = context_of source.kinds.now source.layout.generated in
     let o = args.o in
     let node = here.node in
-    let second = past b args.levels 1 node in
-    let after = past b args.levels o.left node in
-    let child = arm b args.levels true 1 node in
-    let others = terms (kids b args.levels (o.left - 1) second) in
+    let second = past b d 1 node in
+    let after = past b d o.left node in
+    let child = arm b d true 1 node in
+    let others = terms (kids b d (o.left - 1) second) in
     let some_left : o.left ≡ 0 → ⊥ = λ z. omega (arith, z, pre.formed.2) in
-    let ready = operands_ready b args.levels o.left node o.lists o.first some_left pre.ready in
+    let ready = operands_ready b d o.left node o.lists o.first some_left pre.ready in
     let said = at_argument _ _ _ _ o.first _ _ _ _ _ _ c.lower.ensures in
     let e = c.lower.new.c in
     let v = c.in_ok-v.v in
@@ -942,9 +911,9 @@ operand-operands-requires t c =
     let there = collects.is_node o.lists context o.boolean child others o.first second after ready c.lower.new.p v e first in (
       omega (arith, pre.formed.2),
       (
-        rest_ready b args.levels (o.left - 1) _ _ (sym there) o.lists o.first
+        rest_ready b d (o.left - 1) _ _ (sym there) o.lists o.first
             (collects.ready_rest o.lists context o.boolean child others o.first second after ready c.lower.new.p v e first),
-        (rest_well_at b args.levels o.left node e.node some_left pre.formed.0 there, omega (arith, pre.formed.1, pre.formed.2)),
+        (rest_well_at b d o.left node e.node some_left pre.formed.0 there, omega (arith, pre.formed.1, pre.formed.2)),
       ),
     )
 
@@ -954,25 +923,26 @@ operand-returns-in_err-w t c =
     let pre = c.requires in
     let source = args.self.now in
     let b = source.bytes.now in
+    let d = args.levels in
     let here = args.c.now in
     let context = context_of source.kinds.now source.layout.generated in
     let o = args.o in
     let node = here.node in
-    let second = past b args.levels 1 node in
-    let after = past b args.levels o.left node in
-    let child = arm b args.levels true 1 node in
-    let others = terms (kids b args.levels (o.left - 1) second) in
+    let second = past b d 1 node in
+    let after = past b d o.left node in
+    let child = arm b d true 1 node in
+    let others = terms (kids b d (o.left - 1) second) in
     let some_left : o.left ≡ 0 → ⊥ = λ z. omega (arith, z, pre.formed.2) in
-    let ready = operands_ready b args.levels o.left node o.lists o.first some_left pre.ready in
+    let ready = operands_ready b d o.left node o.lists o.first some_left pre.ready in
     let said = at_argument _ _ _ _ o.first _ _ _ _ _ _ c.lower.ensures in
     let e = c.lower.new.c in
     let v = c.in_ok-v.v in
     let first = taken _ _ _ _ _ _ v e said (as_done e c.in_ok-v.was) in
     let there = collects.is_node o.lists context o.boolean child others o.first second after ready c.lower.new.p v e first in
-    let said2 = rest_as _ _ _ _ _ _ _ _ _ _ _ b args.levels o.left node e.node there some_left c.operands.ensures in
+    let said2 = rest_as _ _ _ _ _ _ _ _ _ _ _ b d o.left node e.node there some_left c.operands.ensures in
     let was = as_faulty c.operands.new.c c.in_err-w.was in
-    let up = err_from_is_err_and c.from_residual-in_err-w.result c.from_residual-in_err-w.ensures.1 in
-    lists_as_is _ _ _ _ _ _ _ _ (handed_up c.operands.new.c c.in_err-w.was up.1 up.2) (operands_as _ _ _ _ _ _ _ _ _ _ _ _ b args.levels o.left node some_left
+    lists_as_is _ _ _ _ _ _ _ _ (handed_up _ c.operands.new.c c.in_err-w.was c.from_residual-in_err-w.ensures.1)
+    (operands_as _ _ _ _ _ _ _ _ _ _ _ _ b d o.left node some_left
     (collects.rest_refused o.lists context o.boolean child others o.first second after ready c.lower.new.p v e first c.operands.new.p _ _ _
     (collects.turned _ _ _ _ _ _ _ _ _ _ _ said2 was) was))
 
@@ -982,31 +952,29 @@ operand-overflow_add-entry t c =
     let pre = c.requires in
     let source = args.self.now in
     let b = source.bytes.now in
+    let d = args.levels in
     let here = args.c.now in
     let context = context_of source.kinds.now source.layout.generated in
     let o = args.o in
     let node = here.node in
-    let second = past b args.levels 1 node in
-    let after = past b args.levels o.left node in
-    let child = arm b args.levels true 1 node in
-    let others = terms (kids b args.levels (o.left - 1) second) in
+    let second = past b d 1 node in
+    let after = past b d o.left node in
+    let child = arm b d true 1 node in
+    let others = terms (kids b d (o.left - 1) second) in
     let some_left : o.left ≡ 0 → ⊥ = λ z. omega (arith, z, pre.formed.2) in
-    let ready = operands_ready b args.levels o.left node o.lists o.first some_left pre.ready in
+    let ready = operands_ready b d o.left node o.lists o.first some_left pre.ready in
     let said = at_argument _ _ _ _ o.first _ _ _ _ _ _ c.lower.ensures in
     let e = c.lower.new.c in
     let v = c.in_ok-v.v in
     let first = taken _ _ _ _ _ _ v e said (as_done e c.in_ok-v.was) in
     let there = collects.is_node o.lists context o.boolean child others o.first second after ready c.lower.new.p v e first in
-    let said2 = rest_as _ _ _ _ _ _ _ _ _ _ _ b args.levels o.left node e.node there some_left c.operands.ensures in
+    let said2 = rest_as _ _ _ _ _ _ _ _ _ _ _ b d o.left node e.node there some_left c.operands.ensures in
     let h = c.operands.new.c in
     let w = c.in_ok-w.w in
     let collected = collects.collected _ _ _ _ _ _ _ _ _ w h said2 (as_done h c.in_ok-w.was) in
-    omega (
-      arith,
-      collects.entry_small o.lists context o.boolean child others o.first second after ready c.lower.new.p v e first c.operands.new.p w h c.operands.auto.p collected,
-      pre.formed.1,
-      c.well_formed.1.0.0,
-    )
+    let small =
+    collects.entry_small o.lists context o.boolean child others o.first second after ready c.lower.new.p v e first c.operands.new.p w h c.operands.auto.p collected in
+    omega (arith, small, pre.formed.1, c.well_formed.1.0.0)
 
 pub operand-list_entry-requires : goal.operand-list_entry-requires
 operand-list_entry-requires t c =
@@ -1014,22 +982,23 @@ operand-list_entry-requires t c =
     let pre = c.requires in
     let source = args.self.now in
     let b = source.bytes.now in
+    let d = args.levels in
     let here = args.c.now in
     let context = context_of source.kinds.now source.layout.generated in
     let o = args.o in
     let node = here.node in
-    let second = past b args.levels 1 node in
-    let after = past b args.levels o.left node in
-    let child = arm b args.levels true 1 node in
-    let others = terms (kids b args.levels (o.left - 1) second) in
+    let second = past b d 1 node in
+    let after = past b d o.left node in
+    let child = arm b d true 1 node in
+    let others = terms (kids b d (o.left - 1) second) in
     let some_left : o.left ≡ 0 → ⊥ = λ z. omega (arith, z, pre.formed.2) in
-    let ready = operands_ready b args.levels o.left node o.lists o.first some_left pre.ready in
+    let ready = operands_ready b d o.left node o.lists o.first some_left pre.ready in
     let said = at_argument _ _ _ _ o.first _ _ _ _ _ _ c.lower.ensures in
     let e = c.lower.new.c in
     let v = c.in_ok-v.v in
     let first = taken _ _ _ _ _ _ v e said (as_done e c.in_ok-v.was) in
     let there = collects.is_node o.lists context o.boolean child others o.first second after ready c.lower.new.p v e first in
-    let said2 = rest_as _ _ _ _ _ _ _ _ _ _ _ b args.levels o.left node e.node there some_left c.operands.ensures in
+    let said2 = rest_as _ _ _ _ _ _ _ _ _ _ _ b d o.left node e.node there some_left c.operands.ensures in
     let h = c.operands.new.c in
     let w = c.in_ok-w.w in
     let collected = collects.collected _ _ _ _ _ _ _ _ _ w h said2 (as_done h c.in_ok-w.was) in
@@ -1041,25 +1010,26 @@ operand-returns t c =
     let pre = c.requires in
     let source = args.self.now in
     let b = source.bytes.now in
+    let d = args.levels in
     let here = args.c.now in
     let context = context_of source.kinds.now source.layout.generated in
     let o = args.o in
     let node = here.node in
-    let second = past b args.levels 1 node in
-    let after = past b args.levels o.left node in
-    let child = arm b args.levels true 1 node in
-    let others = terms (kids b args.levels (o.left - 1) second) in
+    let second = past b d 1 node in
+    let after = past b d o.left node in
+    let child = arm b d true 1 node in
+    let others = terms (kids b d (o.left - 1) second) in
     let some_left : o.left ≡ 0 → ⊥ = λ z. omega (arith, z, pre.formed.2) in
-    let ready = operands_ready b args.levels o.left node o.lists o.first some_left pre.ready in
+    let ready = operands_ready b d o.left node o.lists o.first some_left pre.ready in
     let said = at_argument _ _ _ _ o.first _ _ _ _ _ _ c.lower.ensures in
     let e = c.lower.new.c in
     let v = c.in_ok-v.v in
     let first = taken _ _ _ _ _ _ v e said (as_done e c.in_ok-v.was) in
     let there = collects.is_node o.lists context o.boolean child others o.first second after ready c.lower.new.p v e first in
-    let said2 = rest_as _ _ _ _ _ _ _ _ _ _ _ b args.levels o.left node e.node there some_left c.operands.ensures in
+    let said2 = rest_as _ _ _ _ _ _ _ _ _ _ _ b d o.left node e.node there some_left c.operands.ensures in
     let h = c.operands.new.c in
     let w = c.in_ok-w.w in
     let collected = collects.collected _ _ _ _ _ _ _ _ _ w h said2 (as_done h c.in_ok-w.was) in
-    operands_as _ _ _ _ _ _ _ _ _ _ _ _ b args.levels o.left node some_left
+    operands_as _ _ _ _ _ _ _ _ _ _ _ _ b d o.left node some_left
     (collects.all_collected o.lists context o.boolean child others o.first second after ready c.lower.new.p v e first c.operands.new.p w h c.operands.auto.p collected
     c.list_entry.new.p _ _ c.list_entry.ensures (ap (λ (x : Bool). x && w.boolean) (same_as v.boolean o.boolean)) refl)
