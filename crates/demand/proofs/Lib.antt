@@ -3,3 +3,4 @@ pub mod Loops
 pub mod Lasts
 pub mod Sources
 pub mod Owing
+pub mod Numbers

@@ -68,7 +68,7 @@ module _ (b l : List ℕ) (bytes : Bytes b) where
       (subst (λ (x : Formula). Source (generated_context ss) (term x) × (program_at (image (generated_context ss) d ++ zeros (length slice - length (image (generated_context ss) d))) ≡ program (generated_context ss) (term x))) ef
       (differentiated b l s p w d rs ss e, derivative_back s p w d rs ss e (zeros (length slice - length (image (generated_context ss) d)))))
 
-  pub source : (w : Wanted) (p : ℕ) (lens : Lengths) (slice : List ℕ) (C : Context) (f : Formula) → make b l w p lens ≡ made C f
+  pub source : (w : Wanted ℕ) (p : ℕ) (lens : Lengths) (slice : List ℕ) (C : Context) (f : Formula) → make b l w p lens ≡ made C f
       → Source C (term f) × (program_at (program_left b l w p lens slice) ≡ program C (term f))
   source Wanted.Formula p lens slice C f h = compiled_source (compile b l p lens.program) p lens.program slice C f refl h
   source (Wanted.Derivative s) p lens slice C f h = derived_source (derive b l s p lens) s p lens slice C f refl h

@@ -1,78 +1,52 @@
 // Lists of calls: a run from a fresh state, then resumes, each with state and registers as the last call left them.
-ghost use Rattle.std.specs.Prelude.{◌≡◌, ◌≤◌, get_or, length};
-ghost use Rattle.run.specs.Views.{reply_of, supplied_of};
-ghost use Rattle.demand.specs.Listed.{play_at, room_at, value_at};
+ghost use Rattle.std.specs.Prelude.{◌≡◌, length};
+ghost use Rattle.run.specs.Views.{reply_of};
+ghost use Rattle.demand.specs.Listed.{play_at};
 ghost use Rattle.demand.specs.Last.{Demand};
 
-use run::{Reply, Supplied};
+use run::Reply;
 
-pub fn budget_at(budgets: &[usize], i: usize) -> usize
-    ensures { result ≡ get_or budgets.now i 0 }
-{
-    if i < budgets.len() {
-        return budgets[i];
-    }
-    0
+// A call of a list: how many bytes of the path slice it is lent, all of them at most, its budget, and the value that it
+// supplies. The first is the run, which takes no value.
+#[derive(Clone, Copy)]
+pub struct Call {
+    pub room: usize,
+    pub budget: usize,
+    pub supplied: Option<f64>,
 }
 
-// The value that the call i supplies, where its flag is not zero.
-pub fn supplied_at(flags: &[u8], values: &[f64], i: usize) -> Supplied
-    ensures { supplied_of result ≡ value_at flags.now values.now i }
-{
-    let flag = reader::byte(flags, i);
-    if flag == 0 {
-        return Supplied::Nothing;
-    }
-    Supplied::Value(instruction::value_at(values, i))
-}
-
-// How many bytes of the path slice the call i is lent: all of them at most.
-pub fn room_at(rooms: &[usize], n: usize, i: usize) -> usize
-    ensures { (result ≡ room_at n rooms.now i) × (result ≤ n) }
-{
-    if i < rooms.len() {
-        if rooms[i] < n {
-            return rooms[i];
-        }
-        return n;
-    }
-    0
-}
-
-// The reply to the last call of a list: as many calls as there are budgets, one at least. Each call is lent the first bytes of the
-// path slice, as many as `rooms` says.
+// The reply to the last call of a list, which begins with a run: without a call in it, one with no path slice and budget 0.
+// Each call is lent the first bytes of the path slice.
 pub fn play(
-    p: &[u8],
+    program: &[u8],
     inputs: &[f64],
-    regs: &mut [f64],
+    registers: &mut [f64],
     path: &mut [u8],
-    rooms: &[usize],
-    budgets: &[usize],
-    flags: &[u8],
-    values: &[f64],
+    calls: &[Call],
 ) -> Reply
-    ensures reply { reply_of p.now result regs.new ≡ (play_at inputs.now p.now path.old rooms.now budgets.now flags.now values.now regs.old).reply }
-    ensures place { path.new ≡ (play_at inputs.now p.now path.old rooms.now budgets.now flags.now values.now regs.old).path }
-    ensures demand { Demand inputs.now p.now (length path.old) rooms.now budgets.now flags.now values.now regs.old (reply_of p.now result regs.new) }
+    ensures reply { reply_of program.now result registers.new ≡ (play_at inputs.now program.now path.old calls.now registers.old).reply }
+    ensures place { path.new ≡ (play_at inputs.now program.now path.old calls.now registers.old).path }
+    ensures demand { Demand inputs.now program.now (length path.old) calls.now registers.old (reply_of program.now result registers.new) }
 {
-    let n = path.len();
-    let first = room_at(rooms, n, 0);
-    let mut r = run::run(p, inputs, regs, &mut path[..first], budget_at(budgets, 0));
-    let mut i = 1;
-    while i < budgets.len() {
-        let room = room_at(rooms, n, i);
-        let supplied = supplied_at(flags, values, i);
-        let state = r.state;
-        r = run::resume(
-            p,
-            inputs,
-            regs,
-            &mut path[..room],
-            budget_at(budgets, i),
-            state,
-            supplied,
-        );
-        i += 1;
+    let whole = path.len();
+    match calls {
+        [] => run::run(program, inputs, registers, &mut path[..0], 0),
+        [first, rest @ ..] => {
+            let room = first.room.min(whole);
+            let mut reply = run::run(program, inputs, registers, &mut path[..room], first.budget);
+            for call in rest {
+                let room = call.room.min(whole);
+                reply = run::resume(
+                    program,
+                    inputs,
+                    registers,
+                    &mut path[..room],
+                    call.budget,
+                    reply.state,
+                    call.supplied,
+                );
+            }
+            reply
+        }
     }
-    r
 }

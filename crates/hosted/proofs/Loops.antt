@@ -1,7 +1,7 @@
 -- The loop over a host's list of calls: what the library's functions leave, and that it follows the machine's replies.
 use mathlib.Core.Path.{◌≡◌, refl, ap, ap₂, sym, ◌∙◌, subst}
 use mathlib.Core.Bool.{Bool, true, false, ◌||◌}
-use mathlib.Core.List.{List, [], ◌∷◌, ◌++◌}
+use mathlib.Core.List.{List, [], ◌∷◌, ◌++◌, map}
 use mathlib.Core.Option.{Option, none}
 use Prim.Native.Nat.{ℕ, suc, ◌+◌, ◌-◌, ◌≤◌, ◌<◌}
 use native.Mathlib.Numerals.{add-one}
@@ -9,6 +9,8 @@ use native.Mathlib.Omega.{arith}
 use lib.ListN.{drop, get_or, length, take, take-append-drop}
 use lib.Dec.{ltb}
 use lib.Seq.{length-take-le}
+use Rattle.std.proofs.Common.{min}
+use Rattle.std.proofs.lemmas.List.{drop_all}
 use lib.Ieee.{Float, binary64}
 use Rattle.refusals.specs.Numbers.{slice_too_short}
 use Rattle.formula.specs.Path.{placed}
@@ -16,7 +18,8 @@ use Rattle.machine.specs.Machine.{Call, Reply, State, place_of, resume, run}
 use Rattle.layout.specs.Decode.{program_at}
 use Rattle.run.specs.Calls.{resume_at, run_at}
 use Rattle.demand.proofs.Loops.{again_long}
-use Rattle.demand.specs.Listed.{Played, call_at, calls_from, first_call, noted, play_at, playing, room_at, value_at}
+use Rattle.demand.specs.Listed.{Played, call_of, first_call, later_calls, noted, play_at, playing}
+use Rattle.demand.specs.declared.calls.Call as Code
 use Rattle.vebrostin.specs.Cells.{number_of, question_cells, question_of, state_in}
 use Rattle.vebrostin.specs.Calls.{Carries, Leaves, Outcome, after, is_refused, report_length, resume_outcome, run_outcome, short, state_length, told, untouched, with_room, written}
 use Rattle.vebrostin.proofs.Asking.{resume_asks, run_asks}
@@ -34,34 +37,34 @@ left_is : (o : Outcome) (number : ℕ) (cells : List ℕ) (regs : List Float) (p
     → left number cells regs (part ++ drop room path) report ≡ lent room o path
 left_is o number cells regs part path report room h = rw (h.0, h.1, h.2, h.3, h.4)
 
-module _ (inputs : List Float) (b : List ℕ) (n : ℕ) (rooms budgets flags : List ℕ) (values : List Float) where
+module _ (inputs : List Float) (b : List ℕ) (n : ℕ) (rest : List Code.Call) where
   unfoldable pub hosted_at : Outcome → ℕ → Outcome
-  hosted_at x i = hosting inputs b x (calls_from n rooms budgets flags values (length budgets - i) i)
+  hosted_at x i = hosting inputs b x (map (call_of n) (drop i rest))
 
-  pub hosted_start : (regs regs' : List Float) (cells cells' path part report report' : List ℕ) (number room k : ℕ) → n ≡ length path → room ≡ room_at n rooms 0 → k ≡ get_or budgets 0 0
-      → Leaves (run_outcome inputs b k regs cells (take room path) report) number cells' regs' part report'
-      → hosted_at (left number cells' regs' (part ++ drop room path) report') 1 ≡ host_at inputs b cells path report rooms budgets flags values regs
+  pub hosted_start : (first : Code.Call) (regs regs' : List Float) (cells cells' path part report report' : List ℕ) (number room : ℕ) (calls : List Code.Call)
+      → n ≡ length path → room ≡ min first.room n → calls ≡ first ∷ rest
+      → Leaves (run_outcome inputs b first.budget regs cells (take room path) report) number cells' regs' part report'
+      → hosted_at (left number cells' regs' (part ++ drop room path) report') 0 ≡ host_at inputs b cells path report calls regs
   unfolding hosted_at host_at
-  hosted_start regs regs' cells cells' path part report report' number room k en er ek h =
-      ap (λ x. hosting inputs b x (calls_from n rooms budgets flags values (length budgets - 1) 1))
-      (left_is (run_outcome inputs b k regs cells (take room path) report) number cells' regs' part path report' room h)
-      ∙ rw (ek, er, en)
+  hosted_start first regs regs' cells cells' path part report report' number room calls en er k h =
+      ap (λ x. hosting inputs b x (map (call_of n) rest))
+      (left_is (run_outcome inputs b first.budget regs cells (take room path) report) number cells' regs' part path report' room h)
+      ∙ rw (er, en, k)
 
-  pub hosted_step : (regs regs' : List Float) (cells cells' path part report report' : List ℕ) (number number' i room k : ℕ) (g : Option Float) → room ≡ room_at n rooms i
-      → i < length budgets → k ≡ get_or budgets i 0 → g ≡ value_at flags values i
-      → Leaves (resume_outcome inputs b k g regs cells (take room path) report) number' cells' regs' part report'
+  pub hosted_step : (c : Code.Call) (regs regs' : List Float) (cells cells' path part report report' : List ℕ) (number number' i room : ℕ)
+      → drop i rest ≡ c ∷ drop (i + 1) rest → room ≡ min c.room n
+      → Leaves (resume_outcome inputs b c.budget (supplied_of c.supplied) regs cells (take room path) report) number' cells' regs' part report'
       → hosted_at (left number cells regs path report) i ≡ hosted_at (left number' cells' regs' (part ++ drop room path) report') (i + 1)
   unfolding hosted_at
-  hosted_step regs regs' cells cells' path part report report' number number' i room k g er h ek eg l =
-      let z : length budgets - i ≡ suc (length budgets - (i + 1)) = omega arith in
-      ap (λ (k : ℕ). hosting inputs b (left number cells regs path report) (calls_from n rooms budgets flags values k i)) z
-      ∙ rw (← er, ← ek, ← eg, add-one)
-      (sym (ap (λ x. hosting inputs b x (calls_from n rooms budgets flags values (length budgets - suc i) (suc i)))
-      (left_is (resume_outcome inputs b k g regs cells (take room path) report) number' cells' regs' part path report' room l)))
+  hosted_step c regs regs' cells cells' path part report report' number number' i room d er l =
+      ap (λ (cs : List Code.Call). hosting inputs b (left number cells regs path report) (map (call_of n) cs)) d
+      ∙ rw (← er)
+      (sym (ap (λ x. hosting inputs b x (map (call_of n) (drop (i + 1) rest)))
+      (left_is (resume_outcome inputs b c.budget (supplied_of c.supplied) regs cells (take room path) report) number' cells' regs' part path report' room l)))
 
-  pub hosted_end : (x : Outcome) (i : ℕ) → length budgets ≤ i → hosted_at x i ≡ x
+  pub hosted_end : (x : Outcome) (i : ℕ) → length rest ≤ i → hosted_at x i ≡ x
   unfolding hosted_at
-  hosted_end x i h = let z : length budgets - i ≡ 0 = omega arith in rw z
+  hosted_end x i h = rw (drop_all i rest h)
 
 -- ---- too few numbers in the cells or the report
 
@@ -83,11 +86,11 @@ module _ (inputs : List Float) (b : List ℕ) (regs : List Float) (cells path re
   hosting_short (c ∷ cs) = ap (λ x. hosting inputs b x cs) (resumed_short c) ∙ hosting_short cs
 
   -- "1", and nothing is written
-  pub host_short : (rooms budgets flags : List ℕ) (values : List Float) → host_at inputs b cells path report rooms budgets flags values regs ≡ turned
+  pub host_short : (calls : List Code.Call) → host_at inputs b cells path report calls regs ≡ turned
   unfolding host_at run_outcome
-  host_short rooms budgets flags values =
-      let cs = calls_from (length path) rooms budgets flags values (length budgets - 1) 1 in
-      ap (λ x. hosting inputs b x cs) (refused_lent (room_at (length path) rooms 0) _) ∙ hosting_short cs
+  host_short calls =
+      let cs = later_calls (length path) calls in
+      ap (λ x. hosting inputs b x cs) (refused_lent (first_call (length path) calls).room _) ∙ hosting_short cs
 
 -- ---- one reply of the machine
 
@@ -140,56 +143,75 @@ module _ (inputs : List Float) (b : List ℕ) (k : ℕ) (regs regs' : List Float
       follows r cells cells' regs' part path number room h.0 (c (same_short cells cells' report report' same alike ∙ enough)) (after_is r cells cells' h.1)
       (λ f. (resume_asks inputs b (length (take room path)) k g (state_in cells) regs f).1) h.2 h.3
 
+-- ---- the end
+
+-- what is said of the last call of a list
+pub record Ended (inputs : List Float) (b : List ℕ) (calls : List Code.Call) (regs : List Float) (cells path report : List ℕ) (number : ℕ) (cells' : List ℕ) (regs' : List Float) (path' report' : List ℕ) : Type 0 where
+  pub outcome : Leaves (host_at inputs b cells path report calls regs) number cells' regs' path' report'
+  pub reply : short cells report ≡ false → Follows (play_at inputs b path calls regs) number cells' regs' path'
+
+-- of a list without a call
+pub none_ended : (inputs : List Float) (b : List ℕ) (regs regs' : List Float) (cells cells' path part report report' : List ℕ) (number : ℕ)
+    → Leaves (run_outcome inputs b 0 regs cells (take 0 path) report) number cells' regs' part report' → Carries cells' report' (run_at inputs b (length (take 0 path)) 0 regs)
+    → length cells' ≡ length cells → length report' ≡ length report → Ended inputs b [] regs cells path report number cells' regs' (part ++ path) report'
+unfolding host_at play_at run_at
+none_ended inputs b regs regs' cells cells' path part report report' number L K ec et =
+    record {
+      outcome = subst (λ (o : Outcome). Leaves o number cells' regs' (part ++ path) report')
+          (left_is (run_outcome inputs b 0 regs cells (take 0 path) report) number cells' regs' part path report' 0 L) (refl, refl, refl, refl, refl);
+      reply = λ enough. run_follows inputs b 0 regs regs' cells cells' path part report report' number 0 enough ec et L K;
+    }
+
 -- ---- the machine's list
 
-module _ (inputs : List Float) (b : List ℕ) (n : ℕ) (rooms budgets flags : List ℕ) (values : List Float) where
-  -- a reply that the calls so far came to, from which the calls from the i-th on come to the last one
+module _ (inputs : List Float) (b : List ℕ) (n : ℕ) (rest : List Code.Call) where
+  -- a reply that the calls so far came to, from which the calls from the i-th of the rest on come to the last one
   pub record Following (last : Played) (number : ℕ) (cells : List ℕ) (regs : List Float) (path : List ℕ) (i : ℕ) : Type 0 where
     pub reached : Played
-    pub leads : playing inputs (program_at b) reached (calls_from n rooms budgets flags values (length budgets - i) i) ≡ last
+    pub leads : playing inputs (program_at b) reached (map (call_of n) (drop i rest)) ≡ last
     pub shown : Follows reached number cells regs path
 
-  pub following_start : (regs regs' : List Float) (cells cells' path part : List ℕ) (number room k : ℕ) → n ≡ length path → room ≡ room_at n rooms 0 → room ≤ length path
-      → k ≡ get_or budgets 0 0 → Follows (noted room (run_at inputs b (length (take room path)) k regs) path) number cells' regs' (part ++ drop room path)
-      → Following (play_at inputs b path rooms budgets flags values regs) number cells' regs' (part ++ drop room path) 1
+  pub following_start : (first : Code.Call) (regs regs' : List Float) (cells cells' path part : List ℕ) (number room : ℕ) (calls : List Code.Call)
+      → n ≡ length path → room ≡ min first.room n → room ≤ length path → calls ≡ first ∷ rest
+      → Follows (noted room (run_at inputs b (length (take room path)) first.budget regs) path) number cells' regs' (part ++ drop room path)
+      → Following (play_at inputs b path calls regs) number cells' regs' (part ++ drop room path) 0
   unfolding play_at run_at
-  following_start regs regs' cells cells' path part number room k en er l ek f =
+  following_start first regs regs' cells cells' path part number room calls en er l k f =
       record {
-        reached = noted room (run_at inputs b (length (take room path)) k regs) path;
-        leads = rw (length-take-le room path l, ek, er, en);
+        reached = noted room (run_at inputs b (length (take room path)) first.budget regs) path;
+        leads = rw (length-take-le room path l, er, en, k);
         shown = f;
       }
 
-  pub following_step : (last : Played) (regs regs' : List Float) (cells cells' path part : List ℕ) (number number' i room k : ℕ) (g : Option Float)
-      → room ≡ room_at n rooms i → room ≤ length path → i < length budgets → k ≡ get_or budgets i 0 → g ≡ value_at flags values i
+  pub following_step : (c : Code.Call) (last : Played) (regs regs' : List Float) (cells cells' path part : List ℕ) (number number' i room : ℕ)
+      → drop i rest ≡ c ∷ drop (i + 1) rest → room ≡ min c.room n → room ≤ length path
       → (F : Following last number cells regs path i)
-      → Follows (noted room (resume_at inputs b (length (take room path)) k g (state_in cells) regs) path) number' cells' regs' (part ++ drop room path)
+      → Follows (noted room (resume_at inputs b (length (take room path)) c.budget (supplied_of c.supplied) (state_in cells) regs) path) number' cells' regs' (part ++ drop room path)
       → Following last number' cells' regs' (part ++ drop room path) (i + 1)
   unfolding resume_at
-  following_step last regs regs' cells cells' path part number number' i room k g er l h ek eg F f =
+  following_step c last regs regs' cells cells' path part number number' i room d er l F f =
       let x = F.reached in
-      let c : Call = record { room = room; budget = k; given = g } in
-      let z : length budgets - i ≡ suc (length budgets - (i + 1)) = omega arith in
-      let y = noted room (resume binary64 inputs (program_at b) c x.reply.state x.reply.registers) x.path in
+      let k = c.budget in
+      let g = supplied_of c.supplied in
+      let call : Call = record { room = room; budget = k; given = g } in
+      let y = noted room (resume binary64 inputs (program_at b) call x.reply.state x.reply.registers) x.path in
       let e : noted room (resume_at inputs b (length (take room path)) k g (state_in cells) regs) path ≡ y =
       ap (λ (m : ℕ). noted room (resume_at inputs b m k g (state_in cells) regs) path) (length-take-le room path l)
       ∙ ap (λ (s : State). noted room (resume_at inputs b room k g s regs) path) F.shown.shows.state_shown
       ∙ ap (λ (w : List Float). noted room (resume_at inputs b room k g x.reply.state w) path) F.shown.registers_are
       ∙ ap (λ (q : List ℕ). noted room (resume_at inputs b room k g x.reply.state x.reply.registers) q) F.shown.path_is in
-      let s : playing inputs (program_at b) x (calls_from n rooms budgets flags values (length budgets - i) i)
-      ≡ playing inputs (program_at b) y (calls_from n rooms budgets flags values (length budgets - (i + 1)) (i + 1)) =
-      ap (λ (k : ℕ). playing inputs (program_at b) x (calls_from n rooms budgets flags values k i)) z ∙ rw (er, ek, eg, add-one) in
+      let s : playing inputs (program_at b) x (map (call_of n) (drop i rest)) ≡ playing inputs (program_at b) y (map (call_of n) (drop (i + 1) rest)) =
+      ap (λ (cs : List Code.Call). playing inputs (program_at b) x (map (call_of n) cs)) d ∙ rw (← er) in
       record {
         reached = y;
         leads = sym s ∙ F.leads;
         shown = subst (λ (w : Played). Follows w number' cells' regs' (part ++ drop room path)) e f;
       }
 
-  pub following_end : (last : Played) (number : ℕ) (cells : List ℕ) (regs : List Float) (path : List ℕ) (i : ℕ) → length budgets ≤ i
+  pub following_end : (last : Played) (number : ℕ) (cells : List ℕ) (regs : List Float) (path : List ℕ) (i : ℕ) → length rest ≤ i
       → Following last number cells regs path i → Follows last number cells regs path
   following_end last number cells regs path i h F =
-      let z : length budgets - i ≡ 0 = omega arith in
-      let e : F.reached ≡ last = sym (rw z) ∙ F.leads in
+      let e : F.reached ≡ last = sym (rw (drop_all i rest h)) ∙ F.leads in
       subst (λ (w : Played). Follows w number cells regs path) e F.shown
 
   -- ---- the invariant: the calls left from here come to what the calls left after the run come to
@@ -199,52 +221,53 @@ module _ (inputs : List Float) (b : List ℕ) (n : ℕ) (rooms budgets flags : L
     pub path_long : length path ≡ n
     pub cells_long : length cells ≡ length cells₀
     pub report_long : length report ≡ length report₀
-    pub hosts : hosted_at inputs b n rooms budgets flags values (left number cells regs path report) i
-        ≡ hosted_at inputs b n rooms budgets flags values (left number₀ cells₀ regs₀ path₀ report₀) 1
-    pub plays : short cells₀ report₀ ≡ false → (last : Played) → Following last number₀ cells₀ regs₀ path₀ 1 → Following last number cells regs path i
+    pub hosts : hosted_at inputs b n rest (left number cells regs path report) i ≡ hosted_at inputs b n rest (left number₀ cells₀ regs₀ path₀ report₀) 0
+    pub plays : short cells₀ report₀ ≡ false → (last : Played) → Following last number₀ cells₀ regs₀ path₀ 0 → Following last number cells regs path i
 
   pub inv_start : (number : ℕ) (cells : List ℕ) (regs : List Float) (path report : List ℕ) → length path ≡ n
-      → Inv number cells regs path report number cells regs path report 1
+      → Inv number cells regs path report number cells regs path report 0
   inv_start number cells regs path report e =
       record { registers_long = refl; path_long = e; cells_long = refl; report_long = refl; hosts = refl; plays = λ h last F. F }
 
   pub inv_step : (number₀ : ℕ) (cells₀ : List ℕ) (regs₀ : List Float) (path₀ report₀ : List ℕ) (number : ℕ) (cells : List ℕ) (regs : List Float) (path report : List ℕ) (i : ℕ)
       → Inv number₀ cells₀ regs₀ path₀ report₀ number cells regs path report i
-      → (number' : ℕ) (cells' : List ℕ) (regs' : List Float) (part report' : List ℕ) (room k : ℕ) (g : Option Float)
-      → room ≡ room_at n rooms i → room ≤ length path → i < length budgets → k ≡ get_or budgets i 0 → g ≡ value_at flags values i
-      → Leaves (resume_outcome inputs b k g regs cells (take room path) report) number' cells' regs' part report'
-      → Carries cells' report' (resume_at inputs b (length (take room path)) k g (state_in cells) regs)
+      → (c : Code.Call) (number' : ℕ) (cells' : List ℕ) (regs' : List Float) (part report' : List ℕ) (room : ℕ)
+      → drop i rest ≡ c ∷ drop (i + 1) rest → room ≡ min c.room n → room ≤ length path
+      → Leaves (resume_outcome inputs b c.budget (supplied_of c.supplied) regs cells (take room path) report) number' cells' regs' part report'
+      → Carries cells' report' (resume_at inputs b (length (take room path)) c.budget (supplied_of c.supplied) (state_in cells) regs)
       → length cells' ≡ length cells → length regs' ≡ length regs → length part ≡ length (take room path) → length report' ≡ length report
       → Inv number₀ cells₀ regs₀ path₀ report₀ number' cells' regs' (part ++ drop room path) report' (i + 1)
-  inv_step number₀ cells₀ regs₀ path₀ report₀ number cells regs path report i I number' cells' regs' part report' room k g er l h ek eg L K ec eregs ep et =
+  inv_step number₀ cells₀ regs₀ path₀ report₀ number cells regs path report i I c number' cells' regs' part report' room d er l L K ec eregs ep et =
       record {
         registers_long = eregs ∙ I.registers_long;
         path_long = again_long path part room l ep ∙ I.path_long;
         cells_long = ec ∙ I.cells_long;
         report_long = et ∙ I.report_long;
-        hosts = sym (hosted_step inputs b n rooms budgets flags values regs regs' cells cells' path part report report' number number' i room k g er h ek eg L) ∙ I.hosts;
+        hosts = sym (hosted_step inputs b n rest c regs regs' cells cells' path part report report' number number' i room d er L) ∙ I.hosts;
         plays = λ enough last F.
-            following_step last regs regs' cells cells' path part number number' i room k g er l h ek eg (I.plays enough last F)
-            (resume_follows inputs b k regs regs' cells cells' path part report report' number' room
-            (same_short cells₀ cells report₀ report I.cells_long I.report_long ∙ enough) ec et g L K);
+            following_step c last regs regs' cells cells' path part number number' i room d er l (I.plays enough last F)
+            (resume_follows inputs b c.budget regs regs' cells cells' path part report report' number' room
+            (same_short cells₀ cells report₀ report I.cells_long I.report_long ∙ enough) ec et (supplied_of c.supplied) L K);
       }
 
   -- the whole list, from the run's outcome and the invariant after the last call
-  module _ (regs regs₁ regs' : List Float) (cells cells₁ cells' path part path' report report₁ report' : List ℕ) (number₁ number room k i : ℕ) where
-    pub inv_end : n ≡ length path → room ≡ room_at n rooms 0 → room ≤ length path → k ≡ get_or budgets 0 0
-        → Leaves (run_outcome inputs b k regs cells (take room path) report) number₁ cells₁ regs₁ part report₁
-        → Carries cells₁ report₁ (run_at inputs b (length (take room path)) k regs) → length cells₁ ≡ length cells → length report₁ ≡ length report
-        → length budgets ≤ i → Inv number₁ cells₁ regs₁ (part ++ drop room path) report₁ number cells' regs' path' report' i
-        → Leaves (host_at inputs b cells path report rooms budgets flags values regs) number cells' regs' path' report'
-        × (short cells report ≡ false → Follows (play_at inputs b path rooms budgets flags values regs) number cells' regs' path')
-    inv_end en er l ek L K ec et done I =
-        let e : left number cells' regs' path' report' ≡ host_at inputs b cells path report rooms budgets flags values regs =
-        sym (hosted_end inputs b n rooms budgets flags values (left number cells' regs' path' report') i done) ∙ I.hosts
-        ∙ hosted_start inputs b n rooms budgets flags values regs regs₁ cells cells₁ path part report report₁ number₁ room k en er ek L in (
-          subst (λ (o : Outcome). Leaves o number cells' regs' path' report') e (refl, refl, refl, refl, refl),
-          λ enough.
-              let last = play_at inputs b path rooms budgets flags values regs in
-              following_end last number cells' regs' path' i done
-              (I.plays (same_short cells cells₁ report report₁ ec et ∙ enough) last
-              (following_start regs regs₁ cells cells₁ path part number₁ room k en er l ek (run_follows inputs b k regs regs₁ cells cells₁ path part report report₁ number₁ room enough ec et L K))),
-        )
+  pub inv_end : (first : Code.Call) (calls : List Code.Call) (regs regs₁ regs' : List Float) (cells cells₁ cells' path part path' report report₁ report' : List ℕ) (number₁ number room i : ℕ)
+      → n ≡ length path → room ≡ min first.room n → room ≤ length path → calls ≡ first ∷ rest
+      → Leaves (run_outcome inputs b first.budget regs cells (take room path) report) number₁ cells₁ regs₁ part report₁
+      → Carries cells₁ report₁ (run_at inputs b (length (take room path)) first.budget regs) → length cells₁ ≡ length cells → length report₁ ≡ length report
+      → length rest ≤ i → Inv number₁ cells₁ regs₁ (part ++ drop room path) report₁ number cells' regs' path' report' i
+      → Ended inputs b calls regs cells path report number cells' regs' path' report'
+  inv_end first calls regs regs₁ regs' cells cells₁ cells' path part path' report report₁ report' number₁ number room i en er l k L K ec et done I =
+      let e : left number cells' regs' path' report' ≡ host_at inputs b cells path report calls regs =
+      sym (hosted_end inputs b n rest (left number cells' regs' path' report') i done) ∙ I.hosts
+      ∙ hosted_start inputs b n rest first regs regs₁ cells cells₁ path part report report₁ number₁ room calls en er k L in
+      record {
+        outcome = subst (λ (o : Outcome). Leaves o number cells' regs' path' report') e (refl, refl, refl, refl, refl);
+        reply =
+            λ enough.
+            let last = play_at inputs b path calls regs in
+            following_end last number cells' regs' path' i done
+            (I.plays (same_short cells cells₁ report report₁ ec et ∙ enough) last
+            (following_start first regs regs₁ cells cells₁ path part number₁ room calls en er l k
+            (run_follows inputs b first.budget regs regs₁ cells cells₁ path part report report₁ number₁ room enough ec et L K)));
+      }

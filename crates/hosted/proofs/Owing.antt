@@ -25,17 +25,17 @@ use Rattle.compile.specs.Entry as Entry
 use Rattle.derive.specs.Outcome.{lengths}
 use Rattle.derive.specs.Outcome as Entered
 use Rattle.demand.specs.Listed.{play_at}
+use Rattle.demand.specs.declared.calls.Call as Code
 use Rattle.demand.proofs.Lasts.{demand}
 use Rattle.demand.specs.Made.{Made, made, make, of_compiled, of_derived, place_of, program_left, refused, refused_at, tree_left, list_left}
-use Rattle.demand.specs.declared.Wanted as Making
 use Rattle.demand.proofs.Sources.{source}
 use Rattle.vebrostin.specs.Calls.{Compiles, Derives, Leaves, Outcome, compile_node, compile_number, compile_outcome, derive_node, derive_number, derive_outcome, node_place, report_length, report_short, reported, short, with_room}
 use Rattle.vebrostin.proofs.Outcomes.{roomy}
-use Rattle.hosted.specs.Hosted.{asked, host_at, made_node, made_number, wanted_of}
+use Rattle.hosted.specs.Hosted.{asked, host_at, made_node, made_number}
 use Rattle.hosted.specs.Owed.{Follows, Makes, Owes}
-use Rattle.hosted.specs.declared.Wanted.{Wanted}
-use Rattle.hosted.specs.declared.Wanted.TheVariants as Wanted
-use Rattle.hosted.proofs.Numbers.{Told, told}
+use Rattle.demand.specs.declared.Wanted.{Wanted}
+use Rattle.demand.specs.declared.Wanted.TheVariants as Wanted
+use Rattle.demand.proofs.Numbers.{Told, told}
 use Rattle.hosted.proofs.Loops.{host_short}
 
 -- ---- the making
@@ -114,39 +114,39 @@ module _ (b names q q' t t' l l' p p' u u' : List ℕ) (number : ℕ) where
   abbrev lens : Lengths
   lens = lengths t l p
 
-  abbrev pub Done : Wanted → Type 0
+  abbrev pub Done : Wanted ℕ → Type 0
   Done w =
-      let X = asked u (make b names (wanted_of w) (length q) lens) in
+      let X = asked u (make b names w (length q) lens) in
       (Makes X number q q' × (u' ≡ reported (made_node X) u))
-      × ((t' ≡ with_room few t (tree_left b names (wanted_of w) (length q) lens t))
-      × (l' ≡ with_room few l (list_left b names (wanted_of w) (length q) lens l))
-      × (p' ≡ with_room few p (program_left b names (wanted_of w) (length q) lens p)))
+      × ((t' ≡ with_room few t (tree_left b names w (length q) lens t))
+      × (l' ≡ with_room few l (list_left b names w (length q) lens l))
+      × (p' ≡ with_room few p (program_left b names w (length q) lens p)))
 
-  pub formula_done : (w : Wanted) → w ≡ Wanted.Formula → t' ≡ t → l' ≡ l → Compiles (compile_outcome b names (length q) (length p) u) number q q' p p' u u' → Done w
+  pub formula_done : (w : Wanted ℕ) → w ≡ Wanted.Formula → t' ≡ t → l' ≡ l → Compiles (compile_outcome b names (length q) (length p) u) number q q' p p' u u' → Done w
   formula_done w ew et el h =
       let X = compile_outcome b names (length q) (length p) u in
       let C = compile b names (length q) (length p) in
       let e : of_compiled X ≡ asked u (of_compiled C) = asked_compiled few C in
-      subst (λ (v : Wanted). Done v) (sym ew) (
+      subst (λ (v : Wanted ℕ). Done v) (sym ew) (
         ((h.0 ∙ compiled_number X ∙ ap made_number e, h.1 ∙ ap (λ (o : Option Path). placed o q) (compiled_place X ∙ ap place_of e)), h.3 ∙ ap (λ (k : ℕ). reported k u) (compiled_node X ∙ ap made_node e)),
         (et ∙ as_it_was few t, el ∙ as_it_was few l, h.2 ∙ compiled_program few C p),
       )
 
-  pub derivative_done : (w : Wanted) (s : ℕ) → w ≡ Wanted.Derivative s → Derives (derive_outcome b names s (length q) lens u) number q q' t t' l l' p p' u u' → Done w
+  pub derivative_done : (w : Wanted ℕ) (s : ℕ) → w ≡ Wanted.Derivative s → Derives (derive_outcome b names s (length q) lens u) number q q' t t' l l' p p' u u' → Done w
   derivative_done w s ew h =
       let X = derive_outcome b names s (length q) lens u in
       let D = derive b names s (length q) lens in
       let e : of_derived X ≡ asked u (of_derived D) = asked_derived few D in
-      subst (λ (v : Wanted). Done v) (sym ew) (
+      subst (λ (v : Wanted ℕ). Done v) (sym ew) (
         ((h.0 ∙ derived_number X ∙ ap made_number e, h.1 ∙ ap (λ (o : Option Path). placed o q) (derived_place X ∙ ap place_of e)), h.5 ∙ ap (λ (k : ℕ). reported k u) (derived_node X ∙ ap made_node e)),
         (h.2 ∙ derived_tree few D t, h.3 ∙ derived_list few D l, h.4 ∙ derived_program few D p),
       )
 
 -- ---- a refusal
 
-module _ (program : List ℕ) (inputs : List Float) (rooms budgets flags : List ℕ) (values regs : List Float) (path path' cells report report' : List ℕ) (number : ℕ) where
+module _ (program : List ℕ) (inputs : List Float) (calls : List Code.Call) (regs : List Float) (path path' cells report report' : List ℕ) (number : ℕ) where
   pub turned_away : (X : Made) → (number ≡ 0 → ⊥) → Makes X number path path' → report' ≡ reported (made_node X) report
-      → Owes X program inputs rooms budgets flags values regs regs path path' cells cells report report' number
+      → Owes X program inputs calls regs regs path path' cells cells report report' number
   turned_away (refused n place) z h e = (h.0, h.1, refl, refl, e)
   turned_away (refused_at n k) z h e = (h.0, h.1, refl, refl, e)
   turned_away (made C f) z h e = absurd (z h.0)
@@ -188,7 +188,7 @@ enough_cells : (few : Bool) (n : ℕ) → few ≡ false → 16 ≤ n → (few ||
 enough_cells true n e h = e
 enough_cells false n e h = le-ltb n 16 h
 
-module _ (b l : List ℕ) (bytes : Bytes b) (w : Making.Wanted) (lens : Lengths) (program program' : List ℕ) (inputs : List Float) (rooms budgets flags : List ℕ) (values regs regs' : List Float)
+module _ (b l : List ℕ) (bytes : Bytes b) (w : Wanted ℕ) (lens : Lengths) (program program' : List ℕ) (inputs : List Float) (calls : List Code.Call) (regs regs' : List Float)
     (path path₁ path' cells cells' report report₁ report' : List ℕ) (number : ℕ) where
   abbrev X : Made
   X = make b l w (length path) lens
@@ -197,9 +197,9 @@ module _ (b l : List ℕ) (bytes : Bytes b) (w : Making.Wanted) (lens : Lengths)
   X_told = told_asked (report_short report) X (told b l w (length path) lens)
 
   owes_at : (Y : Made) → asked report X ≡ Y → Told Y → 0 ≡ made_number Y → program' ≡ with_room (report_short report) program (program_left b l w (length path) lens program)
-      → Leaves (host_at inputs program' cells path (reported 0 report) rooms budgets flags values regs) number cells' regs' path' report'
-      → (short cells (reported 0 report) ≡ false → Follows (play_at inputs program' path rooms budgets flags values regs) number cells' regs' path')
-      → Owes Y program' inputs rooms budgets flags values regs regs' path path' cells cells' report report' number
+      → Leaves (host_at inputs program' cells path (reported 0 report) calls regs) number cells' regs' path' report'
+      → (short cells (reported 0 report) ≡ false → Follows (play_at inputs program' path calls regs) number cells' regs' path')
+      → Owes Y program' inputs calls regs regs' path path' cells cells' report report' number
   owes_at (refused n place) e z a ep h f = absurd (omega arith)
   owes_at (refused_at n k) e z a ep h f = absurd (omega arith)
   owes_at (made C g) e z a ep h f =
@@ -208,24 +208,24 @@ module _ (b l : List ℕ) (bytes : Bytes b) (w : Making.Wanted) (lens : Lengths)
       let same_program : program' ≡ program_left b l w (length path) lens program = ep ∙ sym (roomy (report_short report) program _ m.0) in (
         h,
         λ few. subst (λ (o : Outcome). Leaves o number cells' regs' path' report')
-            (host_short inputs program' regs cells path (reported 0 report) (same_short cells report 0 ∙ few_cells (report_short report) (length cells) few) rooms budgets flags values) h,
+            (host_short inputs program' regs cells path (reported 0 report) (same_short cells report 0 ∙ few_cells (report_short report) (length cells) few) calls) h,
         λ enough. (
           f (same_short cells report 0 ∙ enough_cells (report_short report) (length cells) m.0 enough),
-          λ same fins many. demand inputs program' path rooms budgets flags values regs _ refl C (term g) S.0 (ap program_at same_program ∙ S.1) same fins many,
+          λ same fins many. demand inputs program' path regs _ calls refl C (term g) S.0 (ap program_at same_program ∙ S.1) same fins many,
         ),
       )
 
   pub called : (refusal : ℕ) → refusal ≡ 0 → Makes (asked report X) refusal path path₁ → report₁ ≡ reported (made_node (asked report X)) report
       → program' ≡ with_room (report_short report) program (program_left b l w (length path) lens program)
-      → Leaves (host_at inputs program' cells path₁ report₁ rooms budgets flags values regs) number cells' regs' path' report'
-      → (short cells report₁ ≡ false → Follows (play_at inputs program' path₁ rooms budgets flags values regs) number cells' regs' path')
-      → Owes (asked report X) program' inputs rooms budgets flags values regs regs' path path' cells cells' report report' number
+      → Leaves (host_at inputs program' cells path₁ report₁ calls regs) number cells' regs' path' report'
+      → (short cells report₁ ≡ false → Follows (play_at inputs program' path₁ calls regs) number cells' regs' path')
+      → Owes (asked report X) program' inputs calls regs regs' path path' cells cells' report report' number
   called refusal z m er ep h f =
       let zero_made : 0 ≡ made_number (asked report X) = sym z ∙ m.0 in
       let told_report : report₁ ≡ reported 0 report = er ∙ ap (λ (k : ℕ). reported k report) (no_node (asked report X) X_told zero_made) in
       let same : path₁ ≡ path = m.1 ∙ ap (λ (o : Option Path). placed o path) (no_place (asked report X) X_told zero_made) in
       owes_at (asked report X) refl X_told zero_made ep
-      (subst (λ (y : List ℕ). Leaves (host_at inputs program' cells path y rooms budgets flags values regs) number cells' regs' path' report') told_report
-      (subst (λ (x : List ℕ). Leaves (host_at inputs program' cells x report₁ rooms budgets flags values regs) number cells' regs' path' report') same h))
-      (λ enough. subst (λ (x : List ℕ). Follows (play_at inputs program' x rooms budgets flags values regs) number cells' regs' path') same
+      (subst (λ (y : List ℕ). Leaves (host_at inputs program' cells path y calls regs) number cells' regs' path' report') told_report
+      (subst (λ (x : List ℕ). Leaves (host_at inputs program' cells x report₁ calls regs) number cells' regs' path' report') same h))
+      (λ enough. subst (λ (x : List ℕ). Follows (play_at inputs program' x calls regs) number cells' regs' path') same
       (f (ap (short cells) told_report ∙ enough)))

@@ -3,20 +3,12 @@ use Rattle.std.specs.Prelude.{List, [], ◌∷◌, ◌++◌, ℕ, ◌-◌, drop,
 use Rattle.std.proofs.Math.Option.{none}
 use Rattle.refusals.specs.Numbers.{slice_too_short}
 use Rattle.machine.specs.Machine.{Call}
-use Rattle.demand.specs.Listed.{calls_from, first_call}
+use Rattle.demand.specs.Listed.{first_call, later_calls}
+use Rattle.demand.specs.declared.calls.Call as Code
 use Rattle.demand.specs.Made.{Made, made, refused, refused_at}
-use Rattle.demand.specs.declared.Wanted as Making
-use Rattle.demand.specs.declared.Wanted.TheVariants as Makes
 use Rattle.vebrostin.specs.Calls.{Outcome, report_short, resume_outcome, run_outcome, with_room}
-use Rattle.hosted.specs.declared.Wanted.{Wanted}
-use Rattle.hosted.specs.declared.Wanted.TheVariants.{Derivative, Formula}
 
 -- ---- the program
-
--- `vebrostin_compile`, or `vebrostin_derive` with a symbol's number
-abbrev pub wanted_of : Wanted → Making.Wanted
-wanted_of Formula = Makes.Formula
-wanted_of (Derivative s) = Makes.Derivative s
 
 -- both refuse a short report with 1
 abbrev pub asked : List ℕ → Made → Made
@@ -50,8 +42,7 @@ module _ (inputs : List Float) (b : List ℕ) where
   hosting x (c ∷ cs) = hosting (resumed x c) cs
 
   -- the number of the last call of the list, and cells, registers, path slice and report after it
-  unfoldable pub host_at : List ℕ → List ℕ → List ℕ → List ℕ → List ℕ → List ℕ → List Float → List Float → Outcome
-  host_at cells path report rooms budgets flags values regs =
-      let c = first_call (length path) rooms budgets in
-      hosting (lent c.room (run_outcome inputs b c.budget regs cells (take c.room path) report) path)
-      (calls_from (length path) rooms budgets flags values (length budgets - 1) 1)
+  unfoldable pub host_at : List ℕ → List ℕ → List ℕ → List Code.Call → List Float → Outcome
+  host_at cells path report calls regs =
+      let c = first_call (length path) calls in
+      hosting (lent c.room (run_outcome inputs b c.budget regs cells (take c.room path) report) path) (later_calls (length path) calls)

@@ -7,7 +7,8 @@ use Rattle.formula.specs.Path.{placed}
 use Rattle.formula.specs.Term.{term}
 use Rattle.machine.specs.Lower.{register_count}
 use Rattle.machine.specs.Machine.{Reply}
-use Rattle.demand.specs.Listed.{Played, play_at}
+use Rattle.demand.specs.Listed.{Played, first_call, later_calls, play_at}
+use Rattle.demand.specs.declared.calls.Call as Code
 use Rattle.demand.specs.Last.{Last, Within}
 use Rattle.demand.specs.Made.{Made, made, place_of, refused, refused_at}
 use Rattle.vebrostin.specs.Cells.{number_of, question_cells, question_of, state_in, value_cell}
@@ -37,17 +38,17 @@ Makes X number path path' = (number ≡ made_number X) × (path' ≡ placed (pla
 -- registers, path slice and report are those of the definitions of the library's functions. With fewer than sixteen cells that is 1, and no call writes. With sixteen it is
 -- the machine's last reply; and "finite inputs of the declared count and the registers that 01 asks for" given, that reply owes what the tree reading gives, and
 -- the counts add up to at most the instructions that the code holds.
-abbrev pub Owes : Made → List ℕ → List Float → List ℕ → List ℕ → List ℕ → List Float → List Float → List Float → List ℕ → List ℕ → List ℕ → List ℕ → List ℕ → List ℕ → ℕ → Type 0
-Owes (refused n place) program inputs rooms budgets flags values regs regs' path path' cells cells' report report' number =
+abbrev pub Owes : Made → List ℕ → List Float → List Code.Call → List Float → List Float → List ℕ → List ℕ → List ℕ → List ℕ → List ℕ → List ℕ → ℕ → Type 0
+Owes (refused n place) program inputs calls regs regs' path path' cells cells' report report' number =
     (number ≡ n) × (path' ≡ placed place path) × (regs' ≡ regs) × (cells' ≡ cells) × (report' ≡ reported 0 report)
-Owes (refused_at n k) program inputs rooms budgets flags values regs regs' path path' cells cells' report report' number =
+Owes (refused_at n k) program inputs calls regs regs' path path' cells cells' report report' number =
     (number ≡ n) × (path' ≡ path) × (regs' ≡ regs) × (cells' ≡ cells) × (report' ≡ reported k report)
-Owes (made C f) program inputs rooms budgets flags values regs regs' path path' cells cells' report report' number =
-    let last = play_at inputs program path rooms budgets flags values regs in
+Owes (made C f) program inputs calls regs regs' path path' cells cells' report report' number =
+    let last = play_at inputs program path calls regs in
     let told = reported 0 report in
-    Leaves (host_at inputs program cells path told rooms budgets flags values regs) number cells' regs' path' report'
+    Leaves (host_at inputs program cells path told calls regs) number cells' regs' path' report'
     × (length cells < 16 → (number ≡ slice_too_short) × (cells' ≡ cells) × (regs' ≡ regs) × (path' ≡ path) × (report' ≡ told))
     × (16 ≤ length cells → Follows last number cells' regs' path'
     × (length inputs ≡ length C.symbols → all finite inputs ≡ true → register_count (term f) ≤ length regs
-    → Last C inputs (term f) (length path) rooms budgets flags values regs last.reply (length budgets - 1)
-    × Within C inputs (term f) (length path) rooms budgets flags values regs (length budgets - 1)))
+    → Last C inputs (term f) regs (first_call (length path) calls) (later_calls (length path) calls) last.reply
+    × Within C inputs (term f) regs (first_call (length path) calls) (later_calls (length path) calls)))

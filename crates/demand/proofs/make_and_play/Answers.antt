@@ -1,42 +1,34 @@
-use Rattle.derive.specs.Outcome.{lengths}
-use native.Mathlib.Omega.{arith}
 use lib.ListN.{length}
+use native.Mathlib.Omega.{arith}
+use Rattle.std.proofs.lemmas.Result.{err_from_is_err_and}
+use Rattle.derive.specs.Outcome.{lengths}
 use Rattle.demand.specs.Made.{make}
-use Rattle.demand.proofs.Owing.{played, turned_away, turned_back}
+use Rattle.demand.proofs.Numbers.{told}
+use Rattle.demand.proofs.Owing.{played, turned_away}
 use Rattle.demand.proofs.make_and_play.Goals as goal
 
-pub returns-in-Refused : goal.returns-in-Refused
-returns-in-Refused c =
-    let args = c.args in
-    let write_program = c.write_program-made in record {
-      written = (write_program.ensures.2, write_program.ensures.3, write_program.ensures.4);
-      demand = turned_away write_program.new.program args.inputs.now args.rooms.now args.budgets.now args.flags.now args.values.now
-          args.regs.now args.path.now write_program.new.path
-          (make args.formula.now args.names.now args.wanted (length args.path.now) (lengths args.tree.now args.list.now args.program.now))
-          write_program.result c.in-Refused.n write_program.ensures.0 c.in-Refused.is write_program.ensures.1;
+pub returns-in_err-write_program : goal.returns-in_err-write_program
+returns-in_err-write_program c =
+    let a = c.args in
+    let w = c.write_program in
+    let given = err_from_is_err_and c.from_residual.result c.from_residual.ensures.1 in
+    let X = make a.formula.now a.names.now a.wanted (length a.path.now) (lengths a.tree.now a.list.now a.program.now) in
+    record {
+      written = (w.ensures.tree, w.ensures.list, w.ensures.program);
+      demand = rw (given.1, given.2)
+          (turned_away w.new.program a.inputs.now a.calls.now a.registers.now a.path.now w.new.path X _
+          (told a.formula.now a.names.now a.wanted (length a.path.now) (lengths a.tree.now a.list.now a.program.now)) c.in_err-write_program.ensures.answer w.ensures.place);
     }
 
-pub returns-in-RefusedAt : goal.returns-in-RefusedAt
-returns-in-RefusedAt c =
-    let args = c.args in
-    let write_program = c.write_program-made in record {
-      written = (write_program.ensures.2, write_program.ensures.3, write_program.ensures.4);
-      demand = turned_back write_program.new.program args.inputs.now args.rooms.now args.budgets.now args.flags.now args.values.now
-          args.regs.now args.path.now write_program.new.path
-          (make args.formula.now args.names.now args.wanted (length args.path.now) (lengths args.tree.now args.list.now args.program.now))
-          write_program.result c.in-RefusedAt.n c.in-RefusedAt.k write_program.ensures.0 c.in-RefusedAt.is write_program.ensures.1;
-    }
-
-pub returns-in-Written : goal.returns-in-Written
-returns-in-Written c =
-    let args = c.args in
-    let shared_slice_known = c.shared_slice_known-1 in
-    let write_program = c.write_program-made in
-    let play = c.play in record {
-      written = (write_program.ensures.2, write_program.ensures.3, write_program.ensures.4);
-      demand = played args.formula.now args.names.now (λ i. omega (arith, shared_slice_known.given i)) args.wanted (lengths args.tree.now args.list.now args.program.now)
-          args.program.now write_program.new.program args.inputs.now args.rooms.now args.budgets.now args.flags.now
-          args.values.now args.regs.now play.new.regs args.path.now write_program.new.path play.new.path
-          play.result write_program.result write_program.ensures.0 c.in-Written.is write_program.ensures.1 write_program.ensures.4
-          play.ensures.reply play.ensures.place play.ensures.demand;
+pub returns : goal.returns
+returns c =
+    let a = c.args in
+    let bytes = c.shared_slice_known-1 in
+    let w = c.write_program in
+    let play = c.play in
+    record {
+      written = (w.ensures.tree, w.ensures.list, w.ensures.program);
+      demand = played a.formula.now a.names.now (λ i. omega (arith, bytes.given i)) a.wanted (lengths a.tree.now a.list.now a.program.now)
+          a.program.now w.new.program a.inputs.now a.calls.now a.registers.now play.new.registers a.path.now w.new.path play.new.path play.result
+          c.in_ok-write_program.ensures.answer w.ensures.place w.ensures.program play.ensures.reply play.ensures.place play.ensures.demand;
     }

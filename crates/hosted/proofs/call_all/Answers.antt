@@ -1,72 +1,43 @@
-use mathlib.Core.Path.{refl, sym, ◌∙◌}
-use native.Mathlib.Omega.{arith}
+use mathlib.Core.Path.{refl, ◌∙◌}
 use lib.ListN.{length}
-use lib.Seq.{length-take-le}
-use Rattle.run.specs.Views.{supplied_of}
-use Rattle.demand.proofs.Loops.{again_long}
-use Rattle.hosted.proofs.Loops.{inv_end, inv_start, inv_step}
+use native.Mathlib.Omega.{arith}
+use Rattle.demand.proofs.Loops.{again_long, first_and_rest, next_call, no_calls}
+use Rattle.hosted.proofs.Loops.{inv_end, inv_start, inv_step, none_ended}
 use Rattle.hosted.proofs.call_all.Goals as goal
 
-pub slice_bounds-vebrostin_run-end : goal.slice_bounds-vebrostin_run-end
-slice_bounds-vebrostin_run-end c = c.room_at-first.ensures.1
-
-pub slice_bounds-vebrostin_run-end-2 : goal.slice_bounds-vebrostin_run-end-2
-slice_bounds-vebrostin_run-end-2 c = sym (length-take-le c.room_at-first.result c.args.path.now c.room_at-first.ensures.1)
-
-pub loop-i-init : goal.loop-i-init
-loop-i-init c =
+pub loop-call-init : goal.loop-call-init
+loop-call-init c =
     let a = c.args in
     let r = c.vebrostin_run-number in
-    inv_start a.inputs.now a.program.now (length a.path.now) a.rooms.now a.budgets.now a.flags.now a.values.now _ _ _ _ _
-    (again_long a.path.now r.new.path c.room_at-first.result c.room_at-first.ensures.1 r.auto.path)
+    let room = c.min-room in
+    inv_start a.inputs.now a.program.now (length a.path.now) _ _ _ _ _ _ (again_long a.path.now r.new.path room.result (omega (arith, room.ensures)) r.auto.path)
 
-pub slice_bounds-go_on-end : goal.slice_bounds-go_on-end
-slice_bounds-go_on-end c = omega (arith, c.room_at-room.ensures.1, c.loop-i.invariant.path_long)
-
-pub slice_bounds-go_on-end-in-loop-i : goal.slice_bounds-go_on-end-in-loop-i
-slice_bounds-go_on-end-in-loop-i c = sym (length-take-le c.room_at-room.result c.loop-i.path (omega (arith, c.room_at-room.ensures.1, c.loop-i.invariant.path_long)))
-
-pub overflow_add-i : goal.overflow_add-i
-overflow_add-i c =
-    let good = c.well_formed in
-    let loop_test = c.loop-i-test in
-    omega (arith, loop_test.true, good.1.1.1.1.1.0.0)
-
-pub loop-i-preserved : goal.loop-i-preserved
-loop-i-preserved c =
+pub loop-call-preserved : goal.loop-call-preserved
+loop-call-preserved c =
     let a = c.args in
-    let l = c.loop-i in
-    let loop_test = c.loop-i-test in
-    let room_at2 = c.room_at-room in
-    let budget_at2 = c.budget_at-budget-in-loop-i in
-    let supplied_at = c.supplied_at-supplied in
+    let loop = c.loop-call in
+    let room = c.min-room-in-loop-call in
     let r = c.go_on-number in
-    inv_step a.inputs.now a.program.now (length a.path.now) a.rooms.now a.budgets.now a.flags.now a.values.now _ _ _ _ _
-    l.number l.cells l.registers l.path l.report l.i l.invariant r.result r.new.cells r.new.registers r.new.path
-    r.new.report
-    room_at2.result budget_at2.result (supplied_of supplied_at.result) room_at2.ensures.0
-    (omega (arith, room_at2.ensures.1, l.invariant.path_long)) loop_test.true budget_at2.ensures supplied_at.ensures r.ensures.outcome
-    r.ensures.state r.auto.cells r.auto.registers r.auto.path r.auto.report
+    inv_step a.inputs.now a.program.now (length a.path.now) _ _ _ _ _ _ loop.number loop.cells loop.registers loop.path loop.report loop.call-index loop.invariant
+    _ r.result r.new.cells r.new.registers r.new.path r.new.report room.result (next_call _ _ loop.call-index c.loop-call-test.true) room.ensures (omega (arith, room.ensures))
+    r.ensures.outcome r.ensures.state r.auto.cells r.auto.registers r.auto.path r.auto.report
 
-pub shape_of-registers : goal.shape_of-registers
-shape_of-registers c = c.loop-i.invariant.registers_long ∙ c.vebrostin_run-number.auto.registers
-
-pub shape_of-path : goal.shape_of-path
-shape_of-path c = c.loop-i.invariant.path_long
-
-pub shape_of-cells : goal.shape_of-cells
-shape_of-cells c = c.loop-i.invariant.cells_long ∙ c.vebrostin_run-number.auto.cells
-
-pub shape_of-report : goal.shape_of-report
-shape_of-report c = c.loop-i.invariant.report_long ∙ c.vebrostin_run-number.auto.report
-
-pub returns : goal.returns
-returns c =
+pub returns-in-empty : goal.returns-in-empty
+returns-in-empty c =
     let a = c.args in
-    let room_at = c.room_at-first in
-    let budget_at = c.budget_at-budget in
+    let r = c.vebrostin_run in
+    rw (no_calls a.calls.now c.in-empty.len_below)
+    (let e = none_ended a.inputs.now a.program.now a.registers.now r.new.registers a.cells.now r.new.cells a.path.now r.new.path a.report.now r.new.report r.result
+    r.ensures.outcome r.ensures.state r.auto.cells r.auto.report in
+    record { outcome = e.outcome; reply = e.reply })
+
+pub returns-after-loop-call : goal.returns-after-loop-call
+returns-after-loop-call c =
+    let a = c.args in
     let r = c.vebrostin_run-number in
-    let l = c.loop-i in let r = inv_end a.inputs.now a.program.now (length a.path.now) a.rooms.now a.budgets.now a.flags.now a.values.now
-    a.registers.now r.new.registers l.registers a.cells.now r.new.cells l.cells a.path.now r.new.path
-    l.path a.report.now r.new.report l.report r.result l.number room_at.result budget_at.result l.i refl room_at.ensures.0 room_at.ensures.1 budget_at.ensures
-    r.ensures.outcome r.ensures.state r.auto.cells r.auto.report c.loop-i-test.false l.invariant in record { outcome = r.0; reply = r.1 }
+    let room = c.min-room in
+    let loop = c.loop-call in
+    let e = inv_end a.inputs.now a.program.now (length a.path.now) _ _ a.calls.now a.registers.now r.new.registers loop.registers a.cells.now r.new.cells loop.cells
+    a.path.now r.new.path loop.path a.report.now r.new.report loop.report r.result loop.number room.result loop.call-index refl room.ensures (omega (arith, room.ensures))
+    (first_and_rest a.calls.now _ c.in-len1-up.len_at_least) r.ensures.outcome r.ensures.state r.auto.cells r.auto.report c.loop-call-test.false loop.invariant in
+    record { outcome = e.outcome; reply = e.reply }

@@ -2,7 +2,7 @@ use Rattle.derive.specs.Outcome.{lengths}
 use native.Mathlib.Omega.{arith}
 use lib.ListN.{length}
 use Rattle.demand.specs.Made.{make}
-use Rattle.hosted.specs.Hosted.{asked, wanted_of}
+use Rattle.hosted.specs.Hosted.{asked}
 use Rattle.hosted.proofs.Owing.{called, turned_away}
 use Rattle.hosted.proofs.make_and_call.Goals as goal
 
@@ -11,9 +11,9 @@ returns-then-refusal-ne0 c =
     let a = c.args in
     let w = c.write_program-refusal in record {
       written = w.ensures.written;
-      demand = turned_away w.new.program a.inputs.now a.rooms.now a.budgets.now a.flags.now a.values.now a.registers.now a.path.now w.new.path a.cells.now
+      demand = turned_away w.new.program a.inputs.now a.calls.now a.registers.now a.path.now w.new.path a.cells.now
           a.report.now w.new.report w.result
-          (asked a.report.now (make a.formula.now a.names.now (wanted_of a.wanted) (length a.path.now) (lengths a.tree.now a.list.now a.program.now)))
+          (asked a.report.now (make a.formula.now a.names.now a.wanted (length a.path.now) (lengths a.tree.now a.list.now a.program.now)))
           c.if-refusal-ne0.true w.ensures.made.0 w.ensures.made.1;
     }
 
@@ -25,8 +25,8 @@ returns c =
     let if1 = c.if-refusal-ne0 in
     let r = c.call_all in record {
       written = w.ensures.written;
-      demand = called a.formula.now a.names.now (λ i. omega (arith, shared_slice_known.given i)) (wanted_of a.wanted) (lengths a.tree.now a.list.now a.program.now)
-          a.program.now w.new.program a.inputs.now a.rooms.now a.budgets.now a.flags.now a.values.now a.registers.now
+      demand = called a.formula.now a.names.now (λ i. omega (arith, shared_slice_known.given i)) a.wanted (lengths a.tree.now a.list.now a.program.now)
+          a.program.now w.new.program a.inputs.now a.calls.now a.registers.now
           r.new.registers a.path.now w.new.path r.new.path a.cells.now r.new.cells
           a.report.now w.new.report r.new.report r.result
           w.result if1.false w.ensures.made.0 w.ensures.made.1 w.ensures.written.2 r.ensures.outcome r.ensures.reply;

@@ -1,11 +1,12 @@
 use mathlib.Core.Path.{◌≡◌}
-use Prim.Native.Nat.{◌-◌}
 use lib.ListN.{length}
 use Rattle.demand.proofs.Loops.{left_at, seen}
 use Rattle.demand.proofs.calls.play.Given as goal
 
-abbrev pub invariant-loop-i : goal.invariant-loop-i
-invariant-loop-i l = (length l.regs ≡ length l.initial.regs) × (length l.path ≡ l.n) × (left_at l.inputs l.p l.n l.rooms l.budgets l.flags l.values (seen l.p l.r l.regs l.path) l.i ≡ left_at l.inputs l.p l.n l.rooms l.budgets l.flags l.values (seen l.p l.initial.r l.initial.regs l.initial.path) 1)
-
-abbrev pub decreases-loop-i : goal.decreases-loop-i
-decreases-loop-i l = length l.budgets - l.i
+abbrev pub invariant-loop-call : goal.invariant-loop-call
+invariant-loop-call l =
+    record {
+      registers_long : length l.registers ≡ length l.initial.registers;
+      path_long : length l.path ≡ l.whole;
+      left : left_at l.inputs l.program l.whole l.rest (seen l.program l.reply l.registers l.path) l.call-index ≡ left_at l.inputs l.program l.whole l.rest (seen l.program l.initial.reply l.initial.registers l.initial.path) 0;
+    }
