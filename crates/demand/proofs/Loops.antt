@@ -1,7 +1,7 @@
 -- The loop over a list of calls.
 use mathlib.Core.Path.{◌≡◌, refl, ap, ap₂, sym, ◌∙◌}
 use mathlib.Core.List.{List, [], ◌∷◌, ◌++◌, map}
-use Prim.Native.Nat.{ℕ, suc, ◌+◌, ◌-◌, ◌≤◌, ◌<◌}
+use Prim.Native.Nat.{ℕ, ◌+◌, ◌-◌, ◌≤◌, ◌<◌}
 use native.Mathlib.Omega.{arith}
 use lib.ListN.{drop, get_or, length, length-append, length-drop, take}
 use lib.Seq.{drop-cons, length-take-le}
@@ -16,7 +16,7 @@ use Rattle.layout.specs.Decode.{program_at}
 use Rattle.run.specs.Views.{answer_of, reply_of, state_of, supplied_of}
 use Rattle.run.specs.Calls.{resume_at, run_at}
 use Rattle.run.specs.declared.Reply.{Reply}
-use Rattle.demand.specs.Listed.{Played, call_of, later_calls, noted, play_at, playing}
+use Rattle.demand.specs.Listed.{Played, call_of, noted, play_at, playing}
 use Rattle.demand.specs.declared.calls.Call.{Call}
 
 -- a reply of the code, with registers and path slice after it

@@ -29,7 +29,6 @@ use Rattle.derivative.specs.Derive.{Derived, Lengths, by_state, continued, deriv
 use Rattle.derivative.specs.Derive as Derive
 use Rattle.demand.specs.Made.{Made, made, make, of_compiled, of_derived, refused, refused_at}
 use Rattle.demand.specs.declared.Wanted.{Wanted}
-use Rattle.demand.specs.declared.Wanted.TheVariants as Wanted
 
 -- ---- one refusal
 

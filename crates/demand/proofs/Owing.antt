@@ -1,9 +1,9 @@
 -- What the making of a program leaves, and what a list of calls after it owes.
-use mathlib.Core.Path.{◌≡◌, refl, sym, ap, ◌∙◌, subst}
+use mathlib.Core.Path.{◌≡◌, refl, ap, ◌∙◌, subst}
 use mathlib.Core.List.{List}
 use mathlib.Core.Option.{Option, none}
 use Prim.Native.Nat.{ℕ}
-use Rattle.std.specs.Prelude.{Result, Ok, Err}
+use Rattle.std.specs.Prelude.{Ok, Err}
 use Rattle.refusals.specs.declared.Refusal.{Refusal}
 use lib.ListN.{length}
 use lib.Ieee.{Float}
@@ -12,7 +12,6 @@ use Rattle.formula.specs.Term.{term}
 use Rattle.machine.specs.Compile.{Compiled, accepted, compile}
 use Rattle.machine.specs.Compile as Compile
 use Rattle.layout.specs.Decode.{program_at}
-use Rattle.layout.specs.Image.{image}
 use Rattle.reader.proofs.Bytes.{Bytes}
 use Rattle.derivative.specs.Derive.{Derived, Lengths, derive, derived, formula_refused, formula_refused_at}
 use Rattle.derivative.specs.Derive as Derive
@@ -21,13 +20,12 @@ use Rattle.derive.specs.Outcome.{Leaves, lengths}
 use Rattle.derive.specs.Outcome as Outcome
 use Rattle.run.specs.Views.{reply_of}
 use Rattle.run.specs.declared.Reply as Declared
-use Rattle.demand.specs.Listed.{first_call, later_calls, play_at}
+use Rattle.demand.specs.Listed.{play_at}
 use Rattle.demand.specs.declared.calls.Call.{Call}
 use Rattle.demand.specs.Last.{Demand}
-use Rattle.demand.specs.Made.{Made, answer_of, made, make, of_compiled, of_derived, place_of, program_left, refused, refused_at, tree_left, list_left}
+use Rattle.demand.specs.Made.{Made, answer_of, made, make, of_compiled, of_derived, place_of, program_left, refused, refused_at}
 use Rattle.demand.specs.Owed.{Owes}
 use Rattle.demand.specs.declared.Wanted.{Wanted}
-use Rattle.demand.specs.declared.Wanted.TheVariants as Wanted
 use Rattle.demand.proofs.Numbers.{Told}
 use Rattle.demand.proofs.Sources.{source}
 use Rattle.refusals.specs.Refusals.{node_of, number_of, refusal_at, refusal_of}

@@ -27,9 +27,8 @@ use Rattle.derivative.proofs.Derived.{derived_compiles, derived_formula}
 use Rattle.compile.proofs.Back.{formula_back, formula_writable, known, written_literals}
 use Rattle.derive.proofs.Writable.{derivative_writable}
 use Rattle.demand.specs.Last.{Source, compiled, differentiated}
-use Rattle.demand.specs.Made.{made, make, of_compiled, of_derived, program_left, refused}
+use Rattle.demand.specs.Made.{made, make, of_compiled, of_derived, program_left}
 use Rattle.demand.specs.declared.Wanted.{Wanted}
-use Rattle.demand.specs.declared.Wanted.TheVariants as Wanted
 
 module _ (b l : List ℕ) (bytes : Bytes b) where
   -- ---- of the derivative

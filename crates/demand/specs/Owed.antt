@@ -1,5 +1,5 @@
 -- What compile or derive and a list of calls after it owe.
-use Rattle.std.specs.Prelude.{◌≡◌, true, List, ℕ, ◌-◌, ◌≤◌, length, Float, Option, Some, None, Result, Ok, Err}
+use Rattle.std.specs.Prelude.{◌≡◌, true, List, ℕ, ◌≤◌, length, Float, Option, Some, None, Result, Ok, Err}
 use Rattle.refusals.specs.Refusals.{node_of, number_of}
 use Rattle.refusals.specs.declared.Refusal.{Refusal}
 use Rattle.arithmetic.specs.Value.{finite}
