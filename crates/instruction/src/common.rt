@@ -7,9 +7,12 @@ ghost use Rattle.formula.specs.Text.{word_at};
 ghost use Rattle.layout.specs.Decode.{slot_at, slot_size};
 ghost use Rattle.instruction.specs.Common.{Stores, Went};
 
-use crate::{A, B, C, DESTINATION, store, value_at};
+use crate::{A, B, BRANCH, C, CONSTANT, COPY, DESTINATION, JUMP, LOAD, store, value_at};
 use layout::{HEADER_SIZE, SLOT_SIZE};
 use reader::known_word;
+use work::opcode::{
+    ADD, DIVIDE, EQ, GE, GT, LE, LT, MULTIPLY, NE, NEGATIVE, NOT, POSITIVE, SUBTRACT,
+};
 use work::truth_value;
 
 // "Division by a zero of either sign .. [is] Domain": a NaN.
@@ -21,27 +24,27 @@ fn quotient(x: f64, y: f64) -> f64
 
 // What an instruction with the fields a and b stores, if it is finite; a NaN for one that is not common.
 // The registers are read in each arm: read before the match, they cost a constant or an input eight machine instructions more.
-fn value(op: u8, a: usize, b: usize, inputs: &[f64], regs: &[f64]) -> f64
+fn value(op: usize, a: usize, b: usize, inputs: &[f64], regs: &[f64]) -> f64
     requires { (a < 4294967296) × (b < 4294967296) }
     ensures { Stores op a b inputs.now regs.now result }
 {
     match op {
-        0 => floats::value::of_bits(a as u64 + 4294967296 * (b as u64)),
-        1 => value_at(inputs, a),
-        2 => value_at(regs, a),
-        5 => value_at(regs, a),
-        6 => -value_at(regs, a),
-        7 => truth_value(value_at(regs, a) == 0.0),
-        8 => value_at(regs, a) + value_at(regs, b),
-        9 => value_at(regs, a) - value_at(regs, b),
-        10 => value_at(regs, a) * value_at(regs, b),
-        11 => quotient(value_at(regs, a), value_at(regs, b)),
-        14 => truth_value(value_at(regs, a) < value_at(regs, b)),
-        15 => truth_value(value_at(regs, a) <= value_at(regs, b)),
-        16 => truth_value(value_at(regs, a) > value_at(regs, b)),
-        17 => truth_value(value_at(regs, a) >= value_at(regs, b)),
-        18 => truth_value(value_at(regs, a) == value_at(regs, b)),
-        19 => truth_value(value_at(regs, a) != value_at(regs, b)),
+        CONSTANT => floats::value::of_bits(a as u64 + 4294967296 * (b as u64)),
+        LOAD => value_at(inputs, a),
+        COPY => value_at(regs, a),
+        POSITIVE => value_at(regs, a),
+        NEGATIVE => -value_at(regs, a),
+        NOT => truth_value(value_at(regs, a) == 0.0),
+        ADD => value_at(regs, a) + value_at(regs, b),
+        SUBTRACT => value_at(regs, a) - value_at(regs, b),
+        MULTIPLY => value_at(regs, a) * value_at(regs, b),
+        DIVIDE => quotient(value_at(regs, a), value_at(regs, b)),
+        LT => truth_value(value_at(regs, a) < value_at(regs, b)),
+        LE => truth_value(value_at(regs, a) <= value_at(regs, b)),
+        GT => truth_value(value_at(regs, a) > value_at(regs, b)),
+        GE => truth_value(value_at(regs, a) >= value_at(regs, b)),
+        EQ => truth_value(value_at(regs, a) == value_at(regs, b)),
+        NE => truth_value(value_at(regs, a) != value_at(regs, b)),
         _ => f64::NAN,
     }
 }
@@ -53,13 +56,13 @@ pub fn step(p: &[u8], n: usize, inputs: &[f64], regs: &mut [f64]) -> Option<usiz
     ensures { Went inputs.now p.now n regs.old result regs.new }
 {
     let at = HEADER_SIZE + SLOT_SIZE * n;
-    let op = p[at];
+    let op = usize::from(p[at]);
     let a = known_word(p, at + A);
     let b = known_word(p, at + B);
     match op {
-        3 if value_at(regs, a) == 0.0 => Some(known_word(p, at + C)),
-        3 => Some(n + 1),
-        4 => Some(known_word(p, at + C)),
+        BRANCH if value_at(regs, a) == 0.0 => Some(known_word(p, at + C)),
+        BRANCH => Some(n + 1),
+        JUMP => Some(known_word(p, at + C)),
         _ => {
             let v = value(op, a, b, inputs, regs);
             if !floats::value::is_finite(v) {

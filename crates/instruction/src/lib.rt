@@ -17,6 +17,7 @@ ghost use Rattle.instruction.specs.Progressing.{Progressed, machine_effect};
 use floats::extremum::{hold, is_beyond};
 use layout::{CODE_AT, ENTRY_SIZE, HEADER_SIZE, PATHS_AT, RECORD_SIZE, SLOT_SIZE};
 use reader::{byte, half, known_word, long, word};
+use work::opcode::{MAX, MIN};
 use work::{Kept, Outcome, Question};
 
 // What an instruction does: a node's work, or a jump.
@@ -33,6 +34,17 @@ pub enum Progress {
     Domain(usize),
     Question(Question),
 }
+
+// The opcodes of instructions that are no operations; work::opcode has the others.
+const CONSTANT: usize = 0;
+
+const LOAD: usize = 1;
+
+const COPY: usize = 2;
+
+const BRANCH: usize = 3;
+
+const JUMP: usize = 4;
 
 // Where the fields of an instruction stand in its slot, after its opcode.
 const COUNT: usize = 2;
@@ -151,11 +163,11 @@ fn operation(op: usize, p: &[u8], at: usize, regs: &[f64], kept: Kept) -> Effect
     ensures { result ≡ operation_at p.now at op (kept_values kept) regs.now }
 {
     match op {
-        31 => {
+        MIN => {
             let least = extremum::<false>(p, half(p, at + COUNT), word(p, at + A), regs);
             Effect::Work(Outcome::Value(least))
         }
-        32 => {
+        MAX => {
             let most = extremum::<true>(p, half(p, at + COUNT), word(p, at + A), regs);
             Effect::Work(Outcome::Value(most))
         }
@@ -177,10 +189,10 @@ pub fn effect_at(p: &[u8], n: usize, inputs: &[f64], regs: &[f64], kept: Kept) -
     let at = HEADER_SIZE + SLOT_SIZE * n;
     let op = usize::from(byte(p, at));
     match op {
-        0 => Effect::Work(Outcome::Value(floats::value::of_bits(long(p, at + A)))),
-        1 => Effect::Work(Outcome::Value(value_at(inputs, word(p, at + A)))),
-        2 => Effect::Work(Outcome::Value(register(p, at + A, regs))),
-        3 => {
+        CONSTANT => Effect::Work(Outcome::Value(floats::value::of_bits(long(p, at + A)))),
+        LOAD => Effect::Work(Outcome::Value(value_at(inputs, word(p, at + A)))),
+        COPY => Effect::Work(Outcome::Value(register(p, at + A, regs))),
+        BRANCH => {
             let condition = register(p, at + A, regs);
             if condition == 0.0 {
                 Effect::Jump(word(p, at + C))
@@ -188,7 +200,7 @@ pub fn effect_at(p: &[u8], n: usize, inputs: &[f64], regs: &[f64], kept: Kept) -
                 Effect::Jump(n + 1)
             }
         }
-        4 => Effect::Jump(word(p, at + C)),
+        JUMP => Effect::Jump(word(p, at + C)),
         _ => operation(op, p, at, regs, kept),
     }
 }

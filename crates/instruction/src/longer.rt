@@ -10,6 +10,7 @@ ghost use Rattle.instruction.specs.Common.{Went, Works};
 use crate::{A, B, COUNT, DESTINATION, extremum, known_register, store};
 use layout::{HEADER_SIZE, SLOT_SIZE};
 use reader::{half, known_word};
+use work::opcode::{ABS, CEIL, FLOOR, MAX, MIN, MODULO, SQRT};
 
 // "Modulo with b <= 0 [is] Domain": a NaN.
 fn remainder(a: f64, b: f64) -> f64
@@ -23,21 +24,21 @@ fn remainder(a: f64, b: f64) -> f64
 }
 
 // What the instruction at a byte stores, if it is finite; a NaN for one that is none of these.
-fn value(op: u8, p: &[u8], at: usize, regs: &[f64]) -> f64
+fn value(op: usize, p: &[u8], at: usize, regs: &[f64]) -> f64
     requires { (at < 1099511627776) × (at + slot_size ≤ length p.now) }
     ensures { Works p.now at op regs.now result }
 {
     match op {
-        13 => remainder(
+        MODULO => remainder(
             known_register(p, at + A, regs),
             known_register(p, at + B, regs),
         ),
-        23 => floats::root::sqrt(known_register(p, at + A, regs)),
-        28 => floats::value::abs(known_register(p, at + A, regs)),
-        29 => floats::whole::floor(known_register(p, at + A, regs)),
-        30 => floats::whole::ceil(known_register(p, at + A, regs)),
-        31 => extremum::<false>(p, half(p, at + COUNT), known_word(p, at + A), regs),
-        32 => extremum::<true>(p, half(p, at + COUNT), known_word(p, at + A), regs),
+        SQRT => floats::root::sqrt(known_register(p, at + A, regs)),
+        ABS => floats::value::abs(known_register(p, at + A, regs)),
+        FLOOR => floats::whole::floor(known_register(p, at + A, regs)),
+        CEIL => floats::whole::ceil(known_register(p, at + A, regs)),
+        MIN => extremum::<false>(p, half(p, at + COUNT), known_word(p, at + A), regs),
+        MAX => extremum::<true>(p, half(p, at + COUNT), known_word(p, at + A), regs),
         _ => f64::NAN,
     }
 }
@@ -48,7 +49,7 @@ pub fn step(p: &[u8], n: usize, regs: &mut [f64]) -> Option<usize>
     ensures { (inputs : List Float) → Went inputs p.now n regs.old result regs.new }
 {
     let at = HEADER_SIZE + SLOT_SIZE * n;
-    let op = p[at];
+    let op = usize::from(p[at]);
     let v = value(op, p, at, regs);
     if floats::value::is_finite(v) {
         store(regs, known_word(p, at + DESTINATION), v);

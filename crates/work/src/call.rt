@@ -4,6 +4,7 @@ ghost use Rattle.meaning.specs.Work.{advance, supplied, elementary};
 ghost use Rattle.work.specs.View.{shown, kept_values};
 ghost use Rattle.work.specs.Opcode.{work_of};
 
+use crate::opcode::{ABS, CEIL, DENSITY, EXP, FLOOR, HILL, MAX, MIN, SQRT};
 use crate::{Kept, Outcome, asking};
 use floats::extremum::{hold_above, hold_below};
 
@@ -17,17 +18,17 @@ fn ask(function: u8, x: f64, kept: Kept) -> Outcome
     }
 }
 
-// A function of one argument: its number is the opcode less 20.
+// A function of one argument: its number is the opcode less EXP.
 fn single(opcode: usize, x: f64, y: f64, z: f64, kept: Kept) -> Outcome
     requires { (20 ≤ opcode) × (opcode < 31) }
     ensures { result ≡ shown (advance (work_of opcode x y z) (kept_values kept)) }
 {
     match opcode {
-        23 => Outcome::Value(floats::root::sqrt(x)),
-        28 => Outcome::Value(floats::value::abs(x)),
-        29 => Outcome::Value(floats::whole::floor(x)),
-        30 => Outcome::Value(floats::whole::ceil(x)),
-        _ => ask((opcode - 20) as u8, x, kept),
+        SQRT => Outcome::Value(floats::root::sqrt(x)),
+        ABS => Outcome::Value(floats::value::abs(x)),
+        FLOOR => Outcome::Value(floats::whole::floor(x)),
+        CEIL => Outcome::Value(floats::whole::ceil(x)),
+        _ => ask((opcode - EXP) as u8, x, kept),
     }
 }
 
@@ -36,11 +37,11 @@ pub fn call(opcode: usize, x: f64, y: f64, z: f64, kept: Kept) -> Outcome
     ensures { result ≡ shown (advance (work_of opcode x y z) (kept_values kept)) }
 {
     match opcode {
-        20..=30 => single(opcode, x, y, z, kept),
-        31 => Outcome::Value(hold_below(hold_below(x, y), z)),
-        32 => Outcome::Value(hold_above(hold_above(x, y), z)),
-        33 => crate::hill::hill(x, y, z, kept),
-        34 => crate::density::density(x, y, z, kept),
+        EXP..=CEIL => single(opcode, x, y, z, kept),
+        MIN => Outcome::Value(hold_below(hold_below(x, y), z)),
+        MAX => Outcome::Value(hold_above(hold_above(x, y), z)),
+        HILL => crate::hill::hill(x, y, z, kept),
+        DENSITY => crate::density::density(x, y, z, kept),
         _ => Outcome::Value(x),
     }
 }

@@ -8,7 +8,7 @@ ghost use Rattle.formula.specs.Operator.{Exp};
 ghost use Rattle.meaning.specs.Work.{advance, supplied, asked, density_work, density_cost};
 ghost use Rattle.work.specs.View.{shown, kept_values};
 
-use crate::{EXP, Kept, LOG, Outcome, asking};
+use crate::{EXP_NUMBER, Kept, LOG_NUMBER, Outcome, asking};
 use floats::constant::{ln_two, two_pi};
 
 pub fn density(x: f64, mean: f64, shape: f64, kept: Kept) -> Outcome
@@ -21,18 +21,18 @@ pub fn density(x: f64, mean: f64, shape: f64, kept: Kept) -> Outcome
         return Outcome::Value(0.0);
     }
     let Some(log_shape) = kept.get(0) else {
-        return asking(LOG, shape);
+        return asking(LOG_NUMBER, shape);
     };
     let Some(log_two_pi) = kept.get(1) else {
-        return asking(LOG, two_pi());
+        return asking(LOG_NUMBER, two_pi());
     };
     let Some(log_x) = kept.get(2) else {
-        return asking(LOG, x);
+        return asking(LOG_NUMBER, x);
     };
     let normalizer = 0.5 * (log_shape - log_two_pi - 3.0 * log_x);
     if x == mean {
         let Some(density) = kept.get(3) else {
-            return asking(EXP, normalizer - 0.0);
+            return asking(EXP_NUMBER, normalizer - 0.0);
         };
         return Outcome::Value(density);
     }
@@ -44,23 +44,23 @@ fn with_cost(x: f64, mean: f64, shape: f64, normalizer: f64, kept: Kept) -> Outc
     ensures { result ≡ shown (advance (density_cost binary64 x mean shape (λ cost. supplied (asked Exp (sub binary64 normalizer cost)))) (drop 3 (kept_values kept))) }
 {
     let Some(log_shape) = kept.get(3) else {
-        return asking(LOG, shape);
+        return asking(LOG_NUMBER, shape);
     };
     let Some(log_x) = kept.get(4) else {
-        return asking(LOG, x);
+        return asking(LOG_NUMBER, x);
     };
     let Some(log_distance) = kept.get(5) else {
-        return asking(LOG, floats::value::abs(x - mean));
+        return asking(LOG_NUMBER, floats::value::abs(x - mean));
     };
     let Some(log_mean) = kept.get(6) else {
-        return asking(LOG, mean);
+        return asking(LOG_NUMBER, mean);
     };
     let Some(cost) = kept.get(7) else {
         let logs = log_shape - ln_two() - log_x;
-        return asking(EXP, logs + 2.0 * (log_distance - log_mean));
+        return asking(EXP_NUMBER, logs + 2.0 * (log_distance - log_mean));
     };
     let Some(density) = kept.get(8) else {
-        return asking(EXP, normalizer - cost);
+        return asking(EXP_NUMBER, normalizer - cost);
     };
     Outcome::Value(density)
 }

@@ -5,7 +5,7 @@ ghost use Rattle.std.specs.Float.{binary64};
 ghost use Rattle.meaning.specs.Work.{advance, hill_work};
 ghost use Rattle.work.specs.View.{shown, kept_values};
 
-use crate::{EXP, Kept, LOG, Outcome, asking};
+use crate::{EXP_NUMBER, Kept, LOG_NUMBER, Outcome, asking};
 
 pub fn hill(x: f64, n: f64, k: f64, kept: Kept) -> Outcome
     ensures { result ≡ shown (advance (hill_work binary64 x n k) (kept_values kept)) }
@@ -17,20 +17,20 @@ pub fn hill(x: f64, n: f64, k: f64, kept: Kept) -> Outcome
         return Outcome::Value(0.0);
     }
     let Some(log_x) = kept.get(0) else {
-        return asking(LOG, x);
+        return asking(LOG_NUMBER, x);
     };
     let Some(log_k) = kept.get(1) else {
-        return asking(LOG, k);
+        return asking(LOG_NUMBER, k);
     };
     let z = n * (log_x - log_k);
     if 0.0 <= z {
         let Some(e) = kept.get(2) else {
-            return asking(EXP, -z);
+            return asking(EXP_NUMBER, -z);
         };
         return Outcome::Value(1.0 / (1.0 + e));
     }
     let Some(q) = kept.get(2) else {
-        return asking(EXP, z);
+        return asking(EXP_NUMBER, z);
     };
     Outcome::Value(q / (1.0 + q))
 }

@@ -3,6 +3,7 @@
 mod call;
 mod density;
 mod hill;
+pub mod opcode;
 mod operator;
 
 ghost use Rattle.std.specs.Prelude.{◌≡◌, ◌&&◌, ◌<◌, [], ◌∷◌, ◌++◌, eqb, length, nat_lt, take};
@@ -11,6 +12,8 @@ ghost use Rattle.arithmetic.specs.Value.{truth_value};
 ghost use Rattle.meaning.specs.Work.{advance, elementary, power_defined};
 ghost use Rattle.work.specs.View.{Next, shown, shown_question, kept_values};
 ghost use Rattle.work.specs.Opcode.{puts_function, work_of};
+
+use opcode::{ADD, EXP, LT, MODULO, NE, NOT, POWER, SQRT, TANH};
 
 // "A half-done Hill or density keeps the values supplied to it, logarithms and the density's first exp":
 // the first `count` of nine, as no node puts more than nine questions.
@@ -79,9 +82,9 @@ pub enum Outcome {
 }
 
 // The functions that Hill and the density ask for, by number.
-const EXP: u8 = 0;
+const EXP_NUMBER: u8 = 0;
 
-const LOG: u8 = 1;
+const LOG_NUMBER: u8 = 1;
 
 fn asking(function: u8, x: f64) -> Outcome
     ensures { result ≡ Outcome.Question (shown_question (elementary function x)) }
@@ -101,9 +104,9 @@ pub fn work(opcode: usize, x: f64, y: f64, z: f64, kept: Kept) -> Outcome
     ensures { result ≡ shown (advance (work_of opcode x y z) (kept_values kept)) }
 {
     match opcode {
-        0..=7 => operator::unary(opcode, x, y, z, kept),
-        8..=13 => operator::binary(opcode, x, y, z, kept),
-        14..=19 => operator::compare(opcode, x, y, z, kept),
+        0..=NOT => operator::unary(opcode, x, y, z, kept),
+        ADD..=MODULO => operator::binary(opcode, x, y, z, kept),
+        LT..=NE => operator::compare(opcode, x, y, z, kept),
         _ => call::call(opcode, x, y, z, kept),
     }
 }
@@ -112,12 +115,13 @@ pub fn work(opcode: usize, x: f64, y: f64, z: f64, kept: Kept) -> Outcome
 pub fn puts_power(opcode: u8, x: f64, y: f64) -> bool
     ensures { result ≡ (eqb opcode 12 && power_defined binary64 x y) }
 {
-    opcode == 12 && operator::is_power_defined(x, y)
+    usize::from(opcode) == POWER && operator::is_power_defined(x, y)
 }
 
 // "Exp, Log, Log10, Sin, Cos, Tan, Tanh" put one.
 pub fn puts_function(opcode: u8) -> bool
     ensures { result ≡ puts_function opcode }
 {
-    20 <= opcode && opcode < 28 && opcode != 23
+    let opcode = usize::from(opcode);
+    EXP <= opcode && opcode <= TANH && opcode != SQRT
 }

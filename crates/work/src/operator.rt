@@ -5,6 +5,7 @@ ghost use Rattle.meaning.specs.Work.{advance, divide_work, modulo_work, power_de
 ghost use Rattle.work.specs.View.{shown, kept_values};
 ghost use Rattle.work.specs.Opcode.{work_of};
 
+use crate::opcode::{ADD, DIVIDE, EQ, GE, GT, LE, LT, MULTIPLY, NEGATIVE, NOT, POWER, SUBTRACT};
 use crate::{Kept, Outcome, Question, truth_value};
 
 pub fn unary(opcode: usize, x: f64, y: f64, z: f64, kept: Kept) -> Outcome
@@ -12,8 +13,8 @@ pub fn unary(opcode: usize, x: f64, y: f64, z: f64, kept: Kept) -> Outcome
     ensures { result ≡ shown (advance (work_of opcode x y z) (kept_values kept)) }
 {
     match opcode {
-        6 => Outcome::Value(-x),
-        7 => Outcome::Value(truth_value(x == 0.0)),
+        NEGATIVE => Outcome::Value(-x),
+        NOT => Outcome::Value(truth_value(x == 0.0)),
         _ => Outcome::Value(x),
     }
 }
@@ -64,11 +65,11 @@ pub fn binary(opcode: usize, a: f64, b: f64, z: f64, kept: Kept) -> Outcome
     ensures { result ≡ shown (advance (work_of opcode a b z) (kept_values kept)) }
 {
     match opcode {
-        8 => Outcome::Value(a + b),
-        9 => Outcome::Value(a - b),
-        10 => Outcome::Value(a * b),
-        11 => quotient(a, b, kept),
-        12 => power(a, b, kept),
+        ADD => Outcome::Value(a + b),
+        SUBTRACT => Outcome::Value(a - b),
+        MULTIPLY => Outcome::Value(a * b),
+        DIVIDE => quotient(a, b, kept),
+        POWER => power(a, b, kept),
         _ => remainder(a, b, kept),
     }
 }
@@ -78,11 +79,11 @@ pub fn compare(opcode: usize, a: f64, b: f64, z: f64, kept: Kept) -> Outcome
     ensures { result ≡ shown (advance (work_of opcode a b z) (kept_values kept)) }
 {
     let holds = match opcode {
-        14 => a < b,
-        15 => a <= b,
-        16 => a > b,
-        17 => a >= b,
-        18 => a == b,
+        LT => a < b,
+        LE => a <= b,
+        GT => a > b,
+        GE => a >= b,
+        EQ => a == b,
         _ => a != b,
     };
     Outcome::Value(truth_value(holds))
