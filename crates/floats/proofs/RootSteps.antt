@@ -1,7 +1,6 @@
 -- What each step of `sqrt` owes, on plain numbers and on values.
-use Rattle.std.proofs.Common.{◌≡◌, ℕ, zero, suc, ◌+◌, ◌-◌, ◌*◌, ◌/◌, ◌%◌, ◌^◌, ◌<◌, ◌≤◌, Bool, true, false, cond, not, T, sym, refl, ap, ◌∙◌, subst, ap₂, inl, inr, true≢false, le_of_eq, le_refl, lt_of_lt_of_le, lt_of_le_of_lt, add_assoc, mod-lt, zero-lt-suc, mul_assoc, mul_comm, add-mul, eq-zero-or-pos, mul-le-mul, mul-pos, pow-suc, lt_of_not-le, div-add-mod', mul-one, mul-add, not-le_of_lt, le_of_mul-le-mul_right, mul_left_comm, arith, lit<, lt→ltb, pow_pos, pow_mono, pow-add}
+use Rattle.std.proofs.Common.{◌≡◌, ℕ, zero, suc, ◌+◌, ◌-◌, ◌*◌, ◌/◌, ◌%◌, ◌^◌, ◌<◌, ◌≤◌, Bool, true, false, not, T, sym, refl, ap, ◌∙◌, subst, ap₂, inl, inr, true≢false, le_of_eq, lt_of_lt_of_le, lt_of_le_of_lt, add_assoc, mod-lt, zero-lt-suc, mul_assoc, mul_comm, add-mul, eq-zero-or-pos, mul-le-mul, mul-pos, pow-suc, lt_of_not-le, div-add-mod', mul-add, not-le_of_lt, le_of_mul-le-mul_right, mul_left_comm, arith, lit<, lt→ltb, pow_pos, pow_mono, pow-add}
 use native.Mathlib.Nat.{pow-succ'}
-use lib.Dec.{eqb-suc-zero}
 use lib.Arith.{le→nltb}
 use lib.Ieee.{Float, nan, inf, fin, binary64, top, fits, of_bits, to_bits, lt, is_nan, nan_bits}
 use lib.Ieee.Exact.{HasValue}
@@ -13,7 +12,7 @@ use Rattle.rounding.specs.Square.{Root}
 use Rattle.rounding.proofs.Square.{square_more, root_ge, root_lt}
 use Rattle.rounding.proofs.RootDigits.{root_by_digits}
 use Rattle.rounding.proofs.Rounded.{units_are}
-use Rattle.floats.specs.Fields.{significand, magnitude, infinity_bits}
+use Rattle.floats.specs.Fields.{magnitude, infinity_bits}
 use Rattle.floats.proofs.Bits.{of_pattern, bits_value, pattern_in}
 use Rattle.floats.proofs.Zero.{Above, infinity, number, Still, unordered, zero±, Below, infinity-, number-}
 
@@ -119,45 +118,6 @@ odd_scaled d e h =
     mul_assoc d 2 (4 ^ (e / 2))
     ∙ ap (λ (x : ℕ). d * (2 * x)) (four_is (e / 2) ∙ sym (pow-add 2 (e / 2) (e / 2)))
     ∙ ap (λ (x : ℕ). d * x) (sym (pow-succ' 2 (e / 2 + e / 2)) ∙ ap (λ (x : ℕ). 2 ^ x) (half_odd e h))
-
--- ---- a subnormal's digits, moved up until they are 53
-pub record Moved (low digits exp : ℕ) : Type 0 where
-  pub same : digits * 2 ^ exp ≡ low * 2 ^ 52
-  pub some : 0 < digits
-  pub small : digits < 2 ^ 53
-  pub at_most : exp ≤ 52
-
-pub some_exp : (low digits exp : ℕ) → Moved low digits exp → 0 < low → digits < 2 ^ 52 → 1 ≤ exp
-some_exp low digits zero m h k = let e = m.same in absurd (clash low digits h k e)
-  where
-    clash : (low digits : ℕ) → 0 < low → digits < 2 ^ 52 → digits * 1 ≡ low * 2 ^ 52 → ⊥
-    clash low digits h k e = omega arith
-some_exp low digits (suc exp) m h k = omega arith
-
-halved : (d e : ℕ) → 1 ≤ e → d * 2 * 2 ^ (e - 1) ≡ d * 2 ^ e
-halved d zero h = absurd (not-le_of_lt h (le_refl 0))
-halved d (suc e) h = mul_assoc d 2 (2 ^ (suc e - 1)) ∙ ap (λ (x : ℕ). d * x) (ap (λ (x : ℕ). 2 * 2 ^ x) less_one ∙ sym (pow-succ' 2 e))
-  where
-    less_one : suc e - 1 ≡ e
-    less_one = omega arith
-
-pub moved : (low digits exp : ℕ) → Moved low digits exp → 1 ≤ exp → digits < 2 ^ 52 → Moved low (digits * 2) (exp - 1)
-moved low digits exp m h k = record { same = halved digits exp h ∙ m.same; some = let z = m.some in omega arith; small = omega arith; at_most = let z = m.at_most in omega arith }
-
-pub fields_zero : (field low : ℕ) → field ≤ 0 → significand field low * 2 ^ (field - 1) ≡ low
-fields_zero zero low h = mul-one low
-fields_zero (suc x) low h = absurd (not-le_of_lt (zero-lt-suc x) h)
-
-pub fields_some : (field low : ℕ) → 0 < field → (low + 2 ^ 52) * 2 ^ (field + 51) ≡ significand field low * 2 ^ (field - 1) * 2 ^ 52
-fields_some zero low h = absurd (not-le_of_lt h (le_refl 0))
-fields_some (suc x) low h =
-    ap (λ (z : ℕ). (low + 2 ^ 52) * 2 ^ z) expo
-    ∙ ap (λ (z : ℕ). (low + 2 ^ 52) * z) (pow-add 2 (suc x - 1) 52)
-    ∙ sym (mul_assoc (low + 2 ^ 52) (2 ^ (suc x - 1)) (2 ^ 52))
-    ∙ ap (λ (b : Bool). cond b low (low + 2 ^ 52) * 2 ^ (suc x - 1) * 2 ^ 52) (sym (eqb-suc-zero x))
-  where
-    expo : suc x + 51 ≡ suc x - 1 + 52
-    expo = omega arith
 
 -- ---- the root of a value that is above zero
 sqrt_positive : (W : Width) (x : Float) → T (positive x) → sqrt_at W x ≡ nearest_root W (num x) (den x)

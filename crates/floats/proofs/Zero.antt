@@ -1,8 +1,7 @@
 -- A value against zero, and what a test of it says.
-use Rattle.std.proofs.Common.{◌≡◌, ℕ, zero, suc, ◌+◌, ◌*◌, ◌<◌, Bool, true, false, T, ltb, ℤ, pos, sym, subst, true≢false, zero-lt-suc, mul-pos, zero-mul, arith, lt→ltb, ltb-false, ltb-true}
-use lib.Ieee.{Float, nan, inf, fin, Format, up, down, neg, lt, fits}
+use Rattle.std.proofs.Common.{◌≡◌, ℕ, zero, suc, ◌+◌, ◌*◌, ◌<◌, Bool, true, false, T, ltb, ℤ, pos, sym, subst, true≢false, zero-lt-suc, mul-pos, zero-mul, arith, ltb-false, ltb-true}
+use lib.Ieee.{Float, nan, inf, fin, Format, up, down, lt, fits}
 use lib.Ieee.Fits.{up_pos}
-use lib.Ieee.Bits.{is_true}
 use Rattle.arithmetic.specs.Value.{0f}
 use Rattle.rounding.proofs.Value.{zero_exponent}
 
@@ -72,14 +71,3 @@ below (inf false) h = absurd (true≢false (sym h))
 below (fin true zero e) h = absurd (none_minus (up e) (down e) h)
 below (fin true (suc m) e) h = number- m e
 below (fin false m e) h = absurd (none_plus (m * up e * 1) (down e) h)
-
-pub negated_above : {x : Float} → Below x → T (lt 0f (neg x))
-unfolding lt neg
-negated_above infinity- = tt
-negated_above (number- m e) =
-    let a : 0 < suc m * up e = mul-pos (zero-lt-suc m) (up_pos e) in
-    let z = zero-mul (down e) in
-    lt→ltb (0 * down e) (suc m * up e * 1) (omega arith)
-
-pub above_of : (x : Float) → T (lt 0f x) → Above x
-above_of x t = above x (is_true (lt 0f x) t)

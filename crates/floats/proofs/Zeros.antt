@@ -118,9 +118,6 @@ module _ (most : Bool) (x y : Float) where
   after : {z : Float} → z ≡ cond (strictly most x y || zeros (not most) x y) x y → z ≡ held (beyond most) y x
   after e = e ∙ ap (λ (b : Bool). cond b x y) (sym by_zeros)
 
-  pub holds_next : strictly most x y ≡ true → x ≡ held (beyond most) y x
-  holds_next h = after (ap (λ (b : Bool). cond (b || zeros (not most) x y) x y) (sym h))
-
   module _ (X : fits binary64 x ≡ true) (Y : fits binary64 y ≡ true) where
     pub holds_zero : eq x y ≡ true → to_bits binary64 x ≡ zero_bits (not most) → x ≡ held (beyond most) y x
     holds_zero h e = after (takes_zero (not most) x y X Y (strictly most x y) h e)

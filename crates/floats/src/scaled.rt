@@ -38,6 +38,9 @@ impl Scaled {
         requires { (0 < self.digits) × (self.digits < 2 ^ 53) }
         ensures { (units result ≡ units self) × (result.digits < 2 ^ 53) × (result.exp ≤ self.exp) × (0 < result.exp → 2 ^ 52 ≤ result.digits) }
     {
+        if self.digits >= LEADING {
+            return self;
+        }
         let room = 52 - u64::from(self.digits.ilog2());
         let places = room.min(self.exp);
         Scaled {
