@@ -210,6 +210,7 @@ pub fn read_names(line: &[u8]) -> Option<Names>
     }
     let mut count = 0;
     let mut at = 0;
+    // The pieces of `split` would be read twice: a quarter more instructions for 256 names of 64 letters.
     loop {
         let word = word_at(line, at);
         let kind = kind_after(line, at, word.end)?;
