@@ -6,135 +6,92 @@
 // list of the second tree's records. The formulas have every arm of `derivative.rs` with literals and symbols at each place,
 // lists worked out by hand, and random ones of reference/generate.py; tools/derivative/make_cases.py made the records. One
 // is not the reference's, which runs out of memory: Multiply(0, Abs nested 30 times).
-ghost use Rattle.std.specs.Prelude.{◌≡◌, true, ◌*◌, ◌≤◌, length};
+ghost use Rattle.std.specs.Prelude.{◌≡◌, ◌≤◌, length};
+ghost use Rattle.differentiate.specs.Written.{step};
 
-use cases::{Tally, all, cut, take};
-use check::same;
-use differentiate::{RECORD_SIZE, write_derivative};
-use reader::{NODE_SIZE, half, is_formula, is_small, wide};
+use cases::{Record, Tally, take};
+use differentiate::{Form, Nodes, RECORD_SIZE, Records, write_derivative};
+use reader::{NODE_SIZE, half, is_formula, is_small};
+use refusals::Refusal;
 use std::io;
-use std::io::{Stdin, Stdout};
-use survey::{By, Found, survey_formula, with_primal};
+use std::io::Stdin;
+use survey::{By, Row, survey_formula};
 
-#[derive(Drop)]
-enum Answer {
-    Refused(u8),
-    Written(usize),
-}
-
-// "8 at `root` from the rules, 4 at `root` if the finished tree is too large", and 1 where the slice is too short for its
-// nodes, or for their records.
-fn derive(f: &[u8], by: By, out: &mut [u8]) -> Answer {
-    if is_formula(f) {
-        if is_small(f, 256, 32) {
-            let mut table = [0usize; 2048];
-            let found = survey_formula(f, 32, by, &mut table);
-            if found.fine {
-                let own = found.own;
-                let diff = found.diff;
-                let whole = with_primal(own, diff);
-                if whole.nodes > 16384 {
-                    return Answer::Refused(4);
-                }
-                if whole.levels > 128 {
-                    return Answer::Refused(4);
-                }
-                if by.records {
-                    if out.len() / RECORD_SIZE < whole.nodes {
-                        return Answer::Refused(1);
-                    }
-                    return Answer::Written(write_derivative(f, 32, by, &table, out));
-                }
-                if out.len() / NODE_SIZE < whole.nodes {
-                    return Answer::Refused(1);
-                }
-                return Answer::Written(write_derivative(f, 32, by, &table, out));
-            }
-            return Answer::Refused(8);
-        }
+// Where the bytes of a tree's nodes, or of their records, end: "8 at `root` from the rules, 4 at `root` if the finished tree is
+// too large", and 1 where the slice is too short for its nodes, or for their records, each of so many bytes.
+fn derive<F: Form>(f: &[u8], by: By, size: usize, out: &mut [u8]) -> Result<usize, Refusal>
+    requires { size ≡ step F.records }
+{
+    if !is_formula(f) || !is_small(f, 256, 32) {
+        return Err(Refusal::WrongField(0));
     }
-    Answer::Refused(2)
+    let mut rows = [Row::EMPTY; 256];
+    let found = survey_formula(f, 32, by, &mut rows);
+    let Some(diff) = found.diff else {
+        return Err(Refusal::Unsupported);
+    };
+    let whole = found.own.with_primal(diff);
+    if whole.nodes > 16384 || whole.levels > 128 {
+        return Err(Refusal::ExpressionLimit);
+    }
+    if out.len() / size < whole.nodes {
+        return Err(Refusal::SliceTooShort);
+    }
+    Ok(write_derivative::<F>(f, 32, by, &rows, out))
 }
 
 // Whether the answer is the one recorded; the slice is just long enough.
-fn is_right(f: &[u8], by: By, recorded: u8, wanted: &[u8], out: &mut [u8]) -> bool {
-    let given = derive(f, by, out);
-    match given {
-        Answer::Refused(n) => n == recorded,
-        Answer::Written(n) => {
-            if recorded != 0 {
-                return false;
-            }
-            if n != wanted.len() {
-                return false;
-            }
-            same(wanted, out)
-        }
-    }
-}
-
-fn compare(
+fn gives<F: Form>(
     f: &[u8],
-    n: usize,
     by: By,
+    size: usize,
     recorded: u8,
     wanted: &[u8],
-    m: usize,
-    out: &mut [u8],
+    room: &mut [u8],
 ) -> bool
-    requires { (n ≤ length f.now) × (m ≤ length wanted.now) × (m ≤ length out.old) }
+    requires { (size ≡ step F.records) × (length wanted.now ≤ length room.old) }
 {
-    is_right(&f[0..n], by, recorded, &wanted[0..m], &mut out[0..m])
+    let out = &mut room[..wanted.len()];
+    match derive::<F>(f, by, size, out) {
+        Ok(n) => recorded == 0 && n == wanted.len() && *out == *wanted,
+        Err(refusal) => refusal.number() == recorded,
+    }
 }
 
-fn next_case(stdin: Stdin, stdout: Stdout, t: Tally) -> io::Result<Tally> {
-    let mut head = [0u8; 8];
-    let there = take(stdin, &mut head, 8);
-    if !there {
-        return Ok(cases::end(t));
-    }
-    let nodes = half(&head, 4);
-    let size = half(&head, 6);
-    let n = NODE_SIZE * cut(nodes, 256);
-    let m = NODE_SIZE * cut(size, 1024);
-    let r = RECORD_SIZE * cut(size, 1024);
-    let mut f = [0u8; 4096];
-    let mut tree = [0u8; 16384];
-    let mut list = [0u8; 8192];
-    let mut out = [255u8; 16384];
-    let mut noted = [255u8; 8192];
-    take(stdin, &mut f, n);
-    take(stdin, &mut tree, m);
-    take(stdin, &mut list, r);
-    let symbol = wide(head[1]);
-    let state = head[2] == 1;
+// Whether the nodes and the records are those recorded; none where the case does not fit, or standard input ends before it.
+fn is_right(stdin: Stdin, head: &[u8]) -> Option<bool> {
+    let mut record = Record::new(head);
+    let recorded = record.byte();
     let by = By {
-        symbol: symbol,
-        state: state,
-        records: false,
+        symbol: usize::from(record.byte()),
+        state: record.byte() == 1,
     };
-    let recording = By {
-        symbol: symbol,
-        state: state,
-        records: true,
-    };
-    let first = compare(&f, n, by, head[0], &tree, m, &mut out);
-    let second = compare(&f, n, recording, head[0], &list, r, &mut noted);
-    let fits = all(nodes <= 256, size <= 1024);
-    cases::counted(stdout, t, all(fits, all(first, second)), 0)
+    let nodes = half(head, 4);
+    let size = half(head, 6);
+    let mut formula = [0; 4096];
+    let mut tree = [0; 16384];
+    let mut list = [0; 8192];
+    let mut out = [255; 16384];
+    let f = take(stdin, &mut formula, NODE_SIZE * nodes)?;
+    let tree = take(stdin, &mut tree, NODE_SIZE * size)?;
+    let list = take(stdin, &mut list, RECORD_SIZE * size)?;
+    if tree.len() > 16384 || list.len() > 8192 {
+        return None;
+    }
+    let first = gives::<Nodes>(f, by, NODE_SIZE, recorded, tree, &mut out);
+    out.fill(255);
+    let second = gives::<Records>(f, by, RECORD_SIZE, recorded, list, &mut out);
+    Some(first && second)
 }
 
 fn main(rt: HostRuntime) -> io::Result<()> {
+    let stdin = rt.stdin();
     let stdout = rt.stdout();
-    let mut t = cases::begin();
-    let mut i = 0;
-    while i < cases::MOST {
-        t = next_case(rt.stdin(), stdout, t)?;
-        if t.ended {
-            break;
-        }
-        i += 1;
-    }
-    cases::say(stdout, t.cases, b" cases\n")?;
-    cases::verdict(stdout, t)
+    let mut tally = Tally::default();
+    cases::each_head(stdin, &mut [0; 8], |head| {
+        let right = is_right(stdin, head).unwrap_or(false);
+        tally.count_while_right(stdout, right, 0)
+    })?;
+    println!(stdout; "{} cases", tally.cases)?;
+    tally.verdict(stdout)
 }
