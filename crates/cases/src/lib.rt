@@ -1,6 +1,8 @@
 #![tactic(auto)]
 // What the programs share that replay recorded cases: the numbers of a record, slices beside it, and the count of cases.
-ghost use Rattle.std.specs.Prelude.{◌≡◌, ◌≤◌, length, IfSome};
+ghost use Rattle.std.specs.Prelude.{◌≡◌, ◌↔◌, ◌∷◌, replicate, IsTrue, ℕ, ◌+◌, ◌%◌, ◌^◌, ◌<◌, ◌≤◌, cond, length, take as first, drop as past, IfOk, IfSome, MatchOption, from_bits, to_bits};
+ghost use Rattle.std.specs.Float.{binary64};
+ghost use Rattle.formula.specs.Text.{byte_at, word_at, long_at};
 
 use floats::value::{bits_of, of_bits};
 use std::io;
@@ -11,12 +13,22 @@ use std::ops::ControlFlow;
 
 // What stands in a record as a cell, 8 bytes with the least first.
 pub trait Cell: Copy {
-    fn from_cell(cell: u64) -> Self;
+    ghost value_of: { ℕ → Self };
 
-    fn to_cell(self) -> u64;
+    ghost cell_of: { Self → ℕ };
+
+    fn from_cell(cell: u64) -> Self
+        ensures { result ≡ value_of cell };
+
+    fn to_cell(self) -> u64
+        ensures { result ≡ cell_of self };
 }
 
 impl Cell for u64 {
+    ghost value_of = { λ n. n };
+
+    ghost cell_of = { λ n. n };
+
     fn from_cell(cell: u64) -> u64 {
         cell
     }
@@ -27,6 +39,10 @@ impl Cell for u64 {
 }
 
 impl Cell for usize {
+    ghost value_of = { λ n. n };
+
+    ghost cell_of = { λ n. n };
+
     fn from_cell(cell: u64) -> usize {
         cell as usize
     }
@@ -37,6 +53,10 @@ impl Cell for usize {
 }
 
 impl Cell for f64 {
+    ghost value_of = { from_bits binary64 };
+
+    ghost cell_of = { to_bits binary64 };
+
     fn from_cell(cell: u64) -> f64 {
         of_bits(cell)
     }
@@ -53,24 +73,35 @@ pub struct Record<'a> {
 }
 
 impl<'a> Record<'a> {
-    pub fn new(bytes: &'a [u8]) -> Record<'a> {
+    pub fn new(bytes: &'a [u8]) -> Record<'a>
+        ensures { result.rest.now ≡ bytes.now }
+    {
         Record { rest: bytes }
     }
 
-    pub fn byte(&mut self) -> u8 {
+    pub fn byte(&mut self) -> u8
+        ensures value { result ≡ byte_at self.old.rest.now 0 }
+        ensures rest { self.new.rest.now ≡ past 1 self.old.rest.now }
+    {
         let byte = reader::byte(self.rest, 0);
         self.skip(1);
         byte
     }
 
     // A number of 4 bytes, the least first.
-    pub fn word(&mut self) -> usize {
+    pub fn word(&mut self) -> usize
+        ensures value { result ≡ word_at self.old.rest.now 0 }
+        ensures rest { self.new.rest.now ≡ past 4 self.old.rest.now }
+    {
         let word = reader::word(self.rest, 0);
         self.skip(4);
         word
     }
 
-    pub fn cell<T: Cell>(&mut self) -> T {
+    pub fn cell<T: Cell>(&mut self) -> T
+        ensures value { result ≡ T.value_of (long_at self.old.rest.now 0) }
+        ensures rest { self.new.rest.now ≡ past 8 self.old.rest.now }
+    {
         let cell = reader::long(self.rest, 0);
         self.skip(8);
         T::from_cell(cell)
@@ -85,14 +116,17 @@ impl<'a> Record<'a> {
 
     // The next n bytes, where there are so many.
     pub fn bytes(&mut self, n: usize) -> Option<&'a [u8]>
-        ensures { IfSome result (λ bytes. length bytes.now ≡ n) }
+        ensures bytes { MatchOption result (length self.old.rest.now < n) (λ bytes. (bytes.now ≡ first n self.old.rest.now) × (length bytes.now ≡ n)) }
+        ensures rest { IfSome result (λ bytes. self.new.rest.now ≡ past n self.old.rest.now) }
     {
         let (bytes, rest) = self.rest.split_at_checked(n)?;
         self.rest = rest;
         Some(bytes)
     }
 
-    fn skip(&mut self, n: usize) {
+    fn skip(&mut self, n: usize)
+        ensures { self.new.rest.now ≡ past n self.old.rest.now }
+    {
         self.rest = self.rest.get(n..).unwrap_or(&[]);
     }
 }
@@ -114,11 +148,14 @@ pub struct Call {
 }
 
 impl Call {
-    pub fn read(record: &mut Record) -> Call {
-        let number: u64 = record.cell();
-        let room = record.cell();
-        let budget = record.cell();
-        let value = record.cell();
+    pub fn read(from: &mut Record) -> Call
+        ensures room { result.room ≡ long_at (past 8 from.old.rest.now) 0 }
+        ensures budget { result.budget ≡ long_at (past 8 (past 8 from.old.rest.now)) 0 }
+    {
+        let number: u64 = from.cell();
+        let room = from.cell();
+        let budget = from.cell();
+        let value = from.cell();
         let kind = match number {
             0 => Kind::Run,
             1 => Kind::Resume,
@@ -205,7 +242,9 @@ pub fn is_left(slice: &[u8], text: &[u8], zero: bool) -> bool {
 pub const HELD: u64 = 7;
 
 // Whether a node stands in a report's first place, and the other places are as they were.
-pub fn is_reported(report: &[u64; 8], node: u64) -> bool {
+pub fn is_reported(report: &[u64; 8], node: u64) -> bool
+    ensures { IsTrue result ↔ report.now ≡ node ∷ replicate 7 7 }
+{
     *report == [node, HELD, HELD, HELD, HELD, HELD, HELD, HELD]
 }
 
@@ -224,7 +263,10 @@ pub struct Tally {
 
 impl Tally {
     // One case more, with so many calls; says which case came out otherwise.
-    pub fn count(&mut self, mut stdout: Stdout, right: bool, calls: u64) -> io::Result<()> {
+    pub fn count(&mut self, mut stdout: Stdout, right: bool, calls: u64) -> io::Result<()>
+        ensures cases { IfOk result (λ done. self.new.cases ≡ (self.old.cases + 1) % 2 ^ 64) }
+        ensures wrong { IfOk result (λ done. self.new.wrong ≡ cond right self.old.wrong ((self.old.wrong + 1) % 2 ^ 64)) }
+    {
         if !right {
             println!(stdout; "wrong: case {}", self.cases)?;
             self.wrong = self.wrong.wrapping_add(1);
@@ -280,12 +322,13 @@ pub fn each_head<F: FnMut(&[u8]) -> io::Result<ControlFlow<()>>>(
 // Counts the cases of a record that begins with their number; `case` says of the next one whether it is as recorded.
 pub fn all_cases<F: FnMut(&mut Record) -> bool>(
     stdout: Stdout,
-    record: &[u8],
+    cases: &[u8],
     mut case: F,
 ) -> io::Result<Tally>
     requires { F.IsAlwaysCallable case }
+    ensures { IfOk result (λ tally. tally.cases ≡ word_at cases.now 0) }
 {
-    let mut record = Record::new(record);
+    let mut record = Record::new(cases);
     let mut tally = Tally::default();
     for _ in 0..record.word() {
         let right = case(&mut record);
