@@ -449,9 +449,6 @@ module _ {L : Layout} {p : List ℕ} {s : Site} {c : Cursor} (A : Arms L p s c) 
                   let f₅ : h.entry ≡ c.entry + entry_count y + entry_count z = omega (arith, z_entry, is_entry) in
                   λ j. Done (record { a = is_reg j; b = 0; c = 0; boolean = y_boolean j; dynamic = f₁ j }) (record { node = z_node j; reg = f₂ j; code = f₃ j; path = f₄ j; entry = f₅ j })
 
-              a₀ : ℕ
-              a₀ = 32 + 24 * c.code
-
               n₅' : length p₅ ≡ length p
               n₅' = ap length e₅ ∙ over_length p₄ (32 + 24 * (e.code + 1)) _ (omega (arith, n₄', is_code, R.code, R.records, R.lists)) ∙ n₄'
 

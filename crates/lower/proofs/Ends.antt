@@ -39,12 +39,6 @@ pub not_false : (b u : Bool) → u ≡ not b → u ≡ false → b ≡ true
 not_false true u e f = refl
 not_false false u e f = absurd (let z : ◌≡◌ {A = ℕ} 0 1 = cc in omega arith)
 
-pub jumps_alike : (g j : Bool) (v : Bool) → g ≡ false → j ≡ true → v ≡ not (g || not (j && v))
-jumps_alike true j v e f = absurd (let z : ◌≡◌ {A = ℕ} 0 1 = cc in omega arith)
-jumps_alike false true true e f = refl
-jumps_alike false true false e f = refl
-jumps_alike false false v e f = absurd (let z : ◌≡◌ {A = ℕ} 0 1 = cc in omega arith)
-
 module _ (L : Layout) (p : List ℕ) (s : Site) (c : Cursor) (I : ℕ) (R : Ready L p s c I 0 0) where
   -- ---- an operation's last step
 

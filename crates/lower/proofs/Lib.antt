@@ -1,7 +1,6 @@
 pub mod Results
 pub mod Laid
 pub mod Slots
-pub mod Leaves
 pub mod Frames
 pub mod Keeps
 pub mod Says

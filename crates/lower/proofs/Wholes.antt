@@ -214,9 +214,6 @@ module _ {L : Layout} {p : List ℕ} {s : Site} {c : Cursor} (C : Context) (g : 
   abbrev W : Piece
   W = own_piece C (apply o ts) P k c n
 
-  own_count : ℕ
-  own_count = cond lists? (0 + f.children) 0
-
   pub ready_operands : Ready L p s c (instruction_counts ts) (path_counts ts) (entry_counts ts + cond lists? (0 + f.children) 0)
   ready_operands =
       let e : cond (listing o) (term_count ts) 0 ≡ cond lists? (0 + f.children) 0 =
@@ -233,9 +230,6 @@ module _ {L : Layout} {p : List ℕ} {s : Site} {c : Cursor} (C : Context) (g : 
     no_faults : faults C ts P 0 ≡ none
     unfolding operands_piece
     no_faults = U.faultless
-
-    v_is : v ≡ A.value
-    v_is = U.value
 
     e_reg : e.reg ≡ c.reg + register_counts ts
     unfolding operands_piece
