@@ -5,15 +5,15 @@ use mathlib.Core.List.{List, [], ◌∷◌}
 use mathlib.Core.Option.{Option, none, some}
 use Prim.Native.Nat.{ℕ, zero, suc, ◌<◌}
 use native.Mathlib.Omega.{arith}
-use lib.ListN.{get_or, get_elem?, length}
+use lib.ListN.{get_or, get_elem?}
 use lib.Dec.{ltb}
 use lib.Ieee.{Float, Format, binary64, sub, mul, lt, le, eq, ne}
 use Rattle.arithmetic.specs.Value.{0f, finite}
 use Rattle.formula.specs.Operator.{Operation, unary, binary, compare, call, Unary, Positive, Negative, Not, Binary, Add, Subtract, Multiply, Divide, Power, Modulo, Function, Exp, Log, Log10, Sqrt, Sin, Cos, Tan, Tanh, Abs, Floor, Ceil, Min, Max, Hill, InverseGaussianDensity}
 use Rattle.formula.specs.Path.{Path, path_room}
-use Rattle.meaning.specs.Work.{Interaction, give, undefined, ask, power, advance, asked, work, unary_work, binary_work, call_work, power_defined, hill_work, density_work, density_cost}
+use Rattle.meaning.specs.Work.{Interaction, give, undefined, ask, power, advance, work, unary_work, binary_work, call_work, power_defined, hill_work, density_work, density_cost}
 use Rattle.machine.specs.Program.{Instruction, Op, Program, constant, copy, instruction, jump, jump_if_false, load, perform, valid}
-use Rattle.machine.specs.Machine.{Effect, Reply, State, checked, effect, fails, followed, fresh, goes, more, next, out_of_budget, read_all, refuse, stale, steps, stored, unfit, wants, worked}
+use Rattle.machine.specs.Machine.{Effect, Reply, State, effect, fails, followed, fresh, goes, more, next, out_of_budget, read_all, refuse, stale, steps, unfit, wants, worked}
 use Rattle.layout.specs.Decode.{program_at}
 use Rattle.run.specs.Calls.{resume_at, run_at}
 use Rattle.vebrostin.specs.Cells.{Askable, question_of}

@@ -3,9 +3,10 @@ use mathlib.Core.Path.{◌≡◌, refl, sym, ap, ◌∙◌, subst}
 use mathlib.Core.Bool.{true}
 use mathlib.Core.List.{List, [], ◌∷◌, ◌++◌, append_assoc}
 use mathlib.Core.Option.{Option, none, some}
-use Prim.Native.Nat.{ℕ, zero, suc, ◌+◌, ◌-◌, ◌≤◌}
+use Prim.Native.Nat.{ℕ, zero, suc, ◌+◌, ◌-◌, ◌<◌, ◌≤◌}
+use native.Mathlib.Numerals.{add-one}
 use native.Mathlib.Omega.{arith}
-use lib.ListN.{length, get_or, take, drop, length-take}
+use lib.ListN.{length, get_or, take, drop}
 use lib.Seq.{drop_at, get_or-append-add}
 use lib.Dec.{T}
 use lib.Ieee.{Float, binary64, fits}
@@ -13,8 +14,7 @@ use lib.Ieee.Bits.{of_bits-to_bits}
 use borrow.Author.Tests.{lt-ltb, ne_eqb}
 use Rattle.meaning.specs.Work.{Question, elementary, power}
 use Rattle.machine.specs.Machine.{Reply, State}
-use Rattle.work.specs.declared.Kept.{Kept}
-use Rattle.work.specs.View.{kept_values, places}
+use Rattle.work.specs.View.{kept_values}
 use Rattle.run.specs.declared.State as Declared
 use Rattle.run.specs.Views.{pending_of, state_of}
 use Rattle.vebrostin.specs.Cells.{ArgumentsBack, Askable, ComesBack, Held, padded, question_cells, question_in, state_cells, state_in, value_cell}
@@ -24,10 +24,11 @@ use Rattle.vebrostin.specs.Calls.{written}
 pub comes_back : (x : Float) → fits binary64 x ≡ true → ComesBack x
 comes_back x e = of_bits-to_bits binary64 x (subst T (sym e) tt)
 
-pub held_take : (n : ℕ) (xs : List Float) → Held xs → Held (take n xs)
-held_take zero xs h = tt
-held_take (suc n) [] h = tt
-held_take (suc n) (x ∷ xs) h = (h.0, held_take n xs h.1)
+-- one value more
+pub held_more : (xs : List Float) (i : ℕ) (d : Float) → i < length xs → Held (take i xs) → ComesBack (get_or xs i d) → Held (take (i + 1) xs)
+held_more [] i d l h e = absurd (omega arith)
+held_more (x ∷ xs) zero d l h e = (e, tt)
+held_more (x ∷ xs) (suc i) d l h e = rw add-one (h.0, let r = held_more xs i d (omega arith) h.1 e in rw add-one at r)
 
 -- ---- the parts
 
@@ -78,16 +79,11 @@ state_back s few held a h rest =
     ∙ ap (λ (o : Option Question). record { position = s.position; kept = s.kept; pending = o }) (question_back s.pending a h rest)
 
 -- the cells that the code writes
-pub written_back : (s : Declared.State) (count v : ℕ) (rest : List ℕ) → Held (kept_values s.kept) → Askable (pending_of s.pending) → ArgumentsBack (pending_of s.pending)
-    → state_in ((state_cells (state_of s) ++ (count ∷ v ∷ [])) ++ rest) ≡ state_of s
-written_back s count v rest held a h =
-    let n = s.kept.count in
-    let few : length (take n (places s.kept)) ≤ 9 = omega (arith, length-take n (places s.kept)) in
+pub written_back : (s : Declared.State) (count v : ℕ) (rest : List ℕ) → length (kept_values s.kept) ≤ 9 → Held (kept_values s.kept) → Askable (pending_of s.pending)
+    → ArgumentsBack (pending_of s.pending) → state_in ((state_cells (state_of s) ++ (count ∷ v ∷ [])) ++ rest) ≡ state_of s
+written_back s count v rest few held a h =
     ap state_in (append_assoc (state_cells (state_of s)) (count ∷ v ∷ []) rest)
     ∙ state_back (state_of s) few held a h ((count ∷ v ∷ []) ++ rest)
-
-pub none_held : (k : Kept) → k.count ≡ 0 → Held (kept_values k)
-none_held k e = subst (λ (n : ℕ). Held (take n (places k))) (sym e) tt
 
 -- ---- what a host reads from the cells of a reply
 

@@ -1,18 +1,17 @@
 -- What a call leaves, from what run and resume promise.
 use mathlib.Core.Path.{◌≡◌, refl, sym, ap, ◌∙◌, subst}
 use mathlib.Core.Bool.{Bool, true, false, true≢false}
-use mathlib.Core.List.{List, [], ◌∷◌, ◌++◌, append_assoc}
+use mathlib.Core.List.{List, [], ◌∷◌, ◌++◌}
 use mathlib.Core.Logic.{⊎_elim}
-use mathlib.Core.Option.{Option, none}
+use mathlib.Core.Option.{Option}
 use Prim.Native.Nat.{ℕ, ◌<◌, ◌≤◌}
 use lib.ListN.{length, drop, set}
 use lib.Ieee.{Float}
-use native.Mathlib.Omega.{arith}
 use borrow.Author.Tests.{le-ltb, lt-ltb, ltb-false}
 use Rattle.refusals.specs.Numbers.{no_program, slice_too_short}
-use Rattle.formula.specs.Path.{Path, path_room, placed}
+use Rattle.refusals.specs.declared.Refusal.{Refusal}
+use Rattle.formula.specs.Path.{path_room, placed}
 use Rattle.formula.proofs.Tests.{or_none}
-use Rattle.meaning.specs.Work.{Question}
 use Rattle.machine.specs.Program.{valid}
 use Rattle.machine.specs.Machine.{place_of}
 use Rattle.machine.specs.Machine as Machine
@@ -26,40 +25,34 @@ use Rattle.derivative.specs.Derive as Derive
 use Rattle.derive.specs.Outcome.{lengths}
 use Rattle.derive.specs.Outcome as Entered
 use Rattle.run.specs.declared.Answer.{Answer}
-use Rattle.run.specs.declared.Answer.TheVariants as Answer
 use Rattle.run.specs.declared.Reply.{Reply}
 use Rattle.run.specs.declared.State.{State}
 use Rattle.run.specs.Views.{HandsBack, answer_of, pending_of, reply_of, state_of}
 use Rattle.run.specs.Calls.{Settled, resume_at, run_at}
-use Rattle.run.proofs.Plain.{plain}
 use Rattle.run.proofs.Whole.{resume_10}
-use Rattle.vebrostin.specs.Cells.{ArgumentsBack, Askable, number_of, question_cells, state_cells, state_in, value_cell}
-use Rattle.vebrostin.specs.Calls.{Carries, Compiles, Derives, Leaves, Outcome, Settles, after, compile_node, compile_number, compile_outcome, derive_node, derive_number, derive_outcome, Ends, is_refused, node_place, report_length, report_short, reported, resume_outcome, run_outcome, short, state_length, told, untouched, with_room, written}
+use Rattle.vebrostin.specs.Cells.{Askable, number_of, state_cells, state_in, value_cell}
+use Rattle.vebrostin.specs.Calls.{Carries, Compiles, Derives, Leaves, Outcome, Settles, after, compile_outcome, derive_outcome, Ends, is_refused, node_place, report_length, report_short, reported, resume_outcome, run_outcome, short, state_length, told, told_node, told_number, untouched, with_room, written}
 use Rattle.vebrostin.proofs.Asking.{resume_asks, run_asks}
-use Rattle.vebrostin.proofs.Crossing.{state_back}
 
 -- ---- the numbers of an answer don't go by the program
 
 same_number : (b : List ℕ) (a : Answer) → number_of (answer_of [] a) ≡ number_of (answer_of b a)
 same_number b (Answer.Value v) = refl
-same_number b (Answer.Elementary f x) = refl
-same_number b (Answer.Power x y) = refl
+same_number b (Answer.Question q) = refl
 same_number b Answer.Spent = refl
 same_number b (Answer.Domain k) = refl
 same_number b (Answer.Refused n) = refl
 
 same_value : (b : List ℕ) (a : Answer) → value_cell (answer_of [] a) ≡ value_cell (answer_of b a)
 same_value b (Answer.Value v) = refl
-same_value b (Answer.Elementary f x) = refl
-same_value b (Answer.Power x y) = refl
+same_value b (Answer.Question q) = refl
 same_value b Answer.Spent = refl
 same_value b (Answer.Domain k) = refl
 same_value b (Answer.Refused n) = refl
 
 same_refusal : (b : List ℕ) (a : Answer) → is_refused (answer_of [] a) ≡ is_refused (answer_of b a)
 same_refusal b (Answer.Value v) = refl
-same_refusal b (Answer.Elementary f x) = refl
-same_refusal b (Answer.Power x y) = refl
+same_refusal b (Answer.Question q) = refl
 same_refusal b Answer.Spent = refl
 same_refusal b (Answer.Domain k) = refl
 same_refusal b (Answer.Refused n) = refl
@@ -67,13 +60,31 @@ same_refusal b (Answer.Refused n) = refl
 -- a refused resume hands back the very state
 handed : (r : Reply) (a : Answer) (st : State) → r.answer ≡ a → is_refused (answer_of [] a) ≡ true → HandsBack st r → r.state ≡ st
 handed r (Answer.Value v) st e t h = absurd (true≢false (sym t))
-handed r (Answer.Elementary f x) st e t h = absurd (true≢false (sym t))
-handed r (Answer.Power x y) st e t h = absurd (true≢false (sym t))
+handed r (Answer.Question q) st e t h = absurd (true≢false (sym t))
 handed r Answer.Spent st e t h = absurd (true≢false (sym t))
 handed r (Answer.Domain k) st e t h = absurd (true≢false (sym t))
 handed r (Answer.Refused n) st e t h = h n e
 
+pub unrefused : (a : Answer) → ((n : Refusal) → a ≡ Answer.Refused n → ⊥) → is_refused (answer_of [] a) ≡ false
+unrefused (Answer.Value v) h = refl
+unrefused (Answer.Question q) h = refl
+unrefused Answer.Spent h = refl
+unrefused (Answer.Domain k) h = refl
+unrefused (Answer.Refused n) h = absurd (h n refl)
+
 -- ---- one reply
+
+-- the cells that are written are those of the machine's reply
+pub put_ends : (a : Machine.Answer) (count : ℕ) (st : Machine.State) {R : Machine.Reply} {regs : List Float} {cells cells' : List ℕ} {n v : ℕ}
+    → ◌≡◌ {A = Machine.Reply} (record { answer = a; count = count; state = st; registers = regs }) R → n ≡ number_of a → v ≡ value_cell a
+    → cells' ≡ (state_cells st ++ (count ∷ v ∷ [])) ++ drop 16 cells → (Askable st.pending → state_in cells' ≡ st) → Ends R n cells cells' regs
+put_ends a count st {cells = cells} e en ev ec es =
+    record {
+      number = en ∙ ap (λ (x : Machine.Reply). number_of x.answer) e;
+      left = ec ∙ ap (λ (x : ℕ). (state_cells st ++ (count ∷ x ∷ [])) ++ drop 16 cells) ev ∙ ap (λ (x : Machine.Reply). written x cells) e;
+      registers = ap (λ (x : Machine.Reply). x.registers) e;
+      state = λ k. es (subst (λ (x : Machine.Reply). Askable x.state.pending) (sym e) k) ∙ ap (λ (x : Machine.Reply). x.state) e;
+    }
 
 -- the number, the cells and the registers are those of the machine's reply
 pub reply_ends : (b : List ℕ) (r : Reply) (regs' : List Float) (R : Machine.Reply) (cells cells' : List ℕ) (n : ℕ) → reply_of b r regs' ≡ R
@@ -81,13 +92,7 @@ pub reply_ends : (b : List ℕ) (r : Reply) (regs' : List Float) (R : Machine.Re
     → cells' ≡ (state_cells (state_of r.state) ++ (r.count ∷ value_cell (answer_of [] r.answer) ∷ [])) ++ drop 16 cells
     → (Askable (pending_of r.state.pending) → state_in cells' ≡ state_of r.state) → Ends R n cells cells' regs'
 reply_ends b r regs' R cells cells' n e hn hc hs =
-    record {
-      number = hn ∙ same_number b r.answer ∙ ap (λ (x : Machine.Reply). number_of x.answer) e;
-      left = hc ∙ ap (λ (v : ℕ). (state_cells (state_of r.state) ++ (r.count ∷ v ∷ [])) ++ drop 16 cells) (same_value b r.answer)
-          ∙ ap (λ (x : Machine.Reply). written x cells) e;
-      registers = ap (λ (x : Machine.Reply). x.registers) e;
-      state = λ a. hs (subst (λ (x : Machine.Reply). Askable x.state.pending) (sym e) a) ∙ ap (λ (x : Machine.Reply). x.state) e;
-    }
+    put_ends (answer_of b r.answer) r.count (state_of r.state) e (hn ∙ same_number b r.answer) (same_value b r.answer) hc hs
 
 -- the cells and the path slice by the same reply
 pub ends_as : {R R' : Machine.Reply} {n : ℕ} {cells cells' : List ℕ} {regs' : List Float} → R ≡ R' → Ends R n cells cells' regs' → Ends R' n cells cells' regs'
@@ -95,28 +100,6 @@ ends_as {n = n} {cells} {cells'} {regs'} e E = subst (λ (x : Machine.Reply). En
 
 pub placed_as : {R R' : Machine.Reply} (path : List ℕ) {path' : List ℕ} → R ≡ R' → path' ≡ placed (place_of R.answer) path → path' ≡ placed (place_of R'.answer) path
 placed_as path e hp = hp ∙ ap (λ (x : Machine.Reply). placed (place_of x.answer) path) e
-
--- a reply that keeps nothing
-module _ (R : Machine.Reply) (a : Machine.Answer) (count at : ℕ) (o : Option Question) (regs : List Float) (e : plain a count at o regs ≡ R) where
-  abbrev row : List ℕ → ℕ → List ℕ → List ℕ
-  row q v cells = (at ∷ 0 ∷ 0 ∷ 0 ∷ 0 ∷ 0 ∷ 0 ∷ 0 ∷ 0 ∷ 0 ∷ 0 ∷ q ++ (count ∷ v ∷ [])) ++ drop 16 cells
-
-  pub plain_ends : (n v : ℕ) (q cells cells' : List ℕ) → n ≡ number_of a → v ≡ value_cell a → q ≡ question_cells o → ArgumentsBack o → cells' ≡ row q v cells
-      → Ends R n cells cells' regs
-  plain_ends n v q cells cells' en ev eq back ec =
-      let w : cells' ≡ written (plain a count at o regs) cells = ec ∙ ap (λ (x : List ℕ). row x v cells) eq ∙ ap (λ (x : ℕ). row (question_cells o) x cells) ev in
-      record {
-        number = en ∙ ap (λ (x : Machine.Reply). number_of x.answer) e;
-        left = w ∙ ap (λ (x : Machine.Reply). written x cells) e;
-        registers = ap (λ (x : Machine.Reply). x.registers) e;
-        state = λ k.
-            ap state_in (w ∙ append_assoc (state_cells (plain a count at o regs).state) (count ∷ value_cell a ∷ []) (drop 16 cells))
-            ∙ state_back (plain a count at o regs).state (omega arith) tt (subst (λ (x : Machine.Reply). Askable x.state.pending) (sym e) k) back _
-            ∙ ap (λ (x : Machine.Reply). x.state) e;
-      }
-
-  pub plain_place : (path : List ℕ) → place_of a ≡ none → path ≡ placed (place_of R.answer) path
-  plain_place path z = ap (λ (x : Option Path). placed x path) (sym z) ∙ ap (λ (x : Machine.Reply). placed (place_of x.answer) path) e
 
 pub enough : (cells report : List ℕ) → short cells report ≡ false → state_length ≤ length cells
 enough cells report h = ltb-false (length cells) state_length (or_none (report_short report) _ h).1
@@ -158,7 +141,7 @@ module _ (b l q p report : List ℕ) where
 
   pub compile_leaves : report_length ≤ length report → (n k : ℕ) (q' p' : List ℕ)
       → (let X = compile b l (length q) (length p) in
-      n ≡ compile_number (Entry.answer X) → k ≡ compile_node (Entry.answer X) → q' ≡ Compile.path_after X q → p' ≡ Compile.program_after image X p
+      n ≡ told_number (Entry.answer X) → k ≡ told_node (Entry.answer X) → q' ≡ Compile.path_after X q → p' ≡ Compile.program_after image X p
       → Compiles (compile_outcome b l (length q) (length p) report) n q q' p p' report (set report node_place k))
   compile_leaves h n k q' p' en ek eq ep =
       subst (λ (X : Compiled). Compiles X n q q' p p' report (set report node_place k))
@@ -174,7 +157,7 @@ module _ (b names : List ℕ) (s : ℕ) (q t l p report : List ℕ) where
 
   pub derive_leaves : report_length ≤ length report → (n k : ℕ) (q' t' l' p' : List ℕ)
       → (let X = derive b names s (length q) (lengths t l p) in
-      n ≡ derive_number (Entered.answer X) → k ≡ derive_node (Entered.answer X) → q' ≡ Derive.path_after X q → t' ≡ Derive.tree_after X t
+      n ≡ told_number (Entered.answer X) → k ≡ told_node (Entered.answer X) → q' ≡ Derive.path_after X q → t' ≡ Derive.tree_after X t
       → l' ≡ Derive.list_after X l → p' ≡ Derive.program_after image X p
       → Derives (derive_outcome b names s (length q) (lengths t l p) report) n q q' t t' l l' p p' report (set report node_place k))
   derive_leaves h n k q' t' l' p' en ek eq et el ep =

@@ -1,68 +1,41 @@
 -- The answer to a question that the cells hold, nothing kept, goes straight on.
 use mathlib.Core.Path.{◌≡◌, refl, sym, ap, ◌∙◌}
-use mathlib.Core.Bool.{Bool, true, false, ◌&&◌, ◌||◌}
+use mathlib.Core.Bool.{Bool, true, false, ◌||◌}
 use mathlib.Core.List.{List, [], ◌∷◌}
 use mathlib.Core.Option.{some}
 use Prim.Native.Nat.{ℕ, ◌+◌, ◌-◌, ◌≤◌, ◌<◌}
-use native.Mathlib.Omega.{arith}
 use borrow.Author.Tests.{ltb-false}
 use lib.ListN.{get_or, set}
-use lib.Dec.{eqb, ltb}
-use lib.Ieee.{Float, binary64}
-use Rattle.arithmetic.specs.Value.{0f, finite}
+use lib.Dec.{ltb}
+use lib.Ieee.{Float}
+use Rattle.arithmetic.specs.Value.{finite}
 use Rattle.formula.specs.Path.{path_room}
-use Rattle.formula.specs.Text.{byte_at, word_at}
 use Rattle.formula.proofs.Tests.{or_none}
-use Rattle.meaning.specs.Work.{Question, elementary, power, power_defined}
+use Rattle.work.specs.declared.Question.{Question}
+use Rattle.work.specs.View.{question_of}
 use Rattle.machine.specs.Program.{valid}
 use Rattle.machine.specs.Machine as Machine
 use Rattle.machine.specs.Machine.{asks, gives, outside, refused, spent}
-use Rattle.layout.specs.Decode.{code_count, destination_at, program_at, slot_at}
-use Rattle.work.specs.Opcode.{puts_function}
-use Rattle.work.specs.declared.Outcome.TheVariants.{Value}
-use Rattle.instruction.specs.Effects.{effect_at}
-use Rattle.instruction.specs.declared.Effect.TheVariants.{Work}
-use Rattle.instruction.proofs.Once.{function_puts, function_range, function_takes, power_puts, power_takes}
-use Rattle.run.specs.Calls.{Reaches, after, resume_at, stale_at, steps_at, unfit_at}
+use Rattle.layout.specs.Decode.{code_count, destination_at, program_at}
+use Rattle.run.specs.Calls.{Reaches, after, resume_at, steps_at, unfit_at}
 use Rattle.run.proofs.Looping.{reaches_on, never_refused}
-use Rattle.run.proofs.Plain.{fresh_function, fresh_power}
+use Rattle.run.proofs.Plain.{fresh_question}
 use Rattle.run.proofs.Single.{answered_reaches, budget_left}
 use Rattle.run.proofs.Whole.{resume_goes}
-use Rattle.vebrostin.specs.Cells.{ArgumentsBack, question_cells, question_in, state_in}
-use Rattle.vebrostin.specs.Calls.{Answers, Pends, is_refused}
-use Rattle.vebrostin.proofs.Crossing.{question_back}
+use Rattle.vebrostin.specs.Cells.{state_in}
+use Rattle.vebrostin.specs.Calls.{Answers, PutsOnly, is_refused}
 
-module _ (b : List ℕ) (regs : List Float) (cells : List ℕ) (v : Float) (at code : ℕ)
-    (ea : at ≡ get_or cells 0 0) (h : at < code) (ec : code ≡ code_count b) (none : get_or cells 1 0 ≡ 0) (fine : finite v ≡ true) (op i : ℕ) (x : Float)
-    (eo : op ≡ byte_at b (slot_at at)) (ei : i ≡ word_at b (slot_at at + 8)) (ex : x ≡ get_or regs i 0f) (q : List ℕ) (p : Pends cells q) where
-  -- the cells hold the question that the instruction puts
-  answers : (o : Question) → (state_in cells).pending ≡ some o → ((inputs : List Float) → stale_at inputs b regs at [] (some o) (some v) ≡ false)
-      → ((inputs : List Float) → effect_at inputs b at (v ∷ []) regs ≡ Work (Value v)) → Answers b regs cells v
-  answers o e f r =
-      record {
-        there = omega arith;
-        none_kept = rw none;
-        fresh = λ inputs. rw (← ea, e) (f inputs);
-        result = λ inputs. rw (← ea) (r inputs);
-        is_finite = fine;
-      }
-
-  pub power_answers : (j : ℕ) (y : Float) → j ≡ word_at b (slot_at at + 12) → y ≡ get_or regs j 0f → (eqb op 12 && power_defined binary64 x y) ≡ true
-      → q ≡ question_cells (some (power x y)) → ArgumentsBack (some (power x y)) → Answers b regs cells v
-  power_answers j y ej ey d eq back =
-      answers (power x y)
-      (ap (λ (l : List ℕ). question_in (get_or l 0 0) (get_or l 1 0) (get_or l 2 0)) (p ∙ eq) ∙ question_back (some (power x y)) tt back [])
-      (λ inputs. fresh_power inputs b at code regs v ec h x y (power_puts inputs b at regs op i x eo ei ex j y ej ey d))
-      (λ inputs. power_takes inputs b at regs op i x eo ei ex j y ej ey d v)
-
-  pub function_answers : puts_function op ≡ true → q ≡ question_cells (some (elementary (op - 20) x)) → ArgumentsBack (some (elementary (op - 20) x)) → Answers b regs cells v
-  function_answers d eq back =
-      let r = function_range op d in
-      answers (elementary (op - 20) x)
-      (ap (λ (l : List ℕ). question_in (get_or l 0 0) (get_or l 1 0) (get_or l 2 0)) (p ∙ eq)
-      ∙ question_back (some (elementary (op - 20) x)) (omega (arith, r.1), λ z. omega (arith, r.0, r.1, z)) back [])
-      (λ inputs. fresh_function inputs b at code regs v ec h (op - 20) x (function_puts inputs b at regs op i x eo ei ex d))
-      (λ inputs. function_takes inputs b at regs op i x eo ei ex d v)
+-- the cells hold the question that the instruction puts
+pub answers : (b : List ℕ) (regs : List Float) (cells : List ℕ) (v : Float) (q : Question) → get_or cells 0 0 < code_count b → get_or cells 1 0 ≡ 0 → finite v ≡ true
+    → PutsOnly b regs (get_or cells 0 0) q → (state_in cells).pending ≡ some (question_of q) → Answers b regs cells v
+answers b regs cells v q h none fine P e =
+    record {
+      there = h;
+      none_kept = rw none;
+      fresh = λ inputs. rw e (fresh_question inputs b (get_or cells 0 0) (code_count b) regs v refl h q (P.puts inputs));
+      result = λ inputs. P.takes inputs v;
+      is_finite = fine;
+    }
 
 -- ---- the reply
 

@@ -1,74 +1,47 @@
--- The cells that the code writes are those of the state, and those that it reads are the state.
-use mathlib.Core.Path.{◌≡◌, refl, sym}
-use mathlib.Core.Bool.{Bool, true, false, cond}
-use mathlib.Core.List.{List, [], ◌∷◌, ◌++◌}
+-- The cells that the code writes are those of the state.
+use mathlib.Core.Path.{◌≡◌, refl, sym, ap, ◌∙◌}
+use mathlib.Core.List.{List, [], ◌∷◌, ◌++◌, append_assoc}
 use mathlib.Core.Option.{Option, none, some}
-use Prim.Native.Nat.{ℕ, zero, suc, ◌+◌, ◌-◌, ◌<◌, ◌≤◌, min}
+use Prim.Native.Nat.{ℕ, zero, suc, ◌+◌, ◌<◌, ◌≤◌}
+use native.Mathlib.Numerals.{add-one}
 use native.Mathlib.Omega.{arith}
-use lib.ListN.{length, take, length-take}
-use lib.Dec.{eqb, ltb}
-use lib.Ieee.{Float, binary64, of_bits, to_bits}
-use borrow.Author.Tests.{eq-eqb, le-ltb, lt-ltb, ne_eqb}
-use Rattle.meaning.specs.Work.{elementary, power}
-use Rattle.work.specs.declared.Kept.{Kept}
-use Rattle.work.specs.View.{kept_values, places}
-use Rattle.vebrostin.specs.Cells.{bits, padded, question_cells, question_in, state_cells}
+use lib.ListN.{length, take, set, get_or}
+use lib.Seq.{take_all}
+use lib.Ieee.{Float}
+use Rattle.meaning.specs.Work.{Question, elementary, power}
+use Rattle.work.specs.View.{kept_values}
+use Rattle.run.specs.declared.State.{State}
+use Rattle.run.specs.Views.{pending_of, state_of}
+use Rattle.vebrostin.specs.Cells.{bits, padded, question_cells, state_cells}
 
 -- ---- written
 
--- nine places, of which the first n hold bits
-pub kept_shown : (n : ℕ) (k : Kept) → padded 9 (take n (places k))
-    ≡ cond (ltb 0 n) (bits k.first) 0 ∷ cond (ltb 1 n) (bits k.second) 0 ∷ cond (ltb 2 n) (bits k.third) 0 ∷ cond (ltb 3 n) (bits k.fourth) 0
-    ∷ cond (ltb 4 n) (bits k.fifth) 0 ∷ cond (ltb 5 n) (bits k.sixth) 0 ∷ cond (ltb 6 n) (bits k.seventh) 0 ∷ cond (ltb 7 n) (bits k.eighth) 0
-    ∷ cond (ltb 8 n) (bits k.ninth) 0 ∷ []
-kept_shown zero k = refl
-kept_shown (suc zero) k = refl
-kept_shown (suc (suc zero)) k = refl
-kept_shown (suc (suc (suc zero))) k = refl
-kept_shown (suc (suc (suc (suc zero)))) k = refl
-kept_shown (suc (suc (suc (suc (suc zero))))) k = refl
-kept_shown (suc (suc (suc (suc (suc (suc zero)))))) k = refl
-kept_shown (suc (suc (suc (suc (suc (suc (suc zero))))))) k = refl
-kept_shown (suc (suc (suc (suc (suc (suc (suc (suc zero)))))))) k = refl
-kept_shown (suc (suc (suc (suc (suc (suc (suc (suc (suc m))))))))) k =
-    let n = suc (suc (suc (suc (suc (suc (suc (suc (suc m)))))))) in
-    let h : (i : ℕ) → i < 9 → ltb i n ≡ true = λ i l. lt-ltb i n (omega arith) in
-    rw (h 0 (omega arith), h 1 (omega arith), h 2 (omega arith), h 3 (omega arith), h 4 (omega arith), h 5 (omega arith), h 6 (omega arith), h 7 (omega arith), h 8 (omega arith))
+-- one value more
+padded_more : (n : ℕ) (xs : List Float) (i : ℕ) (d : Float) (t : List ℕ) → i < n → i < length xs → set (padded n (take i xs) ++ t) i (bits (get_or xs i d)) ≡ padded n (take (i + 1) xs) ++ t
+padded_more zero xs i d t h l = absurd (omega arith)
+padded_more (suc n) [] i d t h l = absurd (omega arith)
+padded_more (suc n) (x ∷ xs) zero d t h l = refl
+padded_more (suc n) (x ∷ xs) (suc i) d t h l = rw add-one (ap (λ (ks : List ℕ). bits x ∷ ks) (padded_more n xs i d t (omega arith) (omega arith) ∙ rw add-one refl))
 
-module _ (k : Kept) (q : List ℕ) (at count v kc k0 k1 k2 k3 k4 k5 k6 k7 k8 : ℕ) where
-  pub reply_cells : kc ≡ min k.count 9
-      → k0 ≡ cond (ltb 0 k.count) (bits k.first) 0
-      → k1 ≡ cond (ltb 1 k.count) (bits k.second) 0
-      → k2 ≡ cond (ltb 2 k.count) (bits k.third) 0
-      → k3 ≡ cond (ltb 3 k.count) (bits k.fourth) 0
-      → k4 ≡ cond (ltb 4 k.count) (bits k.fifth) 0
-      → k5 ≡ cond (ltb 5 k.count) (bits k.sixth) 0
-      → k6 ≡ cond (ltb 6 k.count) (bits k.seventh) 0
-      → k7 ≡ cond (ltb 7 k.count) (bits k.eighth) 0
-      → k8 ≡ cond (ltb 8 k.count) (bits k.ninth) 0
-      → at ∷ kc ∷ k0 ∷ k1 ∷ k2 ∷ k3 ∷ k4 ∷ k5 ∷ k6 ∷ k7 ∷ k8 ∷ q ++ (count ∷ v ∷ [])
-      ≡ (at ∷ length (kept_values k) ∷ padded 9 (kept_values k) ++ q) ++ (count ∷ v ∷ [])
-  reply_cells c e0 e1 e2 e3 e4 e5 e6 e7 e8 =
-      rw (kept_shown k.count k, length-take k.count (places k), c, e0, e1, e2, e3, e4, e5, e6, e7, e8)
+third : (a b : ℕ) (l : List ℕ) (i j v : ℕ) → j ≡ 2 + i → set (a ∷ b ∷ l) j v ≡ a ∷ b ∷ set l i v
+third a b l i zero v e = absurd (omega arith)
+third a b l i (suc zero) v e = absurd (omega arith)
+third a b l i (suc (suc k)) v e = let f : k ≡ i = omega arith in ap (λ (m : ℕ). a ∷ b ∷ set l m v) f
 
--- where nothing is kept
-pub plain_cells : (k : Kept) (q : List ℕ) (at : ℕ) → k.count ≡ 0
-    → at ∷ 0 ∷ 0 ∷ 0 ∷ 0 ∷ 0 ∷ 0 ∷ 0 ∷ 0 ∷ 0 ∷ 0 ∷ q ≡ at ∷ length (kept_values k) ∷ padded 9 (kept_values k) ++ q
-plain_cells k q at e = rw e
+-- behind the position and the count
+pub row_more : (a b : ℕ) (xs : List Float) (i : ℕ) (d : Float) (t : List ℕ) {v : ℕ} → i < 9 → i < length xs → v ≡ bits (get_or xs i d)
+    → set (a ∷ b ∷ padded 9 (take i xs) ++ t) (2 + i) v ≡ a ∷ b ∷ padded 9 (take (i + 1) xs) ++ t
+row_more a b xs i d t {v} h l e = third a b (padded 9 (take i xs) ++ t) i (2 + i) v refl ∙ ap (λ (ks : List ℕ). a ∷ b ∷ ks) (rw e (padded_more 9 xs i d t h l))
 
--- ---- read
+three : (o : Option Question) (t : List ℕ) → (let q = question_cells o in get_or q 0 0 ∷ get_or q 1 0 ∷ get_or q 2 0 ∷ t ≡ q ++ t)
+three none t = refl
+three (some (elementary f x)) t = refl
+three (some (power x y)) t = refl
 
-module _ (n a b : ℕ) where
-  pub no_question : n ≡ 0 → none ≡ question_in n a b
-  no_question h = rw (eq-eqb n 0 h)
-
-  module _ (h : n ≡ 0 → ⊥) where
-    pub power_question : (x y : Float) → n ≡ 17 → x ≡ of_bits binary64 a → y ≡ of_bits binary64 b → some (power x y) ≡ question_in n a b
-    power_question x y k e f = rw (ne_eqb n 0 h, eq-eqb n 17 k, e, f)
-
-    module _ (k : n ≡ 17 → ⊥) where
-      pub elementary_question : (x : Float) → n < 256 → x ≡ of_bits binary64 a → some (elementary (n - 1) x) ≡ question_in n a b
-      elementary_question x l e = rw (ne_eqb n 0 h, ne_eqb n 17 k, lt-ltb n 256 l, e)
-
-      pub no_function : (x : Float) → 256 ≤ n → x ≡ of_bits binary64 a → some (elementary 255 x) ≡ question_in n a b
-      no_function x l e = rw (ne_eqb n 0 h, ne_eqb n 17 k, le-ltb n 256 l, e)
+-- and the whole row
+pub row_whole : (s : State) (vs : List Float) (count v i : ℕ) {q row : List ℕ} → vs ≡ kept_values s.kept → length vs ≤ i → q ≡ question_cells (pending_of s.pending)
+    → row ≡ s.position ∷ length vs ∷ padded 9 (take i vs) ++ (get_or q 0 0 ∷ get_or q 1 0 ∷ get_or q 2 0 ∷ count ∷ v ∷ [])
+    → row ≡ state_cells (state_of s) ++ (count ∷ v ∷ [])
+row_whole s vs count v i ev h eq er =
+    let t = count ∷ v ∷ [] in
+    rw (er, take_all i vs h, ev, eq, three (pending_of s.pending) t) (ap (λ (x : List ℕ). s.position ∷ length (kept_values s.kept) ∷ x) (sym (append_assoc (padded 9 (kept_values s.kept)) (question_cells (pending_of s.pending)) t)))

@@ -1,20 +1,21 @@
 -- What the exported functions answer and leave.
-use Rattle.std.specs.Prelude.{◌≡◌, Bool, true, false, cond, ◌||◌, List, [], ◌∷◌, ◌++◌, ◌⊎◌, ℕ, ◌<◌, length, drop, get_or, set, ltb, Float}
+use Rattle.std.specs.Prelude.{◌≡◌, Bool, true, false, cond, ◌||◌, List, [], ◌∷◌, ◌++◌, ◌⊎◌, ℕ, ◌<◌, length, drop, get_or, set, ltb, Float, Result, Ok, Err, unwrap_or}
 use Rattle.std.proofs.Math.Option.{Option, none, some}
 use Rattle.arithmetic.specs.Value.{finite}
 use Rattle.refusals.specs.Numbers.{slice_too_short}
+use Rattle.refusals.specs.Refusals as refusals
+use Rattle.refusals.specs.declared.Refusal.{Refusal}
 use Rattle.formula.specs.Path.{placed}
 use Rattle.machine.specs.Machine.{Answer, Reply, place_of, refused, gives, asks, spent, outside}
 use Rattle.layout.specs.Decode.{code_count}
 use Rattle.layout.specs.Image.{image}
 use Rattle.machine.specs.Compile as Compile
 use Rattle.compile.specs.Entry as Entry
-use Rattle.compile.specs.declared.Answer as CompileAnswer
-use Rattle.compile.specs.declared.Answer.TheVariants as Compiled
 use Rattle.derivative.specs.Derive as Derive
 use Rattle.derive.specs.Outcome as Entered
-use Rattle.derive.specs.declared.Answer as DeriveAnswer
-use Rattle.derive.specs.declared.Answer.TheVariants as Derived
+use Rattle.work.specs.View.{question_of}
+use Rattle.work.specs.declared.Question.{Question}
+use Rattle.work.specs.declared.Outcome.TheVariants as Outcomes
 use Rattle.work.specs.declared.Outcome.TheVariants.{Value}
 use Rattle.instruction.specs.Effects.{effect_at}
 use Rattle.instruction.specs.declared.Effect.TheVariants.{Work}
@@ -52,16 +53,14 @@ with_room few refusal o = cond few refusal o
 abbrev pub reported : ℕ → List ℕ → List ℕ
 reported node report = with_room (report_short report) report (set report node_place node)
 
--- 0 for a program, else the refusal
-abbrev pub compile_number : CompileAnswer.Answer → ℕ
-compile_number Compiled.Program = 0
-compile_number (Compiled.Refused n) = n
-compile_number (Compiled.RefusedAt n k) = n
+-- the number of a refusal, and its node; 0 where nothing is refused, and where it has no node
+abbrev pub told_number : {T : Type 0} → Result T Refusal → ℕ
+told_number (Ok x) = 0
+told_number (Err r) = refusals.number_of r
 
-abbrev pub compile_node : CompileAnswer.Answer → ℕ
-compile_node Compiled.Program = 0
-compile_node (Compiled.Refused n) = 0
-compile_node (Compiled.RefusedAt n k) = k
+abbrev pub told_node : {T : Type 0} → Result T Refusal → ℕ
+told_node (Ok x) = 0
+told_node (Err r) = unwrap_or (refusals.node_of r) 0
 
 -- of formula bytes and a name line, with path and program slices of these lengths and this report
 abbrev pub compile_outcome : List ℕ → List ℕ → ℕ → ℕ → List ℕ → Compile.Compiled
@@ -70,19 +69,8 @@ compile_outcome b l q p report = with_room (report_short report) (Compile.refuse
 -- the number answered, and the path, program and report slices before and after
 abbrev pub Compiles : Compile.Compiled → ℕ → List ℕ → List ℕ → List ℕ → List ℕ → List ℕ → List ℕ → Type 0
 Compiles X n q q' p p' t t' =
-    (n ≡ compile_number (Entry.answer X)) × (q' ≡ Compile.path_after X q) × (p' ≡ Compile.program_after image X p)
-    × (t' ≡ reported (compile_node (Entry.answer X)) t)
-
--- 0 for a tree, its records and its program, else the refusal
-abbrev pub derive_number : DeriveAnswer.Answer → ℕ
-derive_number (Derived.Derived n) = 0
-derive_number (Derived.Refused n) = n
-derive_number (Derived.RefusedAt n k) = n
-
-abbrev pub derive_node : DeriveAnswer.Answer → ℕ
-derive_node (Derived.Derived n) = 0
-derive_node (Derived.Refused n) = 0
-derive_node (Derived.RefusedAt n k) = k
+    (n ≡ told_number (Entry.answer X)) × (q' ≡ Compile.path_after X q) × (p' ≡ Compile.program_after image X p)
+    × (t' ≡ reported (told_node (Entry.answer X)) t)
 
 -- of formula bytes, a name line and a symbol, with a path slice of this length, tree, list and program slices of these and this report
 abbrev pub derive_outcome : List ℕ → List ℕ → ℕ → ℕ → Derive.Lengths → List ℕ → Derive.Derived
@@ -91,9 +79,9 @@ derive_outcome b names s q l report = with_room (report_short report) (Derive.fo
 -- the number answered, and the path, tree, list, program and report slices before and after
 abbrev pub Derives : Derive.Derived → ℕ → List ℕ → List ℕ → List ℕ → List ℕ → List ℕ → List ℕ → List ℕ → List ℕ → List ℕ → List ℕ → Type 0
 Derives X n q q' t t' l l' p p' u u' =
-    (n ≡ derive_number (Entered.answer X))
+    (n ≡ told_number (Entered.answer X))
     × (q' ≡ Derive.path_after X q) × (t' ≡ Derive.tree_after X t) × (l' ≡ Derive.list_after X l) × (p' ≡ Derive.program_after image X p)
-    × (u' ≡ reported (derive_node (Entered.answer X)) u)
+    × (u' ≡ reported (told_node (Entered.answer X)) u)
 
 -- ---- run and resume
 
@@ -138,9 +126,11 @@ pub record Ends (r : Reply) (n : ℕ) (cells cells' : List ℕ) (regs' : List Fl
   pub registers : regs' ≡ r.registers
   pub state : Askable r.state.pending → state_in cells' ≡ r.state
 
--- the cells hold a question in these numbers
-abbrev pub Pends : List ℕ → List ℕ → Type 0
-Pends cells q = get_or cells 11 0 ∷ get_or cells 12 0 ∷ get_or cells 13 0 ∷ [] ≡ q
+-- an instruction puts this question, which the cells can hold, and its answer is its result
+pub record PutsOnly (b : List ℕ) (regs : List Float) (at : ℕ) (q : Question) : Type 0 where
+  pub puts : (inputs : List Float) → effect_at inputs b at [] regs ≡ Work (Outcomes.Question q)
+  pub takes : (inputs : List Float) (v : Float) → effect_at inputs b at (v ∷ []) regs ≡ Work (Value v)
+  pub askable : Askable (some (question_of q))
 
 -- the value answers the question that the cells hold, which is the only one of its instruction
 pub record Answers (b : List ℕ) (regs : List Float) (cells : List ℕ) (v : Float) : Type 0 where

@@ -1,6 +1,6 @@
 -- Sixteen numbers in which a run's state, its count and its value cross to C and Rust: position, how many values are kept, nine places for them, the
 -- question that pends in three, the count and the value. Values and arguments are bits.
-use Rattle.std.specs.Prelude.{◌≡◌, List, [], ◌∷◌, ◌++◌, cond, ℕ, zero, suc, ◌+◌, ◌-◌, ◌<◌, length, get_or, take, drop, eqb, ltb, Float}
+use Rattle.std.specs.Prelude.{◌≡◌, List, [], ◌∷◌, ◌++◌, cond, ℕ, zero, suc, ◌+◌, ◌-◌, ◌<◌, length, get_or, take, eqb, ltb, Float}
 use Rattle.std.proofs.Math.Option.{Option, none, some}
 use Rattle.std.specs.Float.{binary64}
 use Rattle.std.specs.Float.Ieee.{of_bits, to_bits}

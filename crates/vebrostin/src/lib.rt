@@ -1,27 +1,29 @@
 #![tactic(auto)]
 // The library: compile, derive, run and resume over numbers and slices. The crate vebrostin_c gives each to C and Rust under its C name.
 // No caller owes anything but slices that are there.
-ghost use Rattle.std.specs.Prelude.{◌≡◌, true, false, cond, ◌||◌, [], ◌∷◌, ◌++◌, ◌+◌, ◌<◌, ◌≤◌, min, drop, get_or, length, ltb};
+ghost use Rattle.std.specs.Prelude.{◌≡◌, true, false, ◌||◌, [], ◌∷◌, ◌++◌, ◌+◌, ◌<◌, ◌≤◌, drop, get_or, length, ltb, set, IfSome};
 ghost use Rattle.std.proofs.Math.Option.{none, some};
+ghost use Rattle.refusals.specs.Refusals as refusals;
 ghost use Rattle.formula.specs.Text.{word_at};
 ghost use Rattle.formula.specs.Path.{placed};
 ghost use Rattle.machine.specs.Program.{valid};
 ghost use Rattle.machine.specs.Machine.{place_of};
 ghost use Rattle.layout.specs.Decode.{code_count, program_at};
-ghost use Rattle.work.specs.View.{kept_values, places};
-ghost use Rattle.run.specs.Views.{answer_of, pending_of, state_of, supplied_of};
+ghost use Rattle.work.specs.View.{kept_values, question_of};
+ghost use Rattle.run.specs.Views.{answer_of, pending_of, reply_of, state_of, supplied_of};
 ghost use Rattle.run.specs.Calls.{after, resume_at, run_at, steps_at, unfit_at};
 ghost use Rattle.vebrostin.specs.Cells.{ArgumentsBack, Askable, ComesBack, Held, bits, kept_in, number_of, padded, question_cells, question_in, state_cells, state_in, value_at, value_cell};
 ghost use Rattle.derive.specs.Outcome.{lengths};
-ghost use Rattle.vebrostin.specs.Calls.{Answers, Carries, Compiles, Derives, Ends, Leaves, Pends, compile_node, compile_number, compile_outcome, derive_node, derive_number, derive_outcome, is_refused, resume_outcome, run_outcome, Settles, short};
+ghost use Rattle.vebrostin.specs.Calls.{Answers, Carries, Compiles, Derives, Leaves, PutsOnly, compile_outcome, derive_outcome, node_place, resume_outcome, run_outcome, Settles, short, told_node, told_number};
 
-use floats::value::{bits_of, of_bits};
+use floats::value::{bits_of, is_finite, of_bits};
 use instruction::value_at;
 use layout::{CODE_AT, HEADER_SIZE, INPUTS_AT, REGISTERS_AT, RESULT_AT, SLOT_SIZE};
 use reader::{known_word, word};
-use refusals::{NO_PROGRAM, OUTSIDE_DOMAIN, SLICE_TOO_SHORT};
-use run::{Answer, Pending, Place, State, Supplied};
-use work::Kept;
+use refusals::Refusal;
+use run::{Answer, Place, Reply, State};
+use std::array;
+use work::{Kept, Question};
 
 // Numbers that a report needs, its place for the node of a refusal, and the cells of a state.
 pub const REPORT_LENGTH: usize = 8;
@@ -30,29 +32,26 @@ pub const NODE_PLACE: usize = 0;
 
 pub const STATE_LENGTH: usize = 16;
 
-// ---- programs
-
-// The number that compile or derive answers, and the node that goes to the report.
-#[derive(Drop)]
-struct Told {
-    number: usize,
-    node: usize,
+fn number(refusal: Refusal) -> usize
+    ensures { result ≡ refusals.number_of refusal }
+{
+    usize::from(refusal.number())
 }
 
-fn compile_told(given: compile::Answer) -> Told
-    ensures { (result.number ≡ compile_number given) × (result.node ≡ compile_node given) }
+// ---- programs
+
+// Puts the node of a refusal into the report, 0 where there is none, and tells its number, 0 where nothing is refused.
+fn told<T: Drop>(given: Result<T, Refusal>, report: &mut [u64]) -> usize
+    requires { 0 < length report.old }
+    ensures number { result ≡ told_number given }
+    ensures node { report.new ≡ set report.old node_place (told_node given) }
 {
-    match given {
-        compile::Answer::Program => Told { number: 0, node: 0 },
-        compile::Answer::Refused(n) => Told {
-            number: n as usize,
-            node: 0,
-        },
-        compile::Answer::RefusedAt(n, k) => Told {
-            number: n as usize,
-            node: k,
-        },
-    }
+    let Err(refusal) = given else {
+        report[NODE_PLACE] = 0;
+        return 0;
+    };
+    report[NODE_PLACE] = refusal.node().unwrap_or(0) as u64;
+    number(refusal)
 }
 
 // 0 and a program, or the refusal, with its node in the report.
@@ -66,28 +65,9 @@ pub fn vebrostin_compile(
     ensures { Compiles (compile_outcome formula.now names.now (length path.old) (length program.old) report.old) result path.old path.new program.old program.new report.old report.new }
 {
     if report.len() < REPORT_LENGTH {
-        return SLICE_TOO_SHORT as usize;
+        return number(Refusal::SliceTooShort);
     }
-    let given = compile::compile(formula, names, path, program);
-    let told = compile_told(given);
-    report[NODE_PLACE] = told.node as u64;
-    told.number
-}
-
-fn derive_told(given: derive::Answer) -> Told
-    ensures { (result.number ≡ derive_number given) × (result.node ≡ derive_node given) }
-{
-    match given {
-        derive::Answer::Derived(n) => Told { number: 0, node: 0 },
-        derive::Answer::Refused(n) => Told {
-            number: n as usize,
-            node: 0,
-        },
-        derive::Answer::RefusedAt(n, k) => Told {
-            number: n as usize,
-            node: k,
-        },
-    }
+    told(compile::compile(formula, names, path, program), report)
 }
 
 // 0, a derivative tree, the records of its nodes and its program, or the refusal, with its node in the report.
@@ -104,12 +84,10 @@ pub fn vebrostin_derive(
     ensures { Derives (derive_outcome formula.now names.now symbol (length path.old) (lengths tree.old list.old program.old) report.old) result path.old path.new tree.old tree.new list.old list.new program.old program.new report.old report.new }
 {
     if report.len() < REPORT_LENGTH {
-        return SLICE_TOO_SHORT as usize;
+        return number(Refusal::SliceTooShort);
     }
     let given = derive::derive(formula, names, symbol as usize, path, tree, list, program);
-    let told = derive_told(given);
-    report[NODE_PLACE] = told.node as u64;
-    told.number
+    told(given, report)
 }
 
 // Whether run and resume take the bytes.
@@ -155,64 +133,35 @@ fn value_in(cells: &[u64], i: usize) -> f64
     of_bits(cell(cells, i))
 }
 
-fn question_in(question: u64, first: u64, second: u64) -> Pending
+// 0 is none, 17 Power, any other number one more than a function's; 255 is no function's number.
+fn question_in(question: u64, first: u64, second: u64) -> Option<Question>
     ensures { pending_of result ≡ question_in question first second }
 {
-    if question == 0 {
-        return Pending::Nothing;
-    }
     let x = of_bits(first);
-    if question == 17 {
-        return Pending::Power(x, of_bits(second));
+    match question {
+        0 => None,
+        17 => Some(Question::Power(x, of_bits(second))),
+        1..=255 => Some(Question::Elementary((question - 1) as u8, x)),
+        _ => Some(Question::Elementary(255, x)),
     }
-    if question < 256 {
-        return Pending::Elementary((question - 1) as u8, x);
-    }
-    Pending::Elementary(255, x)
 }
 
 fn kept_in(cells: &[u64]) -> Kept
     ensures { kept_values result ≡ kept_in cells.now }
 {
-    let count = cell(cells, 1) as usize;
-    if count == 0 {
-        return work::fresh();
-    }
     Kept {
-        count: count,
-        first: value_in(cells, 2),
-        second: value_in(cells, 3),
-        third: value_in(cells, 4),
-        fourth: value_in(cells, 5),
-        fifth: value_in(cells, 6),
-        sixth: value_in(cells, 7),
-        seventh: value_in(cells, 8),
-        eighth: value_in(cells, 9),
-        ninth: value_in(cells, 10),
+        count: cell(cells, 1) as usize,
+        values: array::from_fn(|i| value_in(cells, 2 + i)),
     }
 }
 
 fn state_in(cells: &[u64]) -> State
     ensures { state_of result ≡ state_in cells.now }
 {
-    let kept = kept_in(cells);
-    let pending = question_in(cell(cells, 11), cell(cells, 12), cell(cells, 13));
     State {
         position: cell(cells, 0) as usize,
-        kept: kept,
-        pending: pending,
-    }
-}
-
-// Copies b to the start of cells.
-fn copy(b: &[u64], cells: &mut [u64])
-    requires { length b.now ≤ length cells.old }
-    ensures { cells.new ≡ b.now ++ drop (length b.now) cells.old }
-{
-    let mut i = 0;
-    while i < b.len() {
-        cells[i] = b[i];
-        i += 1;
+        kept: kept_in(cells),
+        pending: question_in(cell(cells, 11), cell(cells, 12), cell(cells, 13)),
     }
 }
 
@@ -223,163 +172,86 @@ fn value_bits(x: f64) -> u64
     bits_of(x)
 }
 
-// Of n values kept, the one at place i.
-fn kept_cell(n: usize, i: usize, x: f64) -> u64
-    ensures { (result ≡ cond (ltb i n) (bits x) 0) × ComesBack x }
-{
-    let bits = value_bits(x);
-    if i < n {
-        return bits;
-    }
-    0
-}
-
-fn kept_count(n: usize) -> u64
-    ensures { result ≡ min n 9 }
-{
-    if n < 9 {
-        return n as u64;
-    }
-    9
-}
-
-#[derive(Drop)]
-struct Cells {
-    question: u64,
-    first: u64,
-    second: u64,
-}
-
-fn question_cells(pending: Pending) -> Cells
-    ensures { (result.question ∷ result.first ∷ result.second ∷ [] ≡ question_cells (pending_of pending)) × ArgumentsBack (pending_of pending) }
+fn question_cells(pending: Option<Question>) -> [u64; 3]
+    ensures { (result ≡ question_cells (pending_of pending)) × ArgumentsBack (pending_of pending) }
 {
     match pending {
-        Pending::Nothing => Cells {
-            question: 0,
-            first: 0,
-            second: 0,
-        },
-        Pending::Elementary(f, x) => Cells {
-            question: 1 + f as u64,
-            first: value_bits(x),
-            second: 0,
-        },
-        Pending::Power(x, y) => Cells {
-            question: 17,
-            first: value_bits(x),
-            second: value_bits(y),
-        },
+        None => [0, 0, 0],
+        Some(Question::Elementary(f, x)) => [1 + u64::from(f), value_bits(x), 0],
+        Some(Question::Power(x, y)) => [17, value_bits(x), value_bits(y)],
     }
 }
 
-fn value_of(given: Answer) -> u64
-    ensures { result ≡ value_cell (answer_of [] given) }
+fn value_of(answer: Answer) -> u64
+    ensures { result ≡ value_cell (answer_of [] answer) }
 {
-    match given {
-        Answer::Value(v) => bits_of(v),
-        Answer::Elementary(f, x) => 0,
-        Answer::Power(x, y) => 0,
-        Answer::Spent => 0,
-        Answer::Domain(k) => 0,
-        Answer::Refused(n) => 0,
+    match answer {
+        Answer::Value(value) => bits_of(value),
+        _ => 0,
     }
 }
 
-fn number_of(given: Answer) -> usize
-    ensures { result ≡ number_of (answer_of [] given) }
+fn number_of(answer: Answer) -> usize
+    ensures { result ≡ number_of (answer_of [] answer) }
 {
-    match given {
-        Answer::Value(v) => 0,
-        Answer::Elementary(f, x) => 100,
-        Answer::Power(x, y) => 100,
+    match answer {
+        Answer::Value(_) => 0,
+        Answer::Question(_) => 100,
         Answer::Spent => 101,
-        Answer::Domain(k) => OUTSIDE_DOMAIN as usize,
-        Answer::Refused(n) => n as usize,
+        Answer::Domain(_) => number(Refusal::OutsideDomain),
+        Answer::Refused(refusal) => number(refusal),
     }
 }
 
-// Writes all sixteen cells of a state that keeps nothing.
-fn put_plain(cells: &mut [u64], position: usize, q: Cells, count: usize, value: u64)
-    requires { 16 ≤ length cells.old }
-    ensures { cells.new ≡ (position ∷ 0 ∷ 0 ∷ 0 ∷ 0 ∷ 0 ∷ 0 ∷ 0 ∷ 0 ∷ 0 ∷ 0 ∷ q.question ∷ q.first ∷ q.second ∷ count ∷ value ∷ []) ++ drop 16 cells.old }
+// The values kept, nine at most.
+fn values_of(kept: &Kept) -> &[f64]
+    ensures { (result.now ≡ kept_values kept.now) × (length result.now ≤ 9) }
 {
-    let b = [
-        position as u64,
-        0,
-        0,
-        0,
-        0,
-        0,
-        0,
-        0,
-        0,
-        0,
-        0,
-        q.question,
-        q.first,
-        q.second,
-        count as u64,
-        value,
-    ];
-    copy(&b, cells);
+    &kept.values[..kept.count.min(9)]
 }
 
-// Writes all sixteen cells, with the values kept.
-fn put_kept(cells: &mut [u64], position: usize, kept: Kept, q: Cells, count: usize, value: u64)
+// Writes a state's cells, and after them a count and a value: all sixteen.
+fn put(cells: &mut [u64], state: State, count: usize, value: u64)
     requires { 16 ≤ length cells.old }
-    ensures cells { cells.new ≡ ((position ∷ length (kept_values kept) ∷ padded 9 (kept_values kept) ++ (q.question ∷ q.first ∷ q.second ∷ [])) ++ (count ∷ value ∷ [])) ++ drop 16 cells.old }
-    ensures held { Held (places kept) }
-{
-    let n = kept.count;
-    let b = [
-        position as u64,
-        kept_count(n),
-        kept_cell(n, 0, kept.first),
-        kept_cell(n, 1, kept.second),
-        kept_cell(n, 2, kept.third),
-        kept_cell(n, 3, kept.fourth),
-        kept_cell(n, 4, kept.fifth),
-        kept_cell(n, 5, kept.sixth),
-        kept_cell(n, 6, kept.seventh),
-        kept_cell(n, 7, kept.eighth),
-        kept_cell(n, 8, kept.ninth),
-        q.question,
-        q.first,
-        q.second,
-        count as u64,
-        value,
-    ];
-    copy(&b, cells);
-}
-
-// Writes all sixteen cells.
-fn put_reply(cells: &mut [u64], state: State, given: Answer, count: usize)
-    requires { 16 ≤ length cells.old }
-    ensures cells { cells.new ≡ (state_cells (state_of state) ++ (count ∷ value_cell (answer_of [] given) ∷ [])) ++ drop 16 cells.old }
+    ensures cells { cells.new ≡ (state_cells (state_of state) ++ (count ∷ value ∷ [])) ++ drop 16 cells.old }
     ensures state { Askable (pending_of state.pending) → state_in cells.new ≡ state_of state }
 {
     let kept = state.kept;
-    let pending = state.pending;
-    let q = question_cells(pending);
-    let value = value_of(given);
-    if kept.count == 0 {
-        put_plain(cells, state.position, q, count, value);
-    } else {
-        put_kept(cells, state.position, kept, q, count, value);
+    let values = values_of(&kept);
+    let [question, first, second] = question_cells(state.pending);
+    let mut row = [
+        state.position as u64,
+        values.len() as u64,
+        0,
+        0,
+        0,
+        0,
+        0,
+        0,
+        0,
+        0,
+        0,
+        question,
+        first,
+        second,
+        count as u64,
+        value,
+    ];
+    for (i, value) in values.iter().enumerate() {
+        row[2 + i] = value_bits(*value);
     }
+    cells[..16].copy_from_slice(&row);
 }
 
-fn is_refused(given: Answer) -> bool
-    ensures { result ≡ is_refused (answer_of [] given) }
+// Writes a reply's cells, and tells its number.
+fn put_reply(cells: &mut [u64], reply: Reply) -> usize
+    requires { 16 ≤ length cells.old }
+    ensures number { result ≡ number_of (answer_of [] reply.answer) }
+    ensures cells { cells.new ≡ (state_cells (state_of reply.state) ++ (reply.count ∷ value_cell (answer_of [] reply.answer) ∷ [])) ++ drop 16 cells.old }
+    ensures state { Askable (pending_of reply.state.pending) → state_in cells.new ≡ state_of reply.state }
 {
-    match given {
-        Answer::Value(v) => false,
-        Answer::Elementary(f, x) => false,
-        Answer::Power(x, y) => false,
-        Answer::Spent => false,
-        Answer::Domain(k) => false,
-        Answer::Refused(n) => true,
-    }
+    put(cells, reply.state, reply.count, value_of(reply.answer));
+    number_of(reply.answer)
 }
 
 // ---- calls that keep nothing, straight on the cells
@@ -391,79 +263,88 @@ fn is_early(program: &[u8], inputs: &[f64], registers: &[f64], room: usize, budg
     room < 8192 || run::unfit(program, inputs, registers, budget)
 }
 
-// Ends a call that came to an instruction which isn't done at once: a question, or what takes the long way.
-fn stops(
-    program: &[u8],
-    inputs: &[f64],
-    registers: &mut [f64],
-    path: &mut [u8],
-    cells: &mut [u64],
-    count: usize,
-    s: Place,
-) -> usize
-    requires { (16 ≤ length cells.old) × (8192 ≤ length path.old) × (count + s.left < 18446744073709551616) × (s.at < code_count program.now) × (s.at < 4294967296) × (0 < s.left) }
-    ensures reply { Ends (after count (steps_at inputs.now program.now s.left s.at [] registers.old)) result cells.old cells.new registers.new }
-    ensures place { valid (program_at program.now) ≡ true → path.new ≡ placed (place_of (after count (steps_at inputs.now program.now s.left s.at [] registers.old)).answer) path.old }
+// The question of an instruction that puts no other: Power's within its domain, or a function's that the host answers.
+#[tactic(auto, using(run::proofs::Looping::code_small))]
+fn question_at(program: &[u8], registers: &[f64], at: usize) -> Option<Question>
+    requires { at < code_count program.now }
+    ensures { IfSome result (PutsOnly program.now registers.now at) }
 {
-    let slot = HEADER_SIZE + SLOT_SIZE * s.at;
-    if slot + SLOT_SIZE <= program.len() {
-        let op = program[slot];
-        let x = value_at(registers, known_word(program, slot + 8));
-        let y = value_at(registers, known_word(program, slot + 12));
-        let power = work::puts_power(op, x, y);
-        if power {
-            let q = question_cells(Pending::Power(x, y));
-            put_plain(cells, s.at, q, count, 0);
-            return 100;
-        }
-        let function = work::puts_function(op);
-        if function {
-            let q = question_cells(Pending::Elementary(op - 20, x));
-            put_plain(cells, s.at, q, count, 0);
-            return 100;
-        }
+    let slot = HEADER_SIZE + SLOT_SIZE * at;
+    if program.len() < slot + SLOT_SIZE {
+        return None;
     }
-    let r = run::rest(program, inputs, registers, path, count, s);
-    let state = r.state;
-    let given = r.answer;
-    put_reply(cells, state, given, r.count);
-    number_of(given)
+    let op = program[slot];
+    let x = value_at(registers, known_word(program, slot + 8));
+    let y = value_at(registers, known_word(program, slot + 12));
+    if work::puts_power(op, x, y) {
+        return Some(Question::Power(x, y));
+    }
+    if work::puts_function(op) {
+        return Some(Question::Elementary(op - 20, x));
+    }
+    None
 }
 
-// Ends a call that came to a place with so many instructions completed.
+// The end of a call that came to a place, nothing kept, with so many instructions completed. Most ends are told at once, as it
+// takes `run::rest` longer to come to them.
 fn ends(
     program: &[u8],
     inputs: &[f64],
     registers: &mut [f64],
     path: &mut [u8],
-    cells: &mut [u64],
     count: usize,
-    s: Place,
-) -> usize
-    requires { (16 ≤ length cells.old) × (8192 ≤ length path.old) × (count + s.left < 18446744073709551616) }
-    ensures reply { Ends (after count (steps_at inputs.now program.now s.left s.at [] registers.old)) result cells.old cells.new registers.new }
-    ensures place { valid (program_at program.now) ≡ true → path.new ≡ placed (place_of (after count (steps_at inputs.now program.now s.left s.at [] registers.old)).answer) path.old }
+    place: Place,
+) -> Reply
+    requires { (8192 ≤ length path.old) × (count + place.left < 18446744073709551616) }
+    ensures reply { reply_of program.now result registers.new ≡ after count (steps_at inputs.now program.now place.left place.at [] registers.old) }
+    ensures place { valid (program_at program.now) ≡ true → path.new ≡ placed (place_of (answer_of program.now result.answer)) path.old }
 {
-    let none = question_cells(Pending::Nothing);
     let code = word(program, CODE_AT);
-    if code <= s.at {
+    let kept = Kept::new();
+    if code <= place.at {
         let value = value_at(registers, word(program, RESULT_AT));
-        put_plain(cells, code, none, count, bits_of(value));
-        return 0;
+        return Reply {
+            answer: Answer::Value(value),
+            count,
+            state: State {
+                position: code,
+                kept,
+                pending: None,
+            },
+        };
     }
-    if s.left == 0 {
-        put_plain(cells, s.at, none, count, 0);
-        return 101;
+    if place.left == 0 {
+        return Reply {
+            answer: Answer::Spent,
+            count,
+            state: State {
+                position: place.at,
+                kept,
+                pending: None,
+            },
+        };
     }
-    stops(program, inputs, registers, path, cells, count, s)
+    if let Some(question) = question_at(program, registers, place.at) {
+        return Reply {
+            answer: Answer::Question(question),
+            count,
+            state: State {
+                position: place.at,
+                kept,
+                pending: Some(question),
+            },
+        };
+    }
+    run::rest(program, inputs, registers, path, count, place)
 }
 
 // Whether the cells hold this question.
-fn is_pending(cells: &[u64], q: Cells) -> bool
+fn is_pending(cells: &[u64], pending: Question) -> bool
     requires { 16 ≤ length cells.now }
-    ensures { result ≡ true → Pends cells.now (q.question ∷ q.first ∷ q.second ∷ []) }
+    ensures { result ≡ true → Askable (some (question_of pending)) → (state_in cells.now).pending ≡ some (question_of pending) }
 {
-    cells[11] == q.question && (cells[12] == q.first && cells[13] == q.second)
+    let [question, first, second] = question_cells(Some(pending));
+    cells[11] == question && cells[12] == first && cells[13] == second
 }
 
 // Whether the value is the result of the instruction whose question pends, nothing kept. Where it isn't, the long way
@@ -473,33 +354,13 @@ fn is_answer(program: &[u8], registers: &[f64], cells: &[u64], value: f64) -> bo
     ensures { result ≡ true → Answers program.now registers.now cells.now value }
 {
     let at = cells[0] as usize;
-    if word(program, CODE_AT) <= at {
+    if word(program, CODE_AT) <= at || cells[1] != 0 || !is_finite(value) {
         return false;
     }
-    let slot = HEADER_SIZE + SLOT_SIZE * at;
-    if program.len() < slot + SLOT_SIZE {
-        return false;
+    match question_at(program, registers, at) {
+        Some(question) => is_pending(cells, question),
+        None => false,
     }
-    if cells[1] != 0 {
-        return false;
-    }
-    let fine = floats::value::is_finite(value);
-    if fine {
-        let op = program[slot];
-        let x = value_at(registers, known_word(program, slot + 8));
-        let y = value_at(registers, known_word(program, slot + 12));
-        let power = work::puts_power(op, x, y);
-        if power {
-            let q = question_cells(Pending::Power(x, y));
-            return is_pending(cells, q);
-        }
-        let function = work::puts_function(op);
-        if function {
-            let q = question_cells(Pending::Elementary(op - 20, x));
-            return is_pending(cells, q);
-        }
-    }
-    false
 }
 
 // The same of a call that neither 1 nor 5 refuses.
@@ -515,11 +376,8 @@ fn is_direct(
     requires { 16 ≤ length cells.now }
     ensures { result ≡ true → (8192 ≤ room) × (unfit_at inputs.now program.now registers.now budget ≡ false) × Answers program.now registers.now cells.now value }
 {
-    let early = is_early(program, inputs, registers, room, budget);
-    if early {
-        return false;
-    }
-    is_answer(program, registers, cells, value)
+    !is_early(program, inputs, registers, room, budget)
+        && is_answer(program, registers, cells, value)
 }
 
 // ---- runs
@@ -544,17 +402,14 @@ pub fn vebrostin_run(
     ensures outcome { Leaves (run_outcome inputs.now program.now budget registers.old cells.old path.old report.old) result cells.new registers.new path.new report.new }
     ensures state { Carries cells.new report.new (run_at inputs.now program.now (length path.old) budget registers.old) }
 {
-    let few = is_short(cells, report);
-    if few {
-        return SLICE_TOO_SHORT as usize;
+    if is_short(cells, report) {
+        return number(Refusal::SliceTooShort);
     }
-    let ok = run::goes_on(program, path.len());
-    if ok {
+    if run::goes_on(program, path.len()) {
         return vebrostin_run_unchecked(program, inputs, registers, path, budget, cells, report);
     }
-    let none = question_cells(Pending::Nothing);
-    put_plain(cells, 0, none, 0, 0);
-    NO_PROGRAM as usize
+    put(cells, State::fresh(), 0, 0);
+    number(Refusal::NoProgram)
 }
 
 fn resumed(
@@ -565,22 +420,20 @@ fn resumed(
     budget: usize,
     cells: &mut [u64],
     report: &mut [u64],
-    supplied: Supplied,
+    supplied: Option<f64>,
 ) -> usize
     ensures outcome { Leaves (resume_outcome inputs.now program.now budget (supplied_of supplied) registers.old cells.old path.old report.old) result cells.new registers.new path.new report.new }
     ensures state { Carries cells.new report.new (resume_at inputs.now program.now (length path.old) budget (supplied_of supplied) (state_in cells.old) registers.old) }
 {
-    let few = is_short(cells, report);
-    if few {
-        return SLICE_TOO_SHORT as usize;
+    if is_short(cells, report) {
+        return number(Refusal::SliceTooShort);
     }
-    let ok = run::goes_on(program, path.len());
-    if ok {
+    if run::goes_on(program, path.len()) {
         return resumed_unchecked(
             program, inputs, registers, path, budget, cells, report, supplied,
         );
     }
-    NO_PROGRAM as usize
+    number(Refusal::NoProgram)
 }
 
 // Goes on with no value: a question that pends is put again.
@@ -597,14 +450,7 @@ pub fn vebrostin_resume(
     ensures state { Carries cells.new report.new (resume_at inputs.now program.now (length path.old) budget none (state_in cells.old) registers.old) }
 {
     resumed(
-        program,
-        inputs,
-        registers,
-        path,
-        budget,
-        cells,
-        report,
-        Supplied::Nothing,
+        program, inputs, registers, path, budget, cells, report, None,
     )
 }
 
@@ -630,7 +476,7 @@ pub fn vebrostin_answer(
         budget,
         cells,
         report,
-        Supplied::Value(value),
+        Some(value),
     )
 }
 
@@ -651,21 +497,20 @@ pub fn vebrostin_run_unchecked(
     ensures state { Settles program.now path.old cells.old report.old → Carries cells.new report.new (run_at inputs.now program.now (length path.old) budget registers.old) }
     ensures report { report.new ≡ report.old }
 {
-    let few = is_short(cells, report);
-    if few {
-        return SLICE_TOO_SHORT as usize;
+    if is_short(cells, report) {
+        return number(Refusal::SliceTooShort);
     }
-    let early = is_early(program, inputs, registers, path.len(), budget);
-    if early {
-        let r = run::run_unchecked(program, inputs, registers, path, budget);
-        let state = r.state;
-        let given = r.answer;
-        put_reply(cells, state, given, r.count);
-        return number_of(given);
+    if is_early(program, inputs, registers, path.len(), budget) {
+        let reply = run::run_unchecked(program, inputs, registers, path, budget);
+        return put_reply(cells, reply);
     }
-    let code = word(program, CODE_AT);
-    let s = run::along(program, inputs, registers, code, budget, 0);
-    ends(program, inputs, registers, path, cells, budget - s.left, s)
+    let start = Place {
+        at: 0,
+        left: budget,
+    };
+    let place = run::along(program, inputs, registers, start);
+    let reply = ends(program, inputs, registers, path, budget - place.left, place);
+    put_reply(cells, reply)
 }
 
 fn resumed_unchecked(
@@ -676,26 +521,21 @@ fn resumed_unchecked(
     budget: usize,
     cells: &mut [u64],
     report: &mut [u64],
-    supplied: Supplied,
+    supplied: Option<f64>,
 ) -> usize
     ensures outcome { Settles program.now path.old cells.old report.old → Leaves (resume_outcome inputs.now program.now budget (supplied_of supplied) registers.old cells.old path.old report.old) result cells.new registers.new path.new report.new }
     ensures state { Settles program.now path.old cells.old report.old → Carries cells.new report.new (resume_at inputs.now program.now (length path.old) budget (supplied_of supplied) (state_in cells.old) registers.old) }
     ensures report { report.new ≡ report.old }
 {
-    let few = is_short(cells, report);
-    if few {
-        return SLICE_TOO_SHORT as usize;
+    if is_short(cells, report) {
+        return number(Refusal::SliceTooShort);
     }
     let before = state_in(cells);
-    let r = run::resume_unchecked(program, inputs, registers, path, budget, before, supplied);
-    let given = r.answer;
-    let state = r.state;
-    let no = is_refused(given);
-    if no {
-        return number_of(given);
+    let reply = run::resume_unchecked(program, inputs, registers, path, budget, before, supplied);
+    match reply.answer {
+        Answer::Refused(refusal) => number(refusal),
+        _ => put_reply(cells, reply),
     }
-    put_reply(cells, state, given, r.count);
-    number_of(given)
 }
 
 // As `vebrostin_resume`, without the check.
@@ -713,18 +553,12 @@ pub fn vebrostin_resume_unchecked(
     ensures report { report.new ≡ report.old }
 {
     resumed_unchecked(
-        program,
-        inputs,
-        registers,
-        path,
-        budget,
-        cells,
-        report,
-        Supplied::Nothing,
+        program, inputs, registers, path, budget, cells, report, None,
     )
 }
 
 // As `vebrostin_answer`, without the check.
+#[tactic(auto, using(run::proofs::Looping::code_small))]
 pub fn vebrostin_answer_unchecked(
     program: &[u8],
     inputs: &[f64],
@@ -739,21 +573,29 @@ pub fn vebrostin_answer_unchecked(
     ensures state { Settles program.now path.old cells.old report.old → Carries cells.new report.new (resume_at inputs.now program.now (length path.old) budget (some value) (state_in cells.old) registers.old) }
     ensures report { report.new ≡ report.old }
 {
-    let few = is_short(cells, report);
-    if few {
-        return SLICE_TOO_SHORT as usize;
+    if is_short(cells, report) {
+        return number(Refusal::SliceTooShort);
     }
-    let direct = is_direct(program, inputs, registers, path.len(), budget, cells, value);
-    if direct {
-        let code = word(program, CODE_AT);
+    if is_direct(program, inputs, registers, path.len(), budget, cells, value) {
         let at = cells[0] as usize;
         let to = word(program, HEADER_SIZE + SLOT_SIZE * at + 4);
         instruction::store(registers, to, value);
-        let s = run::along(program, inputs, registers, code, budget - 1, at + 1);
-        return ends(program, inputs, registers, path, cells, budget - s.left, s);
+        let next = Place {
+            at: at + 1,
+            left: budget - 1,
+        };
+        let place = run::along(program, inputs, registers, next);
+        let reply = ends(program, inputs, registers, path, budget - place.left, place);
+        return put_reply(cells, reply);
     }
-    let given = Supplied::Value(value);
     resumed_unchecked(
-        program, inputs, registers, path, budget, cells, report, given,
+        program,
+        inputs,
+        registers,
+        path,
+        budget,
+        cells,
+        report,
+        Some(value),
     )
 }

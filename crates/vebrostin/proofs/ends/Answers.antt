@@ -1,57 +1,32 @@
-use mathlib.Core.Path.{refl}
-use mathlib.Core.List.{[], ◌∷◌}
-use mathlib.Core.Option.{none}
-use native.Mathlib.Omega.{arith}
-use Rattle.machine.specs.Machine.{gives, spent}
+-- The code's end, no budget, or an instruction's only question.
+use Rattle.std.proofs.Common.{arith}
 use Rattle.layout.specs.Decode.{code_count, result_at}
-use Rattle.run.proofs.Plain.{plain_spent, plain_value}
-use Rattle.vebrostin.proofs.Outcomes.{plain_ends, plain_place}
+use Rattle.run.proofs.Plain.{plain_question, plain_spent, plain_value}
 use Rattle.vebrostin.proofs.ends.Goals as goal
 
-pub returns-then-code-s : goal.returns-then-code-s
+pub returns-then-code-place-clause-reply : goal.returns-then-code-place-clause-reply
 unfolding code_count result_at
-returns-then-code-s c =
+returns-then-code-place-clause-reply c =
     let a = c.args in
-    let question_cells = c.question_cells-none in
-    let word = c.word-code in
-    let if1 = c.if-code-s in
-    let word2 = c.word in
-    let value_at = c.value_at-value in
-    let bits_of = c.bits_of in
-    let put_plain = c.put_plain in
-    let v = value_at.result in
-    let q = question_cells.result in
-    let e =
-    plain_value a.inputs.now a.program.now a.s.left a.count a.s.at word.result a.registers.now word.ensures.0
-    word2.result v if1.true word2.ensures.0 value_at.ensures in record {
-      reply = plain_ends _ (gives v) a.count word.result none a.registers.now e 0 bits_of.result (q.question ∷ q.first ∷ q.second ∷ [])
-          a.cells.now _ refl bits_of.ensures question_cells.ensures.0 tt put_plain.ensures;
-      place = λ w. plain_place _ (gives v) a.count word.result none a.registers.now e a.path.now refl;
-    }
+    rw c.new-kept.ensures
+    (plain_value a.inputs.now a.program.now a.place.left a.count a.place.at c.word-code.result a.registers.now c.word-code.ensures.0 c.word.result c.value_at-value.result
+    c.if-code-place.true c.word.ensures.0 c.value_at-value.ensures)
 
-pub returns-then-s-eq0 : goal.returns-then-s-eq0
+pub returns-then-place-eq0-clause-reply : goal.returns-then-place-eq0-clause-reply
 unfolding code_count
-returns-then-s-eq0 c =
+returns-then-place-eq0-clause-reply c =
     let a = c.args in
-    let question_cells = c.question_cells-none in
-    let word = c.word-code in
-    let if1 = c.if-code-s in
-    let if2 = c.if-s-eq0 in
-    let put_plain2 = c.put_plain-then-s-eq0 in
-    let q = question_cells.result in
-    let e =
-    plain_spent a.inputs.now a.program.now a.s.left a.count a.s.at word.result a.registers.now word.ensures.0 if1.false
-    if2.true in record {
-      reply = plain_ends _ spent a.count a.s.at none a.registers.now e 101 0 (q.question ∷ q.first ∷ q.second ∷ []) a.cells.now _ refl refl
-          question_cells.ensures.0 tt put_plain2.ensures;
-      place = λ w. plain_place _ spent a.count a.s.at none a.registers.now e a.path.now refl;
-    }
+    rw c.new-kept.ensures
+    (plain_spent a.inputs.now a.program.now a.place.left a.count a.place.at c.word-code.result a.registers.now c.word-code.ensures.0 c.if-code-place.false c.if-place-eq0.true)
 
-pub stops-requires : goal.stops-requires
+pub question_at-requires : goal.question_at-requires
 unfolding code_count
-stops-requires c =
-    let pre = c.requires in
-    let word = c.word-code in
-    let if1 = c.if-code-s in
-    let if2 = c.if-s-eq0 in
-    (pre.0, pre.1, pre.2, omega (arith, word.ensures.0, if1.false), omega (arith, word.ensures.1, if1.false), omega (arith, if2.false))
+question_at-requires c = omega (arith, c.word-code.ensures.0, c.if-code-place.false)
+
+pub returns-in-Some-clause-reply : goal.returns-in-Some-clause-reply
+unfolding code_count
+returns-in-Some-clause-reply c =
+    let a = c.args in
+    rw c.new-kept.ensures
+    (plain_question a.inputs.now a.program.now a.place.left a.count a.place.at c.word-code.result a.registers.now c.word-code.ensures.0 c.in-Some.question c.if-code-place.false
+    c.if-place-eq0.false (c.in-Some.ensures.puts a.inputs.now))

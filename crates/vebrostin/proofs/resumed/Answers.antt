@@ -1,28 +1,25 @@
-use mathlib.Core.Path.{sym, ◌∙◌}
-use mathlib.Core.Logic.{inr}
-use lib.ListN.{length}
+-- A short slice of numbers, or bytes that are no program.
+use Rattle.std.proofs.Common.{length, sym, ◌∙◌}
 use Rattle.run.specs.Views.{supplied_of}
 use Rattle.run.proofs.Whole.{unsettled}
-use Rattle.run.proofs.Whole as whole
 use Rattle.vebrostin.proofs.Outcomes.{resume_short, resume_ten}
 use Rattle.vebrostin.proofs.resumed.Goals as goal
 
-pub returns-then-few : goal.returns-then-few
-returns-then-few c =
-    let a = c.args in let r = resume_short a.inputs.now a.program.now a.budget (supplied_of a.supplied) a.registers.now a.cells.now a.path.now a.report.now
-    (sym c.is_short-few.ensures ∙ c.if-few.true) in record { outcome = r.0; state = r.1 }
-
-pub returns-then-ok : goal.returns-then-ok
-returns-then-ok c =
+pub returns-then-is_short-clause-outcome : goal.returns-then-is_short-clause-outcome
+returns-then-is_short-clause-outcome c =
     let a = c.args in
-    let e = c.resumed_unchecked.ensures in
-    let s = inr (whole.settled a.program.now (length a.path.now) (sym c.goes_on-ok.ensures ∙ c.if-ok.true)) in record {
-      outcome = e.outcome s;
-      state = e.state s;
-    }
+    rw c.number.ensures
+    (resume_short a.inputs.now a.program.now a.budget (supplied_of a.supplied) a.registers.now a.cells.now a.path.now a.report.now (sym c.is_short.ensures ∙ c.if-is_short.true)).0
 
-pub returns : goal.returns
-returns c =
+pub returns-clause-outcome : goal.returns-clause-outcome
+returns-clause-outcome c =
     let a = c.args in
-    let u = unsettled a.program.now (length a.path.now) (sym c.goes_on-ok.ensures ∙ c.if-ok.false) in let r = resume_ten a.inputs.now a.program.now a.budget (supplied_of a.supplied) a.registers.now a.cells.now a.path.now a.report.now
-    (sym c.is_short-few.ensures ∙ c.if-few.false) u.0 u.1 in record { outcome = r.0; state = r.1 }
+    let u = unsettled a.program.now (length a.path.now) (sym c.goes_on.ensures ∙ c.if-goes_on.false) in
+    rw c.number-2.ensures
+    (resume_ten a.inputs.now a.program.now a.budget (supplied_of a.supplied) a.registers.now a.cells.now a.path.now a.report.now (sym c.is_short.ensures ∙ c.if-is_short.false) u.0 u.1).0
+
+pub returns-clause-state : goal.returns-clause-state
+returns-clause-state c =
+    let a = c.args in
+    let u = unsettled a.program.now (length a.path.now) (sym c.goes_on.ensures ∙ c.if-goes_on.false) in
+    (resume_ten a.inputs.now a.program.now a.budget (supplied_of a.supplied) a.registers.now a.cells.now a.path.now a.report.now (sym c.is_short.ensures ∙ c.if-is_short.false) u.0 u.1).1

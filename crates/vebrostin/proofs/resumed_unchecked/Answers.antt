@@ -1,45 +1,38 @@
-use mathlib.Core.Path.{refl, sym, ◌∙◌}
+-- A short slice of numbers, a refusal, or the reply's cells.
+use Rattle.std.proofs.Common.{refl, sym, ◌∙◌}
 use Rattle.run.specs.Views.{supplied_of}
-use Rattle.vebrostin.proofs.Outcomes.{apart, enough, resume_goes_on, resume_refused, resume_short, settled}
+use Rattle.vebrostin.proofs.Outcomes.{apart, resume_goes_on, resume_refused, resume_short, settled, unrefused}
 use Rattle.vebrostin.proofs.resumed_unchecked.Goals as goal
 
-pub returns-then-few : goal.returns-then-few
-returns-then-few c =
+pub returns-then-is_short-clause-outcome : goal.returns-then-is_short-clause-outcome
+returns-then-is_short-clause-outcome c =
     let a = c.args in
-    let e = resume_short a.inputs.now a.program.now a.budget (supplied_of a.supplied) a.registers.now a.cells.now a.path.now a.report.now (sym c.is_short-few.ensures ∙ c.if-few.true) in record {
-      outcome = λ s. e.0;
-      state = λ s. e.1;
-      report = refl;
-    }
+    λ s.
+    rw c.number.ensures
+    (resume_short a.inputs.now a.program.now a.budget (supplied_of a.supplied) a.registers.now a.cells.now a.path.now a.report.now (sym c.is_short.ensures ∙ c.if-is_short.true)).0
 
-pub returns-then-no : goal.returns-then-no
-returns-then-no c =
+pub returns-in-Refused-clause-outcome : goal.returns-in-Refused-clause-outcome
+returns-in-Refused-clause-outcome c =
     let a = c.args in
-    let h = sym c.is_short-few.ensures ∙ c.if-few.false in
-    let state_in = c.state_in-before in
-    let r = c.resume_unchecked-r in
-    let is_refused = c.is_refused-no in
-    let if2 = c.if-no in
-    let number_of = c.number_of in let r = apart (settled a.program.now a.path.now a.cells.now a.report.now h) (λ s.
-    resume_refused a.inputs.now a.program.now a.budget (supplied_of a.supplied) a.registers.now a.cells.now a.path.now a.report.now
-    r.result _ _ _ _ h state_in.result state_in.ensures (r.ensures.reply s) (r.ensures.place s) number_of.ensures
-    (sym is_refused.ensures ∙ if2.true) r.ensures.state refl) refl in record { outcome = r.0; state = r.1.0; report = r.1.1 }
+    let h = sym c.is_short.ensures ∙ c.if-is_short.false in
+    let before = c.state_in-before in
+    let reply = c.resume_unchecked-reply in
+    λ t.
+    let s = settled a.program.now a.path.now a.cells.now a.report.now h t in
+    (resume_refused a.inputs.now a.program.now a.budget (supplied_of a.supplied) a.registers.now a.cells.now a.path.now a.report.now reply.result _ a.cells.now _ _ h before.result
+    before.ensures (reply.ensures.reply s) (reply.ensures.place s) (rw c.in-Refused.is c.number-in-Refused.ensures) (rw c.in-Refused.is refl) reply.ensures.state refl).0
 
-pub put_reply-requires : goal.put_reply-requires
-put_reply-requires c =
-    let args = c.args in
-    enough args.cells.now args.report.now (sym c.is_short-few.ensures ∙ c.if-few.false)
-
-pub returns : goal.returns
-returns c =
+pub returns-in_default : goal.returns-in_default
+returns-in_default c =
     let a = c.args in
-    let h = sym c.is_short-few.ensures ∙ c.if-few.false in
-    let state_in = c.state_in-before in
-    let r = c.resume_unchecked-r in
-    let is_refused = c.is_refused-no in
-    let if2 = c.if-no in
-    let put_reply = c.put_reply in
-    let number_of2 = c.number_of-2 in let r = apart (settled a.program.now a.path.now a.cells.now a.report.now h) (λ s.
-    resume_goes_on a.inputs.now a.program.now a.budget (supplied_of a.supplied) a.registers.now a.cells.now a.path.now a.report.now
-    r.result _ _ _ _ h state_in.result state_in.ensures (r.ensures.reply s) (r.ensures.place s) number_of2.ensures
-    (sym is_refused.ensures ∙ if2.false) put_reply.ensures.cells put_reply.ensures.state) refl in record { outcome = r.0; state = r.1.0; report = r.1.1 }
+    let h = sym c.is_short.ensures ∙ c.if-is_short.false in
+    let before = c.state_in-before in
+    let reply = c.resume_unchecked-reply in
+    let put = c.put_reply.ensures in
+    let r =
+    apart (settled a.program.now a.path.now a.cells.now a.report.now h)
+    (λ s.
+    resume_goes_on a.inputs.now a.program.now a.budget (supplied_of a.supplied) a.registers.now a.cells.now a.path.now a.report.now reply.result _ _ _ _ h before.result before.ensures
+    (reply.ensures.reply s) (reply.ensures.place s) put.number (unrefused reply.result.answer c.in_default.not-Refused) put.cells put.state)
+    refl in
+    record { outcome = r.0; state = r.1.0; report = r.1.1 }

@@ -1,0 +1,8 @@
+use Rattle.std.proofs.Common.{◌≡◌, ◌∷◌, [], ◌++◌, length, take}
+use Rattle.vebrostin.specs.Cells.{Held, padded}
+use Rattle.vebrostin.proofs.put.Given as goal
+
+abbrev pub invariant-loop-i : goal.invariant-loop-i
+invariant-loop-i l =
+    (l.row ≡ l.fn.state.position ∷ length l.values ∷ padded 9 (take l.i l.values) ++ (l.question ∷ l.first ∷ l.second ∷ l.count ∷ l.value ∷ []))
+    × Held (take l.i l.values)
