@@ -244,7 +244,7 @@ fn end_of(b: &[u8], at: usize, levels: usize) -> Option<usize>
     ensures { result ≡ end_at b.now at levels }
 {
     let below = levels.checked_sub(1)?;
-    let children = half(b, at + 2);
+    let children = known_half(b, at + 2);
     let mut end = at + NODE_SIZE;
     for child in 0..children {
         end = end_of(b, end, below)?;

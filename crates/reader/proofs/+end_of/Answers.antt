@@ -15,7 +15,7 @@ overflow_add-end t c = omega (arith, node_inside c.args.b.now c.args.at c.args.l
 
 pub loop-child-init : goal.loop-child-init
 loop-child-init t c =
-    level_start c.args.b.now c.args.at c.args.levels c.requires (c.half-children.result - 0) c.in_ok-below.below (omega (arith, c.half-children.ensures.0))
+    level_start c.args.b.now c.args.at c.args.levels c.requires (c.known_half-children.result - 0) c.in_ok-below.below (omega (arith, c.known_half-children.ensures.0))
     (omega (arith, c.in_ok-below.ensures))
 
 pub end_of-requires : goal.end_of-requires
@@ -30,8 +30,11 @@ returns-in_err-end t c =
 pub loop-child-preserved : goal.loop-child-preserved
 loop-child-preserved t c =
     let loop = c.loop-child in
-    level_next _ _ _ _ _ _ loop.invariant (λ e. omega (arith, c.loop-child-test.true)) (c.half-children.result - (loop.child + 1)) c.in_ok-end.end (omega arith)
+    level_next _ _ _ _ _ _ loop.invariant (λ e. omega (arith, c.loop-child-test.true)) (c.known_half-children.result - (loop.child + 1)) c.in_ok-end.end (omega arith)
     c.in_ok-end.ensures
 
 pub returns : goal.returns
 returns t c = level_end _ _ _ _ _ _ c.loop-child.invariant (omega (arith, c.loop-child-test.false))
+
+pub known_half-children-requires : goal.known_half-children-requires
+known_half-children-requires t c = omega (arith, node_inside c.args.b.now c.args.at c.args.levels c.requires)
