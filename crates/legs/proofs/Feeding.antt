@@ -10,7 +10,7 @@ use Rattle.lines.specs.Owed.{Memory}
 use Rattle.lines.specs.Calls.{Feedable}
 use Rattle.lines.proofs.Compose.{advances_none, advances_then, stands_after}
 use Rattle.lines.proofs.Feeding.{Feeding, SameLengths, feeding_end, part_long, same_start, same_then}
-use Rattle.legs.specs.declared.Fed.TheVariants.{On}
+use Rattle.std.specs.Prelude.{Ok}
 use Rattle.legs.specs.Fed.{FeedableAll, Feeds, FeedsAll}
 
 pub mid_long : (at : ℕ) (xs : List ℕ) → length (mid_of at (length xs - at) xs) ≡ length xs - at
@@ -18,7 +18,7 @@ mid_long at xs = part_long at (length xs) xs (omega arith)
 
 -- a whole block was used
 pub feeds : (formula input : List ℕ) (m : Memory) (s : Stage) (out : List ℕ) (at : ℕ) (m' : Memory) (s' : Stage) (out' text : List ℕ) → Feeding formula input m s out at m' s' out' text
-    → length input ≤ at → Feeds formula m s input m' (On s')
+    → length input ≤ at → Feeds formula m s input m' (Ok s')
 feeds formula input m s out at m' s' out' text g h =
     (text, feeding_end formula input m s out at m' s' out' text g h)
 
@@ -26,7 +26,7 @@ feeds formula input m s out at m' s' out' text g h =
 pub record FeedingAll (formula block : List ℕ) (m : Memory) (s : Stage) (out : List ℕ) (block' : List ℕ) (m' : Memory) (s' : Stage) (out' : List ℕ) : Type 0 where
   pub same_block : length block' ≡ length block
   pub same : SameLengths m out m' out'
-  pub fed : FeedsAll formula m s m' (On s')
+  pub fed : FeedsAll formula m s m' (Ok s')
 
 module _ (formula block : List ℕ) (m : Memory) (s : Stage) (out : List ℕ) (f : FeedableAll formula block m s out) where
   pub all_start : FeedingAll formula block m s out block m s out
@@ -41,7 +41,7 @@ module _ (formula block : List ℕ) (m : Memory) (s : Stage) (out : List ℕ) (f
           room = let o = g.same.output in let p = f.room in omega arith;
         }
 
-    pub all_step : (read : List ℕ) (n : ℕ) (m'' : Memory) (s'' : Stage) (out'' : List ℕ) → length read ≡ length block' → SameLengths m' out' m'' out'' → Feeds formula m' s' (take n read) m'' (On s'')
+    pub all_step : (read : List ℕ) (n : ℕ) (m'' : Memory) (s'' : Stage) (out'' : List ℕ) → length read ≡ length block' → SameLengths m' out' m'' out'' → Feeds formula m' s' (take n read) m'' (Ok s'')
         → FeedingAll formula block m s out read m'' s'' out''
     all_step read n m'' s'' out'' l e y =
         let x = g.fed in

@@ -1,3 +1,2 @@
 -- What `legs` reads.
-pub mod File
 pub mod Fed

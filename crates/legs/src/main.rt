@@ -1,68 +1,62 @@
 #![tactic(auto)]
 // Runs a formula on lines of values: `formula.bin` in the current folder, the name line and the lines of values on standard
 // input, a line for each on standard output. What is printed is what `lines` gives; here it is only read and written.
-ghost use Rattle.std.specs.Prelude.{◌≤◌, length};
-ghost use Rattle.lines.specs.Calls.{Feedable};
-ghost use Rattle.lines.specs.Owed.{memory};
+ghost use Rattle.std.specs.Prelude.{◌≡◌, ◌≤◌, length, IfSome, IfErr};
+ghost use Rattle.lines.specs.Calls.{Feedable, SameSlices, held};
 ghost use Rattle.legs.specs.Fed.{FeedableAll, Feeds, FeedsAll, Lent};
-ghost use Rattle.legs.specs.File.{Within};
 
-use lines::Stage;
+use lines::{Memory, Stage};
 use std::fs;
 use std::io::{Read, Stdin, Stdout};
 use std::rt::Files;
 
-// A file's bytes, as many as the slice holds, or none if it can't be read.
-#[derive(Drop)]
-enum File {
-    Bytes(usize),
-    Unreadable,
-}
+// The most blocks that are read. A proved loop has to end; no run uses this number up.
+const BLOCK_LIMIT: u64 = 0xffff_ffff_ffff;
 
-// One call of read.
-fn read_once(from: &mut impl Read, buf: &mut [u8]) -> File
-    ensures { Within result (length buf.old) }
+// One call of read: how many bytes came, or none where the file can't be read.
+fn read_once(from: &mut impl Read, buf: &mut [u8]) -> Option<usize>
+    ensures { IfSome result (λ n. n ≤ length buf.old) }
 {
-    match from.read(buf) {
-        Ok(n) => File::Bytes(n),
-        Err(_) => File::Unreadable,
-    }
+    from.read(buf).ok()
 }
 
-fn read_all(from: &mut impl Read, buf: &mut [u8]) -> File
-    ensures { Within result (length buf.old) }
+// A file's bytes, as many as the slice holds, or none where it can't be read.
+fn read_all(from: &mut impl Read, buf: &mut [u8]) -> Option<usize>
+    ensures { IfSome result (λ n. n ≤ length buf.old) }
 {
     let mut at = 0;
     while at < buf.len() {
-        let read = read_once(from, &mut buf[at..]);
-        let File::Bytes(n) = read else {
-            return File::Unreadable;
-        };
+        let n = read_once(from, &mut buf[at..])?;
         if n == 0 {
-            return File::Bytes(at);
+            break;
         }
         at += n;
     }
-    File::Bytes(at)
+    Some(at)
 }
 
 // The slice has a byte more than a formula file may have, so that a longer file is told from it.
-fn read_file(rt: &impl Files, path: &str, buf: &mut [u8]) -> File
+fn read_file(rt: &impl Files, path: &str, buf: &mut [u8]) -> Option<usize>
     requires { 4097 ≤ length buf.old }
-    ensures { Within result (length buf.old) }
+    ensures { IfSome result (λ n. n ≤ length buf.old) }
 {
-    let Ok(mut file) = fs::open(rt, path) else {
-        return File::Unreadable;
-    };
+    let mut file = fs::open(rt, path).ok()?;
     read_all(&mut file, buf)
 }
 
-// The stage after a part of the input; or a write failed; or 2^48 - 1 blocks were read and the input has not ended.
-#[derive(Drop)]
-enum Fed {
-    On(Stage),
+// Why a listing stops before its end: a write failed, or as many blocks were read as are counted.
+#[derive(Clone, Copy)]
+enum Stop {
     Closed,
     TooLong,
+}
+
+// Writes the first bytes of the output.
+fn print(mut stdout: Stdout, out: &[u8], n: usize) -> Result<(), Stop>
+    requires { n ≤ length out.now }
+    ensures { IfErr result (λ stop. stop ≡ Stop.Closed) }
+{
+    stdout.write_all(&out[..n]).map_err(|_| Stop::Closed)
 }
 
 // Hands a block of input on, part by part, and prints what came of each. All of it is used, unless a write fails.
@@ -71,92 +65,50 @@ fn feed(
     formula: &[u8],
     input: &[u8],
     start: Stage,
-    names: &mut [u8],
-    path: &mut [u8],
-    program: &mut [u8],
-    values: &mut [f64],
-    regs: &mut [f64],
-    out: &mut [u8],
-) -> Fed
-    requires { Feedable formula.now (memory names.old path.old program.old values.old regs.old) start out.old }
-    ensures { Feeds formula.now (memory names.old path.old program.old values.old regs.old) start input.now (memory names.new path.new program.new values.new regs.new) result }
+    memory: &mut Memory,
+) -> Result<Stage, Stop>
+    requires { Feedable formula.now (held memory.old) start memory.old.out.now }
+    ensures feeds { Feeds formula.now (held memory.old) start input.now (held memory.new) result }
+    ensures slices { SameSlices memory.old memory.new }
 {
     let mut stage = start;
     let mut at = 0;
     while at < input.len() {
-        let r = lines::advance(
-            formula,
-            &input[at..],
-            stage,
-            names,
-            path,
-            program,
-            values,
-            regs,
-            out,
-        );
-        let length = r.length;
-        let written = stdout.write_all(&out[..length]);
-        if written.is_err() {
-            return Fed::Closed;
-        }
-        at += r.used;
-        stage = r.stage;
+        let advanced = lines::advance(formula, &input[at..], stage, memory);
+        let out = &mut *memory.out;
+        print(stdout, out, advanced.length)?;
+        at += advanced.used;
+        stage = advanced.stage;
     }
-    Fed::On(stage)
+    Ok(stage)
 }
 
 // Hands on standard input, up to its end or to where the rest of it changes nothing: after a refusal, and after the last line
-// that is listed. A proved loop has to end, so it counts its turns down from a number that no run uses up. That the bytes come from
-// `read` and go to `write` no contract can say.
+// that is listed. That the bytes come from `read` and go to `write` no contract can say.
 fn feed_all(
     mut stdin: Stdin,
     stdout: Stdout,
     formula: &[u8],
     block: &mut [u8],
     start: Stage,
-    names: &mut [u8],
-    path: &mut [u8],
-    program: &mut [u8],
-    values: &mut [f64],
-    regs: &mut [f64],
-    out: &mut [u8],
-) -> Fed
-    requires { FeedableAll formula.now block.old (memory names.old path.old program.old values.old regs.old) start out.old }
-    ensures { FeedsAll formula.now (memory names.old path.old program.old values.old regs.old) start (memory names.new path.new program.new values.new regs.new) result }
+    memory: &mut Memory,
+) -> Result<Stage, Stop>
+    requires { FeedableAll formula.now block.old (held memory.old) start memory.old.out.now }
+    ensures feeds { FeedsAll formula.now (held memory.old) start (held memory.new) result }
+    ensures slices { SameSlices memory.old memory.new }
 {
     let mut stage = start;
-    let mut turns: u64 = 0xffff_ffff_ffff;
-    while turns > 0 {
+    for _ in 0..BLOCK_LIMIT {
         if lines::is_finished(stage) {
-            return Fed::On(stage);
+            return Ok(stage);
         }
-        let read = read_once(&mut stdin, block);
-        let File::Bytes(n) = read else {
-            return Fed::On(stage);
-        };
+        let n = read_once(&mut stdin, block).unwrap_or(0);
         if n == 0 {
-            return Fed::On(stage);
+            return Ok(stage);
         }
-        let fed = feed(
-            stdout,
-            formula,
-            &block[..n],
-            stage,
-            names,
-            path,
-            program,
-            values,
-            regs,
-            out,
-        );
-        let Fed::On(next) = fed else {
-            return Fed::Closed;
-        };
-        stage = next;
-        turns -= 1;
+        stage = feed(stdout, formula, &block[..n], stage, memory)?;
     }
-    Fed::TooLong
+    Err(Stop::TooLong)
 }
 
 // Prints the listing. The memory that it is lent is as large as the output needs it to be.
@@ -166,30 +118,17 @@ fn list(
     readable: bool,
     formula: &[u8],
     block: &mut [u8],
-    names: &mut [u8],
-    path: &mut [u8],
-    program: &mut [u8],
-    values: &mut [f64],
-    regs: &mut [f64],
-    out: &mut [u8],
-)
-    requires { Lent block.old (memory names.old path.old program.old values.old regs.old) out.old }
+    memory: &mut Memory,
+) -> Result<(), Stop>
+    requires { Lent block.old (held memory.old) memory.old.out.now }
 {
-    let b = lines::start(readable, formula, out);
-    let n = b.length;
-    let stage = b.stage;
-    let written = stdout.write_all(&out[..n]);
-    if written.is_err() {
-        return;
-    }
-    let fed = feed_all(
-        stdin, stdout, formula, block, stage, names, path, program, values, regs, out,
-    );
-    let Fed::On(last) = fed else {
-        return;
-    };
-    let m = lines::finish(formula, last, names, path, program, values, regs, out);
-    let _ = stdout.write_all(&out[..m]);
+    let out = &mut *memory.out;
+    let begun = lines::start(readable, formula, out);
+    print(stdout, out, begun.length)?;
+    let last = feed_all(stdin, stdout, formula, block, begun.stage, memory)?;
+    let length = lines::finish(formula, last, memory);
+    let out = &mut *memory.out;
+    print(stdout, out, length)
 }
 
 fn main(rt: HostRuntime) {
@@ -201,33 +140,22 @@ fn main(rt: HostRuntime) {
     let mut values = [0.0; 256];
     let mut regs = [0.0; 1276];
     let mut out = [0u8; 65536];
+    let mut memory = Memory {
+        names: &mut names,
+        path: &mut path,
+        program: &mut program,
+        values: &mut values,
+        regs: &mut regs,
+        out: &mut out,
+    };
     let file = read_file(&rt, "formula.bin", &mut formula);
-    match file {
-        File::Bytes(n) => list(
-            rt.stdin(),
-            rt.stdout(),
-            true,
-            &formula[..n],
-            &mut block,
-            &mut names,
-            &mut path,
-            &mut program,
-            &mut values,
-            &mut regs,
-            &mut out,
-        ),
-        File::Unreadable => list(
-            rt.stdin(),
-            rt.stdout(),
-            false,
-            &formula[..0],
-            &mut block,
-            &mut names,
-            &mut path,
-            &mut program,
-            &mut values,
-            &mut regs,
-            &mut out,
-        ),
-    }
+    let n = file.unwrap_or(0);
+    let _ = list(
+        rt.stdin(),
+        rt.stdout(),
+        file.is_some(),
+        &formula[..n],
+        &mut block,
+        &mut memory,
+    );
 }

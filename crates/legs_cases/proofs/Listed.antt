@@ -16,7 +16,7 @@ use Rattle.lines.specs.Calls.{Advancing}
 use Rattle.lines.proofs.Compose.{whole_output}
 use Rattle.lines.proofs.Feeding.{Feeding, SameLengths, feeding_advances, feeding_end, feeding_start, feeding_step}
 use Rattle.lines.proofs.Texts.{wrote_then}
-use Rattle.legs_cases.specs.declared.Listing.{Listing}
+use Rattle.std.specs.Prelude.{Option, Some, None}
 use Rattle.legs_cases.specs.declared.Fed.{Fed}
 use Rattle.legs_cases.specs.Listed.{Copies, FeedsAll, Fits, Lists}
 
@@ -41,7 +41,7 @@ module _ (formula input : List ℕ) (m : Memory) (s : Stage) (out all : List ℕ
     (g : Gathering formula input m s out all from at m' s' out' all' len) where
   module _ (end : ℕ) (h : end ≤ length input) (r : Advanced) (m'' : Memory) (out'' all'' : List ℕ) (a : Advancing formula (mid_of at (end - at) input) m' s' out' r m'' out'')
       (same : SameLengths m' out' m'' out'') where
-    pub gathering_step : at ≤ end → length all'' ≡ length all' → (n : ℕ) → Copies all' len out'' r.length (Listing.Length n) all''
+    pub gathering_step : at ≤ end → length all'' ≡ length all' → (n : ℕ) → Copies all' len out'' r.length (Some n) all''
         → Gathering formula input m s out all from (at + r.used) m'' r.stage out'' all'' n
     gathering_step k l n z =
         let x = take r.length out'' in
@@ -57,7 +57,7 @@ module _ (formula input : List ℕ) (m : Memory) (s : Stage) (out all : List ℕ
         }
 
     -- what is owed does not fit
-    pub gathering_full : Copies all' len out'' r.length Listing.NoRoom all'' → FeedsAll formula m s input m'' all from Fed.NoRoom all''
+    pub gathering_full : Copies all' len out'' r.length None all'' → FeedsAll formula m s input m'' all from None all''
     gathering_full z f o =
         let x = take r.length out'' in
         let t = g.text in
@@ -73,7 +73,7 @@ module _ (formula input : List ℕ) (m : Memory) (s : Stage) (out all : List ℕ
           wrote = record { ends = refl; stands = z.0 ∙ g.fits.wrote.stands };
         }
 
-  pub gathering_end : length input ≤ at → FeedsAll formula m s input m' all from (Fed.On s' len) all'
+  pub gathering_end : length input ≤ at → FeedsAll formula m s input m' all from (Some (record { stage = s'; length = len })) all'
   gathering_end h = (g.text, feeding_end formula input m s out at m' s' out' g.text g.fed h, g.fits)
 
 -- ---- the whole
@@ -81,7 +81,7 @@ module _ (formula input : List ℕ) (m : Memory) (s : Stage) (out all : List ℕ
 module _ (readable : Bool) (formula input : List ℕ) (m : Memory) (s : Stage) (all o₁ : List ℕ) (k₁ : ℕ) (a₁ : List ℕ) (roomy : Roomy m) (b : Begins readable formula s (take k₁ o₁))
     (short : k₁ ≤ length o₁) where
   -- the header does not fit
-  pub listed_none : Copies all 0 o₁ k₁ Listing.NoRoom a₁ → Lists readable formula input all Listing.NoRoom a₁
+  pub listed_none : Copies all 0 o₁ k₁ None a₁ → Lists readable formula input all None a₁
   listed_none z =
       let x = take k₁ o₁ in
       let y = b m roomy in
@@ -95,9 +95,9 @@ module _ (readable : Bool) (formula input : List ℕ) (m : Memory) (s : Stage) (
         wrote = record { ends = refl; stands = z.0 ∙ sym (over_nil all 0) };
       }
 
-  module _ (n₁ : ℕ) (c : Copies all 0 o₁ k₁ (Listing.Length n₁) a₁) (l₁ : length a₁ ≡ length all) where
+  module _ (n₁ : ℕ) (c : Copies all 0 o₁ k₁ (Some n₁) a₁) (l₁ : length a₁ ≡ length all) where
     -- what came of the input does not fit
-    pub listed_some : (m' : Memory) (a₂ : List ℕ) → FeedsAll formula m s input m' a₁ n₁ Fed.NoRoom a₂ → Lists readable formula input all Listing.NoRoom a₂
+    pub listed_some : (m' : Memory) (a₂ : List ℕ) → FeedsAll formula m s input m' a₁ n₁ None a₂ → Lists readable formula input all None a₂
     listed_some m' a₂ f =
         let x = take k₁ o₁ in
         let y = b m roomy in
@@ -113,28 +113,28 @@ module _ (readable : Bool) (formula input : List ℕ) (m : Memory) (s : Stage) (
         }
 
     -- what `finish` wrote comes last
-    module _ (m' : Memory) (s' : Stage) (a₂ : List ℕ) (n₂ : ℕ) (f : FeedsAll formula m s input m' a₁ n₁ (Fed.On s' n₂) a₂) (l₂ : length a₂ ≡ length a₁) (o₃ : List ℕ) (k₃ : ℕ)
-        (short₃ : k₃ ≤ length o₃) (e : Ends formula m' s' (take k₃ o₃)) where
-      so_far : Fits all 0 (take k₁ o₁ ++ f.0) a₂ n₂
+    module _ (m' : Memory) (fd : Fed) (a₂ : List ℕ) (f : FeedsAll formula m s input m' a₁ n₁ (Some fd) a₂) (l₂ : length a₂ ≡ length a₁) (o₃ : List ℕ) (k₃ : ℕ)
+        (short₃ : k₃ ≤ length o₃) (e : Ends formula m' fd.stage (take k₃ o₃)) where
+      so_far : Fits all 0 (take k₁ o₁ ++ f.0) a₂ fd.length
       so_far =
           record {
-            wrote = wrote_then all 0 (take k₁ o₁) a₁ n₁ f.0 a₂ n₂ c.room c.wrote f.2.wrote;
+            wrote = wrote_then all 0 (take k₁ o₁) a₁ n₁ f.0 a₂ fd.length c.room c.wrote f.2.wrote;
             room = let v = f.2.room in omega arith;
           }
 
       whole : legs (file_of readable formula) input ≡ (take k₁ o₁ ++ f.0) ++ take k₃ o₃
       whole =
-          whole_output readable formula m m' s s' input (take k₁ o₁) f.0 (take k₃ o₃) roomy b f.1 e
+          whole_output readable formula m m' s fd.stage input (take k₁ o₁) f.0 (take k₃ o₃) roomy b f.1 e
           ∙ sym (append_assoc (take k₁ o₁) f.0 (take k₃ o₃))
 
-      pub listed_by : (r : Listing) (a₃ : List ℕ) → Copies a₂ n₂ o₃ k₃ r a₃ → Lists readable formula input all r a₃
-      listed_by (Listing.Length n₃) a₃ d =
+      pub listed_by : (r : Option ℕ) (a₃ : List ℕ) → Copies a₂ fd.length o₃ k₃ r a₃ → Lists readable formula input all r a₃
+      listed_by (Some n₃) a₃ d =
           subst (λ (xs : List ℕ). Fits all 0 xs a₃ n₃) (sym whole)
           (record {
-            wrote = wrote_then all 0 (take k₁ o₁ ++ f.0) a₂ n₂ (take k₃ o₃) a₃ n₃ so_far.room so_far.wrote d.wrote;
+            wrote = wrote_then all 0 (take k₁ o₁ ++ f.0) a₂ fd.length (take k₃ o₃) a₃ n₃ so_far.room so_far.wrote d.wrote;
             room = let v = d.room in omega arith;
           })
-      listed_by Listing.NoRoom a₃ d =
+      listed_by None a₃ d =
           let l = length-take-le k₃ o₃ short₃ in
           let q = so_far.wrote.ends in
           let v = d.1 in

@@ -1,10 +1,9 @@
 -- A whole listing, put together from what `start`, `advance` and `finish` wrote.
-use Rattle.std.specs.Prelude.{◌≡◌, Bool, List, ◌++◌, ℕ, ◌+◌, ◌≤◌, ◌<◌, length, take}
+use Rattle.std.specs.Prelude.{Option, Some, None, ◌≡◌, Bool, List, ◌++◌, ℕ, ◌+◌, ◌≤◌, ◌<◌, length, take}
 use Rattle.listing.specs.Legs.{legs}
 use Rattle.lines.specs.declared.Stage.{Stage}
 use Rattle.lines.specs.Text.{Wrote}
 use Rattle.lines.specs.Owed.{Advances, Memory, Owed, file_of}
-use Rattle.legs_cases.specs.declared.Listing.{Listing}
 use Rattle.legs_cases.specs.declared.Fed.{Fed}
 
 -- all of a text stands in the slice from a place on
@@ -20,16 +19,16 @@ pub record TooLong (all : List ℕ) (from : ℕ) (text all' : List ℕ) : Type 0
   pub parts : text ≡ first ++ rest
   pub wrote : Wrote all from first all' (from + length first)
 
-abbrev pub Copies : List ℕ → ℕ → List ℕ → ℕ → Listing → List ℕ → Type 0
-Copies all at out n (Listing.Length m) all' = Fits all at (take n out) all' m
-Copies all at out n Listing.NoRoom all' = (all' ≡ all) × (length all < at + n)
+abbrev pub Copies : List ℕ → ℕ → List ℕ → ℕ → Option ℕ → List ℕ → Type 0
+Copies all at out n (Some m) all' = Fits all at (take n out) all' m
+Copies all at out n None all' = (all' ≡ all) × (length all < at + n)
 
 -- what came of all of the input stands in the whole output from a place on; or what is owed for it is too long
-abbrev pub FeedsAll : List ℕ → Memory → Stage → List ℕ → Memory → List ℕ → ℕ → Fed → List ℕ → Type 0
-FeedsAll formula m s input m' all from (Fed.On s' n) all' = (text : List ℕ) × Advances formula m s input m' s' text × Fits all from text all' n
-FeedsAll formula m s input m' all from Fed.NoRoom all' = (g : List ℕ → List ℕ) → Owed formula m s g → TooLong all from (g input) all'
+abbrev pub FeedsAll : List ℕ → Memory → Stage → List ℕ → Memory → List ℕ → ℕ → Option Fed → List ℕ → Type 0
+FeedsAll formula m s input m' all from (Some f) all' = (text : List ℕ) × Advances formula m s input m' f.stage text × Fits all from text all' f.length
+FeedsAll formula m s input m' all from None all' = (g : List ℕ → List ℕ) → Owed formula m s g → TooLong all from (g input) all'
 
 -- the whole output is the definition's, just where it fits
-abbrev pub Lists : Bool → List ℕ → List ℕ → List ℕ → Listing → List ℕ → Type 0
-Lists readable formula input all (Listing.Length n) all' = Fits all 0 (legs (file_of readable formula) input) all' n
-Lists readable formula input all Listing.NoRoom all' = TooLong all 0 (legs (file_of readable formula) input) all'
+abbrev pub Lists : Bool → List ℕ → List ℕ → List ℕ → Option ℕ → List ℕ → Type 0
+Lists readable formula input all (Some n) all' = Fits all 0 (legs (file_of readable formula) input) all' n
+Lists readable formula input all None all' = TooLong all 0 (legs (file_of readable formula) input) all'

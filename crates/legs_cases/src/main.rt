@@ -6,38 +6,30 @@
 // length of a block, and the lengths of file, input and output. Then come these bytes. Numbers have 4 bytes, the least first.
 ghost use Rattle.std.specs.Prelude.{◌+◌, ◌≤◌, ◌<◌, length};
 ghost use Rattle.legs_cases.specs.Listed.{Copies, FeedsAll, Lists};
-ghost use Rattle.lines.specs.Calls.{Feedable};
-ghost use Rattle.lines.specs.Owed.{Roomy, memory};
+ghost use Rattle.lines.specs.Calls.{Feedable, SameSlices, held};
+ghost use Rattle.lines.specs.Owed.{Roomy};
 
-use cases::{Tally, cut, holds, plus, say};
-use lines::Stage;
+use cases::Record;
+use lines::{Memory, Stage};
 use std::io;
-use std::io::Stdout;
 use writer::put_bytes;
 
-// The length of the whole output; or it is longer than the slice for it.
-#[derive(Drop)]
-enum Listing {
-    Length(usize),
-    NoRoom,
-}
-
-// Adds the first bytes of the output to the whole.
-fn add(all: &mut [u8], at: usize, out: &[u8], n: usize) -> Listing
+// Adds the first bytes of the output to the whole, and says how long it is then; none where there is no room for them.
+fn add(all: &mut [u8], at: usize, out: &[u8], n: usize) -> Option<usize>
     requires { (n ≤ length out.now) × (at ≤ length all.old) }
     ensures { Copies all.old at out.now n result all.new }
 {
     if all.len() - at < n {
-        return Listing::NoRoom;
+        return None;
     }
-    Listing::Length(put_bytes(all, at, &out[..n]))
+    Some(put_bytes(all, at, &out[..n]))
 }
 
 // The stage after all of the input, and the length of the whole output so far.
-#[derive(Drop)]
-enum Fed {
-    On(Stage, usize),
-    NoRoom,
+#[derive(Clone, Copy)]
+struct Fed {
+    stage: Stage,
+    length: usize,
 }
 
 // The end of the block that begins at a byte. A block has one byte at least.
@@ -45,58 +37,36 @@ fn block_end(at: usize, block: usize, length: usize) -> usize
     requires { at < length }
     ensures { (at < result) × (result ≤ length) }
 {
-    if block == 0 {
-        return at + 1;
-    }
-    if length - at < block {
-        return length;
-    }
-    at + block
+    at + block.clamp(1, length - at)
 }
 
-// Hands the input on in blocks, each from the first byte that was not used.
+// Hands the input on in blocks, each from the first byte that was not used; none where the whole output has no room for what
+// came of it.
 fn feed(
     formula: &[u8],
     input: &[u8],
     block: usize,
     start: Stage,
-    names: &mut [u8],
-    path: &mut [u8],
-    program: &mut [u8],
-    values: &mut [f64],
-    regs: &mut [f64],
-    out: &mut [u8],
+    memory: &mut Memory,
     all: &mut [u8],
     from: usize,
-) -> Fed
-    requires { Feedable formula.now (memory names.old path.old program.old values.old regs.old) start out.old × (from ≤ length all.old) }
-    ensures { FeedsAll formula.now (memory names.old path.old program.old values.old regs.old) start input.now (memory names.new path.new program.new values.new regs.new) all.old from result all.new }
+) -> Option<Fed>
+    requires { Feedable formula.now (held memory.old) start memory.old.out.now × (from ≤ length all.old) }
+    ensures feeds { FeedsAll formula.now (held memory.old) start input.now (held memory.new) all.old from result all.new }
+    ensures slices { SameSlices memory.old memory.new }
 {
     let mut stage = start;
     let mut at = 0;
     let mut length = from;
     while at < input.len() {
         let end = block_end(at, block, input.len());
-        let r = lines::advance(
-            formula,
-            &input[at..end],
-            stage,
-            names,
-            path,
-            program,
-            values,
-            regs,
-            out,
-        );
-        let added = add(all, length, out, r.length);
-        let Listing::Length(n) = added else {
-            return Fed::NoRoom;
-        };
-        length = n;
-        at += r.used;
-        stage = r.stage;
+        let advanced = lines::advance(formula, &input[at..end], stage, memory);
+        let out = &mut *memory.out;
+        length = add(all, length, out, advanced.length)?;
+        at += advanced.used;
+        stage = advanced.stage;
     }
-    Fed::On(stage, length)
+    Some(Fed { stage, length })
 }
 
 // Lists a whole input: what `start` gave, what `advance` gave for each block, and what `finish` gave, one after another.
@@ -105,36 +75,24 @@ fn list_in(
     formula: &[u8],
     input: &[u8],
     block: usize,
-    names: &mut [u8],
-    path: &mut [u8],
-    program: &mut [u8],
-    values: &mut [f64],
-    regs: &mut [f64],
-    out: &mut [u8],
+    memory: &mut Memory,
     all: &mut [u8],
-) -> Listing
-    requires { Roomy (memory names.old path.old program.old values.old regs.old) × (8353 ≤ length out.old) }
+) -> Option<usize>
+    requires { Roomy (held memory.old) × (8353 ≤ length memory.old.out.now) }
     ensures { Lists readable formula.now input.now all.old result all.new }
 {
-    let b = lines::start(readable, formula, out);
-    let first = add(all, 0, out, b.length);
-    let Listing::Length(n) = first else {
-        return Listing::NoRoom;
-    };
-    let stage = b.stage;
-    let fed = feed(
-        formula, input, block, stage, names, path, program, values, regs, out, all, n,
-    );
-    let Fed::On(last, m) = fed else {
-        return Listing::NoRoom;
-    };
-    let length = lines::finish(formula, last, names, path, program, values, regs, out);
-    add(all, m, out, length)
+    let out = &mut *memory.out;
+    let begun = lines::start(readable, formula, out);
+    let first = add(all, 0, out, begun.length)?;
+    let fed = feed(formula, input, block, begun.stage, memory, all, first)?;
+    let length = lines::finish(formula, fed.stage, memory);
+    let out = &mut *memory.out;
+    add(all, fed.length, out, length)
 }
 
 // The same with memory of its own: what it gives is the definition's whole output, for any input and any length of block, just
 // where it fits.
-fn list(readable: bool, formula: &[u8], input: &[u8], block: usize, all: &mut [u8]) -> Listing
+fn list(readable: bool, formula: &[u8], input: &[u8], block: usize, all: &mut [u8]) -> Option<usize>
     ensures { Lists readable formula.now input.now all.old result all.new }
 {
     let mut names = [0u8; 17152];
@@ -143,76 +101,42 @@ fn list(readable: bool, formula: &[u8], input: &[u8], block: usize, all: &mut [u
     let mut values = [0.0; 256];
     let mut regs = [0.0; 1276];
     let mut out = [0u8; 16384];
-    list_in(
-        readable,
-        formula,
-        input,
-        block,
-        &mut names,
-        &mut path,
-        &mut program,
-        &mut values,
-        &mut regs,
-        &mut out,
-        all,
-    )
+    let mut memory = Memory {
+        names: &mut names,
+        path: &mut path,
+        program: &mut program,
+        values: &mut values,
+        regs: &mut regs,
+        out: &mut out,
+    };
+    list_in(readable, formula, input, block, &mut memory, all)
 }
 
 // ---- the record
 
-// Whether the output of the case is as recorded.
-fn is_same(b: &[u8], from: usize, middle: usize, end: usize, at: usize) -> bool {
-    if middle < from {
-        return false;
-    }
-    if end < middle {
-        return false;
-    }
-    if b.len() < end {
-        return false;
-    }
+// Whether the output of the next case is as recorded, and none where the record ends before it.
+fn as_recorded(record: &mut Record) -> Option<bool> {
+    let readable = record.word() == 1;
+    let block = record.word();
+    let formula = record.word();
+    let input = record.word();
+    let output = record.word();
+    let formula = record.bytes(formula)?;
+    let input = record.bytes(input)?;
+    let output = record.bytes(output)?;
     let mut all = [0u8; 65536];
-    let block = reader::word(b, plus(at, 4));
-    let readable = reader::word(b, at) == 1;
-    let listed = list(readable, &b[from..middle], &b[middle..end], block, &mut all);
-    let Listing::Length(n) = listed else {
-        return false;
-    };
-    let n = cut(n, 65536);
-    n == reader::word(b, plus(at, 16)) && holds(&all[0..n], b, end, n, 0)
+    let n = list(readable, formula, input, block, &mut all)?;
+    Some(all.get(..n)? == output)
 }
 
-fn case_at(b: &[u8], at: usize) -> bool {
-    let from = plus(at, 20);
-    let middle = plus(from, reader::word(b, plus(at, 8)));
-    let end = plus(middle, reader::word(b, plus(at, 12)));
-    is_same(b, from, middle, end, at)
-}
-
-// Where the next case begins.
-fn next(b: &[u8], at: usize) -> usize {
-    let input = plus(plus(at, 20), reader::word(b, plus(at, 8)));
-    let output = plus(input, reader::word(b, plus(at, 12)));
-    plus(output, reader::word(b, plus(at, 16)))
-}
-
-fn all_cases(stdout: Stdout, b: &[u8], count: usize) -> io::Result<Tally> {
-    let mut t = cases::begin();
-    let mut at = 4;
-    let mut i = 0;
-    while i < count {
-        t = cases::counted(stdout, t, case_at(b, at), 0)?;
-        at = next(b, at);
-        i += 1;
-    }
-    Ok(t)
+fn is_same(record: &mut Record) -> bool {
+    as_recorded(record).unwrap_or(false)
 }
 
 fn main(rt: HostRuntime) -> io::Result<()> {
     let stdout = rt.stdout();
-    let mut b = [0u8; 327680];
-    cases::read_full(rt.stdin(), &mut b);
-    let t = all_cases(stdout, &b, reader::word(&b, 0))?;
-    say(stdout, t.cases, b" cases, ")?;
-    say(stdout, t.wrong, b" differ\n")
+    let mut room = [0; 327680];
+    let n = cases::read_full(rt.stdin(), &mut room);
+    let tally = cases::all_cases(stdout, &room[0..n], is_same)?;
+    println!(stdout; "{} cases, {} differ", tally.cases, tally.wrong)
 }

@@ -1,12 +1,9 @@
-use Rattle.lines.specs.Owed.{memory}
+use Rattle.lines.specs.Calls.{SameSlices, held}
 use Rattle.legs.proofs.Feeding.{FeedingAll}
 use Rattle.legs.proofs.feed_all.Given as goal
 
-abbrev pub invariant-loop-turns : goal.invariant-loop-turns
-invariant-loop-turns l =
-    let i = l.initial in
-    FeedingAll l.formula i.block (memory i.names i.path i.program i.values i.regs) i.stage i.out
-    l.block (memory l.names l.path l.program l.values l.regs) l.stage l.out
-
-abbrev pub decreases-loop-turns : goal.decreases-loop-turns
-decreases-loop-turns l = l.turns
+abbrev pub invariant-loop : goal.invariant-loop
+invariant-loop l =
+    let m = l.initial.memory in
+    FeedingAll l.formula l.initial.block (held m) l.initial.stage m.out.now l.block (held l.memory) l.stage l.memory.out.now
+    × SameSlices m l.memory

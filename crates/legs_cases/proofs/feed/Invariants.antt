@@ -1,13 +1,14 @@
 use Rattle.std.proofs.Common.{length, ◌-◌}
-use Rattle.lines.specs.Owed.{memory}
+use Rattle.lines.specs.Calls.{SameSlices, held}
 use Rattle.legs_cases.proofs.Listed.{Gathering}
 use Rattle.legs_cases.proofs.feed.Given as goal
 
 abbrev pub invariant-loop-at : goal.invariant-loop-at
 invariant-loop-at l =
     let i = l.initial in
-    Gathering l.formula l.input (memory i.names i.path i.program i.values i.regs) i.stage i.out i.all i.length
-    l.at (memory l.names l.path l.program l.values l.regs) l.stage l.out l.all l.length
+    let m = i.memory in
+    Gathering l.formula l.input (held m) i.stage m.out.now i.all i.length l.at (held l.memory) l.stage l.memory.out.now l.all l.length
+    × SameSlices m l.memory
 
 abbrev pub decreases-loop-at : goal.decreases-loop-at
 decreases-loop-at l = length l.input - l.at

@@ -1,49 +1,47 @@
 use Rattle.std.proofs.Common.{take, arith}
-use Rattle.lines.specs.Owed.{memory}
+use Rattle.lines.specs.Calls.{held}
 use Rattle.lines.proofs.Compose.{stands_first}
 use Rattle.legs_cases.proofs.Listed.{listed_by, listed_none, listed_some}
 use Rattle.legs_cases.proofs.list_in.Goals as goal
 
-pub returns-in_default : goal.returns-in_default
-returns-in_default c =
+pub feed-requires : goal.feed-requires
+feed-requires c =
     let a = c.args in
-    let b = c.start-b in
-    listed_none a.readable a.formula.now a.input.now (memory a.names.now a.path.now a.program.now a.values.now a.regs.now) b.result.stage
-    a.all.now b.new.out b.result.length c.add-first.new.all c.requires.0 (b.ensures.begins c.requires.1)
-    (omega (arith, b.ensures.room, b.auto.out)) c.in_default.ensures
-
-pub feed-fed-requires : goal.feed-fed-requires
-feed-fed-requires c =
-    let a = c.args in
-    let b = c.start-b in
-    let m = memory a.names.now a.path.now a.program.now a.values.now a.regs.now in (
+    let b = c.start-begun in (
       record {
-        stands = stands_first a.readable a.formula.now m b.result.stage (take b.result.length b.new.out) c.requires.0
+        stands = stands_first a.readable a.formula.now (held a.memory.now) b.result.stage (take b.result.length b.new.out) c.requires.0
             (b.ensures.begins c.requires.1);
         room = omega (arith, b.auto.out, c.requires.1);
       },
-      omega (arith, c.in-Length.ensures.room, c.add-first.auto.all),
+      omega (arith, c.in_ok-first.ensures.room, c.add.auto.all),
     )
 
-pub returns-in_default-fed : goal.returns-in_default-fed
-returns-in_default-fed c =
+pub returns-in_err-first : goal.returns-in_err-first
+returns-in_err-first c =
     let a = c.args in
-    let b = c.start-b in
-    let f = c.feed-fed in
-    listed_some a.readable a.formula.now a.input.now (memory a.names.now a.path.now a.program.now a.values.now a.regs.now) b.result.stage
-    a.all.now b.new.out b.result.length c.add-first.new.all c.requires.0 (b.ensures.begins c.requires.1)
-    (omega (arith, b.ensures.room, b.auto.out)) c.in-Length.n c.in-Length.ensures c.add-first.auto.all
-    (memory f.new.names f.new.path f.new.program f.new.values f.new.regs) f.new.all c.in_default-fed.ensures
+    let b = c.start-begun in
+    rw c.from_residual.ensures
+    (listed_none a.readable a.formula.now a.input.now (held a.memory.now) b.result.stage a.all.now b.new.out b.result.length c.add.new.all c.requires.0
+    (b.ensures.begins c.requires.1) (omega (arith, b.ensures.room, b.auto.out)) (rw c.in_err-first.was at c.add.ensures))
+
+pub returns-in_err-fed : goal.returns-in_err-fed
+returns-in_err-fed c =
+    let a = c.args in
+    let b = c.start-begun in
+    let f = c.feed in
+    rw c.from_residual-in_err-fed.ensures
+    (listed_some a.readable a.formula.now a.input.now (held a.memory.now) b.result.stage a.all.now b.new.out b.result.length c.add.new.all c.requires.0
+    (b.ensures.begins c.requires.1) (omega (arith, b.ensures.room, b.auto.out)) c.in_ok-first.first (rw c.in_ok-first.was at c.add.ensures) c.add.auto.all
+    (held f.new.memory) f.new.all (rw c.in_err-fed.was at f.ensures.feeds))
 
 pub returns : goal.returns
 returns c =
     let a = c.args in
-    let b = c.start-b in
-    let f = c.feed-fed in
+    let b = c.start-begun in
+    let f = c.feed in
     let e = c.finish-length in
-    listed_by a.readable a.formula.now a.input.now (memory a.names.now a.path.now a.program.now a.values.now a.regs.now) b.result.stage
-    a.all.now b.new.out b.result.length c.add-first.new.all c.requires.0 (b.ensures.begins c.requires.1)
-    (omega (arith, b.ensures.room, b.auto.out)) c.in-Length.n c.in-Length.ensures c.add-first.auto.all
-    (memory f.new.names f.new.path f.new.program f.new.values f.new.regs) c.in-On.last f.new.all c.in-On.m c.in-On.ensures
-    f.auto.all e.new.out e.result (omega (arith, e.ensures.room, e.auto.out))
-    (e.ensures.ends (omega (arith, f.auto.out, b.auto.out, c.requires.1))) c.add.result c.add.new.all c.add.ensures
+    listed_by a.readable a.formula.now a.input.now (held a.memory.now) b.result.stage a.all.now b.new.out b.result.length c.add.new.all c.requires.0
+    (b.ensures.begins c.requires.1) (omega (arith, b.ensures.room, b.auto.out)) c.in_ok-first.first (rw c.in_ok-first.was at c.add.ensures) c.add.auto.all
+    (held f.new.memory) c.in_ok-fed.fed f.new.all (rw c.in_ok-fed.was at f.ensures.feeds) f.auto.all e.new.memory.out.now e.result
+    (omega (arith, e.ensures.finishes.room, e.ensures.slices.out.1))
+    (e.ensures.finishes.ends (omega (arith, f.ensures.slices.out.1, b.auto.out, c.requires.1))) c.add-2.result c.add-2.new.all c.add-2.ensures
