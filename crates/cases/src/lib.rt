@@ -263,7 +263,7 @@ pub struct Tally {
 
 impl Tally {
     // One case more, with so many calls; says which case came out otherwise.
-    pub fn count(&mut self, mut stdout: Stdout, right: bool, calls: u64) -> io::Result<()>
+    pub fn count(&mut self, stdout: Stdout, right: bool, calls: u64) -> io::Result<()>
         ensures cases { IfOk result (λ done. self.new.cases ≡ (self.old.cases + 1) % 2 ^ 64) }
         ensures wrong { IfOk result (λ done. self.new.wrong ≡ cond right self.old.wrong ((self.old.wrong + 1) % 2 ^ 64)) }
     {
@@ -291,7 +291,7 @@ impl Tally {
         })
     }
 
-    pub fn verdict(&self, mut stdout: Stdout) -> io::Result<()> {
+    pub fn verdict(&self, stdout: Stdout) -> io::Result<()> {
         if self.wrong == 0 {
             println!(stdout; "ok")?;
         }

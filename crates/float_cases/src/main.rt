@@ -46,7 +46,7 @@ fn outcome(letter: u8, values: [f64; 4]) -> u64 {
     }
 }
 
-// Whether a record's last number is what the operation gives on those before it; none where it has no numbers.
+// Whether a record's last number is what the operation gives on those before it; none where one of them is no number.
 fn is_right(record: &[u8]) -> Option<bool> {
     let mut record = Record::new(record);
     let letter = record.byte();
@@ -60,7 +60,7 @@ fn is_right(record: &[u8]) -> Option<bool> {
 
 // Replays the records; one that comes out otherwise is written out.
 fn main(rt: HostRuntime) -> io::Result<()> {
-    let mut stdout = rt.stdout();
+    let stdout = rt.stdout();
     let mut tally = Tally::default();
     cases::each_head(rt.stdin(), &mut [0; 82], |record| {
         let right = is_right(record).unwrap_or(false);
