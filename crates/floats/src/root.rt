@@ -26,7 +26,7 @@ fn near_root(m: u64) -> u64
     std::num::saturating_f64_to_u64(x * y).min(DIGITS_27 - 1)
 }
 
-// The whole part of m's root. The library's `isqrt` halves 32 times, in 358 machine instructions: the whole of `sqrt` takes 135 with this.
+// The whole part of m's root. The library's `isqrt` halves 32 times, in 358 machine instructions: the whole of `sqrt` takes 137 with this.
 fn whole_root(m: u64) -> u64
     requires { m < 2 ^ 54 }
     ensures { Root m result }

@@ -47,15 +47,11 @@ module _ (b : List ℕ) (at : ℕ) (kept regs : List Float) where
       → Work (shown (advance (work_of m (get_or regs (word_at b (at + 8)) 0f) (get_or regs (word_at b (at + 12)) 0f) (get_or regs (word_at b (at + 16)) 0f)) kept)) ≡ of_op m) 30 5 op l h
       (λ a b. refl, (λ a b. refl, (λ a b. refl, (λ a b. refl, (λ a b. refl, (λ a b. refl, (λ a b. refl, (λ a b. refl, (λ a b. refl, (λ a b. refl, (λ a b. refl, (λ a b. refl, (λ a b. refl, (λ a b. refl, (λ a b. refl, (λ a b. refl, (λ a b. refl, (λ a b. refl, (λ a b. refl, (λ a b. refl, (λ a b. refl, (λ a b. refl, (λ a b. refl, (λ a b. refl, (λ a b. refl, (λ a b. refl, (λ a b. absurd (a refl), (λ a b. absurd (b refl), (λ a b. refl, (λ a b. refl, tt)))))))))))))))))))))))))))))) no_min no_max
 
-  pub least_effect : (op count a : ℕ) (v : Float) → op ≡ 31 → count ≡ half_at b (at + 2) → a ≡ word_at b (at + 8) → v ≡ extremum_at false b count a regs
+  pub extremum_effect : (most : Bool) (op count a : ℕ) (v : Float) → op ≡ cond most 32 31 → count ≡ half_at b (at + 2) → a ≡ word_at b (at + 8) → v ≡ extremum_at most b count a regs
       → Work (Value v) ≡ operation_at b at op kept regs
   unfolding operation_at extremum_at
-  least_effect op count a v eo ec ea e = rw eo (ap Work (ap Value (rw (ec, ea) at e) ∙ given _ kept))
-
-  pub most_effect : (op count a : ℕ) (v : Float) → op ≡ 32 → count ≡ half_at b (at + 2) → a ≡ word_at b (at + 8) → v ≡ extremum_at true b count a regs
-      → Work (Value v) ≡ operation_at b at op kept regs
-  unfolding operation_at extremum_at
-  most_effect op count a v eo ec ea e = rw eo (ap Work (ap Value (rw (ec, ea) at e) ∙ given _ kept))
+  extremum_effect true op count a v eo ec ea e = rw eo (ap Work (ap Value (rw (ec, ea) at e) ∙ given _ kept))
+  extremum_effect false op count a v eo ec ea e = rw eo (ap Work (ap Value (rw (ec, ea) at e) ∙ given _ kept))
 
   pub no_effect : (op : ℕ) → 35 ≤ op → Jump 0 ≡ operation_at b at op kept regs
   unfolding operation_at

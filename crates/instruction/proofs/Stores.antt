@@ -23,7 +23,7 @@ use Rattle.instruction.specs.Effects.{effect_at, extremum_at, operation_at, show
 use Rattle.instruction.specs.declared.Effect.{Effect}
 use Rattle.instruction.specs.declared.Effect.TheVariants.{Jump, Work}
 use Rattle.instruction.proofs.Done.{jump_done, value_done}
-use Rattle.instruction.proofs.Opcodes.{jump_is, least_effect, most_effect, operands_effect, operation_is, passed_is, taken_is}
+use Rattle.instruction.proofs.Opcodes.{jump_is, extremum_effect, operands_effect, operation_is, passed_is, taken_is}
 
 -- ---- by the opcode
 
@@ -84,11 +84,10 @@ module _ (b : List ℕ) (at op : ℕ) (regs : List Float) where
   modulo_works x y v e ex ey g =
       of_opcode 13 v e (omega arith) (λ f kept. operands_effect b at kept regs 13 x y _ (omega arith) (omega arith) (omega arith) (omega arith) ex ey refl (remaining (lt 0f y) x y v kept refl g f))
 
-  pub least_works : (count a : ℕ) (v : Float) → op ≡ 31 → count ≡ half_at b (at + 2) → a ≡ word_at b (at + 8) → v ≡ extremum_at false b count a regs → Works b at op regs v
-  least_works count a v e ec ea g = λ f. (omega arith, λ kept. least_effect b at kept regs op count a v e ec ea g)
-
-  pub most_works : (count a : ℕ) (v : Float) → op ≡ 32 → count ≡ half_at b (at + 2) → a ≡ word_at b (at + 8) → v ≡ extremum_at true b count a regs → Works b at op regs v
-  most_works count a v e ec ea g = λ f. (omega arith, λ kept. most_effect b at kept regs op count a v e ec ea g)
+  pub extremum_works : (most : Bool) (count a : ℕ) (v : Float) → op ≡ cond most 32 31 → count ≡ half_at b (at + 2) → a ≡ word_at b (at + 8) → v ≡ extremum_at most b count a regs
+      → Works b at op regs v
+  extremum_works true count a v e ec ea g = λ f. (omega arith, λ kept. extremum_effect b at kept regs true op count a v e ec ea g)
+  extremum_works false count a v e ec ea g = λ f. (omega arith, λ kept. extremum_effect b at kept regs false op count a v e ec ea g)
 
 -- ---- the instruction n
 

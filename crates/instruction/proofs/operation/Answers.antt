@@ -1,18 +1,19 @@
+use mathlib.Core.Bool.{true, false}
 use native.Mathlib.Omega.{arith}
 use Rattle.work.specs.View.{kept_values}
-use Rattle.instruction.proofs.Opcodes.{least_effect, most_effect, no_effect, operands_effect}
+use Rattle.instruction.proofs.Opcodes.{extremum_effect, no_effect, operands_effect}
 use Rattle.instruction.proofs.operation.Goals as goal
 
 pub returns-in-31 : goal.returns-in-31
 returns-in-31 c =
-    least_effect c.args.p.now c.args.at (kept_values c.args.kept) c.args.regs.now c.args.op c.half.result c.word.result c.extremum-least.result
+    extremum_effect c.args.p.now c.args.at (kept_values c.args.kept) c.args.regs.now false c.args.op c.half.result c.word.result c.extremum-least.result
     c.in-31.is c.half.ensures.0 c.word.ensures.0 c.extremum-least.ensures
 
 pub returns-in-32 : goal.returns-in-32
 returns-in-32 c =
     let count = c.half-in-32 in
     let a = c.word-in-32 in
-    most_effect c.args.p.now c.args.at (kept_values c.args.kept) c.args.regs.now c.args.op count.result a.result c.extremum-most.result
+    extremum_effect c.args.p.now c.args.at (kept_values c.args.kept) c.args.regs.now true c.args.op count.result a.result c.extremum-most.result
     c.in-32.is count.ensures.0 a.ensures.0 c.extremum-most.ensures
 
 pub returns-in-35-to-max : goal.returns-in-35-to-max

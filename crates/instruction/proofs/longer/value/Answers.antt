@@ -1,9 +1,10 @@
+use mathlib.Core.Bool.{true, false}
 use mathlib.Core.Path.{ap, refl, ◌∙◌}
 use native.Mathlib.Omega.{arith}
 use lib.Ieee.{of_bits}
 use Rattle.work.specs.declared.Outcome.TheVariants.{Value}
 use Rattle.work.proofs.Answers.{given}
-use Rattle.instruction.proofs.Stores.{least_works, modulo_works, most_works, nothing_works, single_works}
+use Rattle.instruction.proofs.Stores.{extremum_works, modulo_works, nothing_works, single_works}
 use Rattle.instruction.proofs.longer.value.Goals as goal
 
 pub returns-in-13 : goal.returns-in-13
@@ -38,14 +39,14 @@ returns-in-30 c =
 
 pub returns-in-31 : goal.returns-in-31
 returns-in-31 c =
-    least_works c.args.p.now c.args.at c.args.op c.args.regs.now c.half.result c.known_word.result c.extremum.result c.in-31.is
+    extremum_works c.args.p.now c.args.at c.args.op c.args.regs.now false c.half.result c.known_word.result c.extremum.result c.in-31.is
     c.half.ensures.0 c.known_word.ensures.0 c.extremum.ensures
 
 pub returns-in-32 : goal.returns-in-32
 returns-in-32 c =
     let count = c.half-in-32 in
     let a = c.known_word-in-32 in
-    most_works c.args.p.now c.args.at c.args.op c.args.regs.now count.result a.result c.extremum-in-32.result c.in-32.is
+    extremum_works c.args.p.now c.args.at c.args.op c.args.regs.now true count.result a.result c.extremum-in-32.result c.in-32.is
     count.ensures.0 a.ensures.0 c.extremum-in-32.ensures
 
 pub returns-in_default : goal.returns-in_default
