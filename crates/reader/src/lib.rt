@@ -12,13 +12,6 @@ use refusals::Refusal;
 // How many bytes a node has.
 pub const NODE_SIZE: usize = 16;
 
-// A byte as a place or a count.
-pub fn wide(x: u8) -> usize
-    ensures { (result ≡ x) × (result < 256) }
-{
-    usize::from(x)
-}
-
 // N bytes that are all there.
 fn known_bytes<const N: usize>(b: &[u8], at: usize) -> [u8; N]
     requires { at + N ≤ length b.now }
