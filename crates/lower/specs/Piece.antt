@@ -20,6 +20,7 @@ use Rattle.reader.specs.declared.Fields.{Fields}
 use Rattle.lower.specs.Bytes.{Chunk, written}
 use Rattle.lower.specs.Operators.{arity_at, gives_boolean, listing_at, opcode_at, stepped_at}
 use Rattle.lower.specs.declared.Site.{Site}
+use Rattle.lower.specs.declared.Source.{Source}
 use Rattle.lower.specs.declared.Layout.{Layout}
 use Rattle.lower.specs.declared.Cursor.{Cursor}
 use Rattle.lower.specs.declared.Value.{Value}
@@ -28,6 +29,9 @@ use Rattle.lower.specs.Low.{Low, Done, Faulty}
 -- ---- the context, of the kinds of the symbols
 abbrev pub context_of : List Kind → Bool → Context
 context_of kinds generated = record { symbols = map symbol_kind kinds; generated = generated }
+
+abbrev pub context : Source → Context
+context S = context_of S.kinds.now S.layout.generated
 
 abbrev pub is_boolean : ValueKind → Bool
 is_boolean Number = false

@@ -6,13 +6,12 @@ ghost use Rattle.formula.specs.Formula.{size, all_well_formed, well_formed};
 ghost use Rattle.formula.specs.Node.{node_size, tree_in};
 ghost use Rattle.formula.specs.Term.{term, terms};
 ghost use Rattle.formula.specs.Path.{◌▸◌, step_text};
-ghost use Rattle.machine.specs.Lower.{instruction_count, instruction_counts};
 ghost use Rattle.layout.specs.Opcode.{step_of};
-ghost use Rattle.layout.specs.Image.{slot, constant_slot, truth_bits, path_count, path_counts, entry_count, entry_counts};
+ghost use Rattle.layout.specs.Image.{slot, constant_slot, truth_bits};
 ghost use Rattle.writer.specs.Over.{over};
 ghost use Rattle.lower.specs.Low.{low_of};
-ghost use Rattle.lower.specs.Piece.{Says, further, arms_answer, arms_bytes, Lists, arm, branch_piece, context_of, finish_piece, kids, leaf, own_piece, operands_piece, past, place, term_piece, inner_count};
-ghost use Rattle.lower.specs.Ready.{Ready};
+ghost use Rattle.lower.specs.Piece.{Says, further, arms_answer, arms_bytes, Lists, arm, branch_piece, context, context_of, finish_piece, kids, leaf, own_piece, operands_piece, past, place, term_piece};
+ghost use Rattle.lower.specs.Ready.{Ready, RoomAt, RoomFor, RoomForAll, RoomForArms};
 ghost use Rattle.lower.specs.Leaf.{Loads};
 ghost use Rattle.lower.specs.Operators.{arity_at, gives_boolean, listing_at, opcode_at, stepped_at, takes_boolean, chooses_at};
 
@@ -396,7 +395,7 @@ impl Source<'_> {
     // A number, a truth value or a symbol.
     fn leaf(&self, p: &mut [u8], s: Site, f: Fields, c: &mut Cursor) -> Result<Value, Fault>
         requires { Ready self.now.layout p.old s c.old 1 0 0 }
-        ensures { Says (own_piece (context_of self.now.kinds.now self.now.layout.generated) (leaf f) (place self.now.layout p.old s) s.path c.old c.old.node) self.now.layout c.old p.old p.new (low_of result c.new) }
+        ensures { Says (own_piece (context self.now) (leaf f) (place self.now.layout p.old s) s.path c.old c.old.node) self.now.layout c.old p.old p.new (low_of result c.new) }
     {
         if f.kind == NUMBER {
             if !is_finite(of_bits(f.value)) {
@@ -456,9 +455,9 @@ impl Source<'_> {
         levels: usize,
         c: &mut Cursor,
     ) -> Result<Value, Fault>
-        requires ready { Ready self.now.layout p.old above c.old (instruction_count (arm self.now.bytes.now levels chain.conjunction chain.left c.old.node)) (path_count (arm self.now.bytes.now levels chain.conjunction chain.left c.old.node)) (entry_count (arm self.now.bytes.now levels chain.conjunction chain.left c.old.node)) }
+        requires ready { RoomFor self.now.layout p.old above c.old (arm self.now.bytes.now levels chain.conjunction chain.left c.old.node) }
         requires formed { (all_well_formed (kids self.now.bytes.now levels chain.left c.old.node) ≡ true) × (step < 65539) × (chain.left < 65536) }
-        ensures { Says (term_piece (context_of self.now.kinds.now self.now.layout.generated) (arm self.now.bytes.now levels chain.conjunction chain.left c.old.node) (place self.now.layout p.old above ▸ step_of step) above.path c.old (past self.now.bytes.now levels chain.left c.old.node)) self.now.layout c.old p.old p.new (low_of result c.new) }
+        ensures { Says (term_piece (context self.now) (arm self.now.bytes.now levels chain.conjunction chain.left c.old.node) (place self.now.layout p.old above ▸ step_of step) above.path c.old (past self.now.bytes.now levels chain.left c.old.node)) self.now.layout c.old p.old p.new (low_of result c.new) }
     {
         let site = self.enter(p, above, step, c.path);
         c.path += 1;
@@ -474,9 +473,9 @@ impl Source<'_> {
     // A node at its own site, of at most so many levels.
     #[cycle(lowering)]
     pub fn node(&self, p: &mut [u8], s: Site, levels: usize, c: &mut Cursor) -> Result<Value, Fault>
-        requires ready { Ready self.now.layout p.old s c.old (instruction_count (term (tree_in levels self.now.bytes.now c.old.node))) (inner_count (term (tree_in levels self.now.bytes.now c.old.node))) (entry_count (term (tree_in levels self.now.bytes.now c.old.node))) }
+        requires ready { RoomAt self.now.layout p.old s c.old (term (tree_in levels self.now.bytes.now c.old.node)) }
         requires formed { well_formed (tree_in levels self.now.bytes.now c.old.node) ≡ true }
-        ensures { Says (own_piece (context_of self.now.kinds.now self.now.layout.generated) (term (tree_in levels self.now.bytes.now c.old.node)) (place self.now.layout p.old s) s.path c.old (c.old.node + node_size * size (tree_in levels self.now.bytes.now c.old.node))) self.now.layout c.old p.old p.new (low_of result c.new) }
+        ensures { Says (own_piece (context self.now) (term (tree_in levels self.now.bytes.now c.old.node)) (place self.now.layout p.old s) s.path c.old (c.old.node + node_size * size (tree_in levels self.now.bytes.now c.old.node))) self.now.layout c.old p.old p.new (low_of result c.new) }
     {
         let f = reader::node(self.bytes, c.node);
         c.node += NODE_SIZE;
@@ -525,9 +524,9 @@ impl Source<'_> {
         levels: usize,
         c: &mut Cursor,
     ) -> Result<Value, Fault>
-        requires ready { Ready self.now.layout p.old s c.old (instruction_count (arm self.now.bytes.now levels chain.conjunction chain.left c.old.node)) (inner_count (arm self.now.bytes.now levels chain.conjunction chain.left c.old.node)) (entry_count (arm self.now.bytes.now levels chain.conjunction chain.left c.old.node)) }
+        requires ready { RoomAt self.now.layout p.old s c.old (arm self.now.bytes.now levels chain.conjunction chain.left c.old.node) }
         requires formed { (all_well_formed (kids self.now.bytes.now levels chain.left c.old.node) ≡ true) × (2 ≤ chain.left) × (chain.left < 65536) }
-        ensures { Says (own_piece (context_of self.now.kinds.now self.now.layout.generated) (arm self.now.bytes.now levels chain.conjunction chain.left c.old.node) (place self.now.layout p.old s) s.path c.old (past self.now.bytes.now levels chain.left c.old.node)) self.now.layout c.old p.old p.new (low_of result c.new) }
+        ensures { Says (own_piece (context self.now) (arm self.now.bytes.now levels chain.conjunction chain.left c.old.node) (place self.now.layout p.old s) s.path c.old (past self.now.bytes.now levels chain.left c.old.node)) self.now.layout c.old p.old p.new (low_of result c.new) }
     {
         let first = self.lower(p, s, 0, CHILD, levels, c)?;
         let rest = Chain {
@@ -560,9 +559,9 @@ impl Source<'_> {
         levels: usize,
         c: &mut Cursor,
     ) -> Result<Value, Fault>
-        requires ready { Ready self.now.layout p.old s c.old (4 + instruction_count (arm self.now.bytes.now levels arms.yes.conjunction arms.yes.left c.old.node) + instruction_count (arm self.now.bytes.now levels arms.no.conjunction arms.no.left (past self.now.bytes.now levels arms.yes.left c.old.node))) (path_count (arm self.now.bytes.now levels arms.yes.conjunction arms.yes.left c.old.node) + path_count (arm self.now.bytes.now levels arms.no.conjunction arms.no.left (past self.now.bytes.now levels arms.yes.left c.old.node))) (entry_count (arm self.now.bytes.now levels arms.yes.conjunction arms.yes.left c.old.node) + entry_count (arm self.now.bytes.now levels arms.no.conjunction arms.no.left (past self.now.bytes.now levels arms.yes.left c.old.node))) }
+        requires ready { RoomForArms self.now.layout p.old s c.old (arm self.now.bytes.now levels arms.yes.conjunction arms.yes.left c.old.node) (arm self.now.bytes.now levels arms.no.conjunction arms.no.left (past self.now.bytes.now levels arms.yes.left c.old.node)) }
         requires formed { (all_well_formed (kids self.now.bytes.now levels arms.yes.left c.old.node) ≡ true) × (all_well_formed (kids self.now.bytes.now levels arms.no.left (past self.now.bytes.now levels arms.yes.left c.old.node)) ≡ true) × (arms.yes.left < 65536) × (arms.no.left < 65536) }
-        ensures { Says (branch_piece (context_of self.now.kinds.now self.now.layout.generated) v (arm self.now.bytes.now levels arms.yes.conjunction arms.yes.left c.old.node) (arm self.now.bytes.now levels arms.no.conjunction arms.no.left (past self.now.bytes.now levels arms.yes.left c.old.node)) (place self.now.layout p.old s) s.path c.old (past self.now.bytes.now levels arms.no.left (past self.now.bytes.now levels arms.yes.left c.old.node))) self.now.layout c.old p.old p.new (low_of result c.new) }
+        ensures { Says (branch_piece (context self.now) v (arm self.now.bytes.now levels arms.yes.conjunction arms.yes.left c.old.node) (arm self.now.bytes.now levels arms.no.conjunction arms.no.left (past self.now.bytes.now levels arms.yes.left c.old.node)) (place self.now.layout p.old s) s.path c.old (past self.now.bytes.now levels arms.no.left (past self.now.bytes.now levels arms.yes.left c.old.node))) self.now.layout c.old p.old p.new (low_of result c.new) }
     {
         if !v.boolean {
             return Err(s.fault(Refusal::WrongType));
@@ -600,9 +599,9 @@ impl Source<'_> {
         levels: usize,
         c: &mut Cursor,
     ) -> Result<Value, Fault>
-        requires ready { Ready self.now.layout p.old s c.old (instruction_counts (terms (kids self.now.bytes.now levels o.left c.old.node))) (path_counts (terms (kids self.now.bytes.now levels o.left c.old.node))) (entry_counts (terms (kids self.now.bytes.now levels o.left c.old.node)) + cond o.lists (o.first + o.left) 0) }
+        requires ready { RoomForAll self.now.layout p.old s c.old (terms (kids self.now.bytes.now levels o.left c.old.node)) (cond o.lists (o.first + o.left) 0) }
         requires formed { (all_well_formed (kids self.now.bytes.now levels o.left c.old.node) ≡ true) × (o.first + o.left < 65536) }
-        ensures { Lists self.now.layout o.lists (terms (kids self.now.bytes.now levels o.left c.old.node)) o.first (operands_piece (context_of self.now.kinds.now self.now.layout.generated) o.boolean (terms (kids self.now.bytes.now levels o.left c.old.node)) (place self.now.layout p.old s) o.first s.path c.old (past self.now.bytes.now levels o.left c.old.node)) c.old p.old p.new (low_of result c.new) }
+        ensures { Lists self.now.layout o.lists (terms (kids self.now.bytes.now levels o.left c.old.node)) o.first (operands_piece (context self.now) o.boolean (terms (kids self.now.bytes.now levels o.left c.old.node)) (place self.now.layout p.old s) o.first s.path c.old (past self.now.bytes.now levels o.left c.old.node)) c.old p.old p.new (low_of result c.new) }
     {
         if o.left == 0 {
             return Ok(Value {
@@ -626,9 +625,9 @@ impl Source<'_> {
         levels: usize,
         c: &mut Cursor,
     ) -> Result<Value, Fault>
-        requires ready { Ready self.now.layout p.old s c.old (instruction_counts (terms (kids self.now.bytes.now levels o.left c.old.node))) (path_counts (terms (kids self.now.bytes.now levels o.left c.old.node))) (entry_counts (terms (kids self.now.bytes.now levels o.left c.old.node)) + cond o.lists (o.first + o.left) 0) }
+        requires ready { RoomForAll self.now.layout p.old s c.old (terms (kids self.now.bytes.now levels o.left c.old.node)) (cond o.lists (o.first + o.left) 0) }
         requires formed { (all_well_formed (kids self.now.bytes.now levels o.left c.old.node) ≡ true) × (o.first + o.left < 65536) × (1 ≤ o.left) }
-        ensures { Lists self.now.layout o.lists (terms (kids self.now.bytes.now levels o.left c.old.node)) o.first (operands_piece (context_of self.now.kinds.now self.now.layout.generated) o.boolean (terms (kids self.now.bytes.now levels o.left c.old.node)) (place self.now.layout p.old s) o.first s.path c.old (past self.now.bytes.now levels o.left c.old.node)) c.old p.old p.new (low_of result c.new) }
+        ensures { Lists self.now.layout o.lists (terms (kids self.now.bytes.now levels o.left c.old.node)) o.first (operands_piece (context self.now) o.boolean (terms (kids self.now.bytes.now levels o.left c.old.node)) (place self.now.layout p.old s) o.first s.path c.old (past self.now.bytes.now levels o.left c.old.node)) c.old p.old p.new (low_of result c.new) }
     {
         let v = self.lower(p, s, 3 + o.first, CHILD, levels, c)?;
         let rest = Operands {
