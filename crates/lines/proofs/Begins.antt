@@ -21,7 +21,7 @@ use Rattle.program.proofs.Pass.{valid_raw}
 use Rattle.std.specs.Prelude.{Option as Maybe, Some, None, Result, Ok, Err}
 use Rattle.refusals.specs.declared.Refusal.{Refusal}
 use Rattle.refusals.specs.Refusals.{node_of, number_of, refusal_at, refusal_of}
-use Rattle.lines.proofs.Named.{Named, compile_named}
+use Rattle.compile.proofs.Numbers.{Numbers, numbers}
 use Rattle.compile.specs.Entry.{answer}
 use Rattle.compile.proofs.Back.{accepted_parts, reads_back}
 use Rattle.listing.specs.Legs.{compiled, node_line, place_text, printed, refused_as}
@@ -84,20 +84,20 @@ module _ (formula names path slice path' program' out out' : List ℕ) (r : Begu
   same_rooms z l =
       ap (λ (n : ℕ). compile formula names n (length slice)) (ap length z ∙ length-replicate {A = ℕ} 8192 0) ∙ ap (λ (n : ℕ). compile formula names 8192 n) l
 
-  named : Named (compile formula names (length path) (length slice))
-  named = compile_named formula names (length path) (length slice)
+  named : Numbers (compile formula names (length path) (length slice))
+  named = numbers formula names (length path) (length slice)
 
   module _ (x : Refusal) (is : a ≡ Err x) where
     same_refusal : (y : Refusal) → answer (compile formula names (length path) (length slice)) ≡ Err y → x ≡ y
     same_refusal y e = let q : ◌≡◌ {A = Result Unit Refusal} (Err x) (Err y) = sym is ∙ told ∙ e in cc
 
-    refused_by : (X : Compiled) → compile formula names (length path) (length slice) ≡ X → Named X → node_of x ≡ None → (m len : ℕ) → path ≡ zeros 8192
+    refused_by : (X : Compiled) → compile formula names (length path) (length slice) ≡ X → Numbers X → node_of x ≡ None → (m len : ℕ) → path ≡ zeros 8192
         → path' ≡ path_after (compile formula names (length path) (length slice)) path → length path' ≡ length path → TextLength path' m
         → Wrote out 0 (printed 0 (refused_as (number_of x) (take m path'))) out' len → EndsWith nothing r.stage → r.length ≡ len → Compiles X program' r out out'
     refused_by (accepted f ss) e d o m len z w l y v s u = absurd (no_error (sym is ∙ told ∙ ap answer e))
-    refused_by (Compile.refused_at k j) e d o m len z w l y v s u = absurd (no_some (sym o ∙ ap node_of (same_refusal (refusal_at k j) (ap answer e)) ∙ d.1))
+    refused_by (Compile.refused_at k j) e d o m len z w l y v s u = absurd (no_some (sym o ∙ ap node_of (same_refusal (refusal_at k j) (ap answer e)) ∙ d.node))
     refused_by (Compile.refused k place) e d o m len z w l y v s u =
-        let nk : number_of x ≡ k = ap number_of (same_refusal (refusal_of k) (ap answer e)) ∙ d.0 in
+        let nk : number_of x ≡ k = ap number_of (same_refusal (refusal_of k) (ap answer e)) ∙ d.number in
         let h = place_stands place path path' z (w ∙ ap (λ (X : Compiled). path_after X path) e) l in
         let c = place_taken place path' h.0 m h.1 (y.2 (place_text place) h.0 h.1 (free_place place) h.2) in
         let text : printed 0 (refused_as (number_of x) (take m path')) ≡ printed 0 (refused_as k (place_text place)) =
@@ -111,14 +111,14 @@ module _ (formula names path slice path' program' out out' : List ℕ) (r : Begu
         subst (λ (X : Compiled). Compiles X program' r out out') (same_rooms z k)
         (refused_by (compile formula names (length path) (length slice)) refl named o m len z w l y v s u)
 
-    node_by : (X : Compiled) → compile formula names (length path) (length slice) ≡ X → Named X → (k len : ℕ) → node_of x ≡ Some k
+    node_by : (X : Compiled) → compile formula names (length path) (length slice) ≡ X → Numbers X → (k len : ℕ) → node_of x ≡ Some k
         → Wrote out 0 (node_line (number_of x) k) out' len → EndsWith nothing r.stage → r.length ≡ len → Compiles X program' r out out'
     node_by (accepted f ss) e d k len o v s u = absurd (no_error (sym is ∙ told ∙ ap answer e))
-    node_by (Compile.refused m place) e d k len o v s u = absurd (no_some (sym d.1 ∙ ap node_of (sym (same_refusal (refusal_of m) (ap answer e))) ∙ o))
+    node_by (Compile.refused m place) e d k len o v s u = absurd (no_some (sym d.node ∙ ap node_of (sym (same_refusal (refusal_of m) (ap answer e))) ∙ o))
     node_by (Compile.refused_at m j) e d k len o v s u =
         let same = same_refusal (refusal_at m j) (ap answer e) in
-        let nm : number_of x ≡ m = ap number_of same ∙ d.0 in
-        let q : ◌≡◌ {A = Maybe ℕ} (Some k) (Some j) = sym o ∙ ap node_of same ∙ d.1 in
+        let nm : number_of x ≡ m = ap number_of same ∙ d.number in
+        let q : ◌≡◌ {A = Maybe ℕ} (Some k) (Some j) = sym o ∙ ap node_of same ∙ d.node in
         let kj : k ≡ j = cc in
         (s, rw u (subst (λ (i : ℕ). Wrote out 0 (node_line m i) out' len) kj (subst (λ (i : ℕ). Wrote out 0 (node_line i k) out' len) nm v)))
 

@@ -6,7 +6,6 @@ pub mod Totals
 pub mod Listings
 pub mod Keeping
 pub mod Places
-pub mod Named
 pub mod Begins
 pub mod NameLines
 pub mod Stages

@@ -1,5 +1,7 @@
 // The text of an output line: "line number, answer (`value`, `domain`, `ask`, `bad`), detail (bits, path, function number in
-// decimal and bits joined by `:` with 16 for Power, refusal number), instructions completed".
+// decimal and bits joined by `:` with 16 for Power, refusal number), instructions completed". Each function writes from a place on
+// and hands back where it ended, as those of `writer` do: a cursor that holds the slice would be no plainer, since every
+// clause would say besides that it is the same slice still.
 ghost use Rattle.std.specs.Prelude.{◌≡◌, ◌+◌, ◌<◌, ◌≤◌, true, ◌++◌, length};
 ghost use Rattle.formula.specs.Path.{text};
 ghost use Rattle.meaning.specs.Work.{elementary, power};
