@@ -589,7 +589,8 @@ impl Source<'_> {
         join(p, s, v, y, z, e, c)
     }
 
-    // Some children of an operation, or none.
+    // Some children of an operation, or none. That is asked before the call that lowers one: as one function with `operand` it
+    // takes 4 per cent more machine instructions of compile.
     #[cycle(lowering)]
     fn operands(
         &self,
@@ -615,7 +616,8 @@ impl Source<'_> {
         self.operand(p, s, o, levels, c)
     }
 
-    // The first of them, and those after it; on the way back their registers go into the operation's list.
+    // The first of them, and those after it; on the way back their registers go into the operation's list, whose place is known
+    // only then.
     #[cycle(lowering)]
     fn operand(
         &self,
