@@ -1,15 +1,14 @@
 -- What each end of derive's parts leaves.
-use mathlib.Core.Path.{◌≡◌, refl, sym, ap, ap₂, ◌∙◌, subst}
+use mathlib.Core.Path.{◌≡◌, refl, ap, ◌∙◌, subst}
 use mathlib.Core.Bool.{Bool, true, false, ◌||◌}
-use mathlib.Core.List.{List, [], ◌∷◌, ◌++◌, map}
+use mathlib.Core.List.{List, [], ◌∷◌, map}
 use mathlib.Core.Option.{Option, none, some}
 use mathlib.Core.Logic.{⊎_elim}
-use Prim.Native.Nat.{ℕ, zero, suc, ◌-◌, ◌*◌, ◌/◌, ◌≤◌, ◌<◌}
+use Prim.Native.Nat.{ℕ, zero, suc, ◌*◌, ◌≤◌, ◌<◌}
 use native.Mathlib.Omega.{arith}
-use lib.ListN.{length, take, get_or}
+use lib.ListN.{length, get_or}
 use lib.Dec.{ltb}
-use borrow.Author.Tests.{le-ltb, lt-ltb, ltb-true, ltb-false}
-use Rattle.formula.specs.Text.{zeros}
+use borrow.Author.Tests.{ltb-false}
 use Rattle.formula.specs.Operator.{Boolean, Number, ValueKind, same_kind}
 use Rattle.formula.specs.Formula.{Formula, derivative_limit, size}
 use Rattle.formula.specs.Names.{Parameter, State, Time, Input, Symbol, SymbolKind, is_state, kinds}
@@ -22,11 +21,10 @@ use Rattle.machine.specs.Check.{Fault, fault, kind}
 use Rattle.machine.specs.Compile.{Compiled, compile, lowered_or, own_context, program_room}
 use Rattle.machine.specs.Compile as Compile
 use Rattle.names.specs.Lines.{kind_as}
-use Rattle.writer.specs.Over.{zeroed}
 use Rattle.compile.specs.Outcome.{fault_place, lowered_to}
 use Rattle.compile.proofs.Entries.{Early, listed_length}
 use Rattle.derivative.specs.Differentiate.{derivative}
-use Rattle.derivative.specs.Records.{Record, derivative_records, record_size}
+use Rattle.derivative.specs.Records.{Record, record_size}
 use Rattle.derivative.specs.Derive.{Derived, Lengths, by_state, continued, derive, derived, fitted, formula_refused, formula_refused_at, refused, too_short}
 use Rattle.derive.specs.Outcome.{Leaves}
 use Rattle.std.specs.Prelude.{Result, Ok, Err}
@@ -40,47 +38,10 @@ use Rattle.derive.proofs.Parts.{leaves}
 pub from_path : (X : Derived) (r : Result ℕ Refusal) (q q₁ q' t t' l l' p p' : List ℕ) → q₁ ≡ q → Leaves X r q₁ q' t t' l l' p p' → Leaves X r q q' t t' l l' p p'
 from_path X r q q₁ q' t t' l l' p p' e L = subst (λ (x : List ℕ). Leaves X r x q' t t' l l' p p') e L
 
-none_taken : (t : List ℕ) → take 0 t ≡ []
-none_taken [] = refl
-none_taken (x ∷ t) = refl
-
-pub all_zeroed : (t : List ℕ) → zeroed t 0 ≡ zeros (length t)
-unfolding zeroed
-all_zeroed t = let z : length t - 0 ≡ length t = omega arith in ap₂ (λ (x : List ℕ) (k : ℕ). x ++ zeros k) (none_taken t) z
-
 pub by_is : (s : ℕ) (f : Formula) (st : Bool) (ss : List Symbol) → st ≡ by_state ss s → derivative s st f ≡ derivative s (by_state ss s) f
 by_is s f st ss e = ap (λ (c : Bool). derivative s c f) e
 
 -- ---- the room for a tree of n nodes
-
-or_first : (a b : Bool) → a ≡ true → (a || b) ≡ true
-or_first a b e = rw e
-
-or_second : (a b : Bool) → b ≡ true → (a || b) ≡ true
-or_second true b e = refl
-or_second false b e = e
-
-module _ (tree list program n : ℕ) where
-  abbrev L : Lengths
-  L = record { tree = tree; list = list; program = program }
-
-  pub tree_short : tree / 16 < n → too_short L n ≡ true
-  tree_short k = rw (lt-ltb tree (node_size * n) (omega arith))
-
-  pub list_short : list / 8 < n → too_short L n ≡ true
-  list_short k =
-      let x : ltb list (record_size * n) ≡ true = lt-ltb list (record_size * n) (omega arith) in
-      or_first (ltb tree (node_size * n) || ltb list (record_size * n)) _ (or_second (ltb tree (node_size * n)) _ x)
-
-  pub program_decides : n ≤ tree / 16 → n ≤ list / 8 → ltb (program / 240) n ≡ too_short L n
-  program_decides j k =
-      let x : ltb tree (node_size * n) ≡ false = le-ltb tree (node_size * n) (omega arith) in
-      let y : ltb list (record_size * n) ≡ false = le-ltb list (record_size * n) (omega arith) in
-      go (ltb (program / 240) n) refl ∙ sym (rw (x, y))
-    where
-      go : (c : Bool) → ltb (program / 240) n ≡ c → c ≡ ltb program (program_room (node_size * n))
-      go true e = let h = ltb-true (program / 240) n e in sym (lt-ltb program (program_room (node_size * n)) (omega arith))
-      go false e = let h = ltb-false (program / 240) n e in sym (le-ltb program (program_room (node_size * n)) (omega arith))
 
 or_neither : (a b : Bool) → (a || b) ≡ false → (a ≡ false) × (b ≡ false)
 or_neither true b e = absurd (let z : ◌≡◌ {A = ℕ} 0 1 = cc in omega arith)
@@ -121,30 +82,12 @@ module _ (lens : Lengths) (s : ℕ) (f : Formula) (ss : List Symbol) where
   X o = continued lens s (lowered_or f ss o)
 
   module _ (q q' : List ℕ) where
-    faulty_at : (o : Option Fault) (r : Refusal) (t w p : List ℕ) → Err r ≡ lowered_to f o → q' ≡ placed (fault_place o) q → Leaves (X o) (Err r) q q' t t w w p p
-    faulty_at none r t w p e k = absurd (let z : ◌≡◌ {A = ℕ} 0 1 = cc in omega arith)
-    faulty_at (some x) r t w p e k = (let m : r ≡ refusal_of x.number = cc in ap (λ (y : Refusal). Err y) m, k, refl, refl, refl)
-
-    pub faulty : (r : Refusal) (t w p : List ℕ) → Err r ≡ lowered_to f O → q' ≡ placed (fault_place O) q → Leaves (X O) (Err r) q q' t t w w p p
-    faulty = faulty_at O
-
     faultless_at : (o : Option Fault) (b : Bool) → Ok b ≡ lowered_to f o → q' ≡ placed (fault_place o) q → (o ≡ none) × (b ≡ same_kind (kind (term f)) Boolean) × (q' ≡ q)
     faultless_at none b e k = let m : b ≡ same_kind (kind (term f)) Boolean = cc in (refl, m, k)
     faultless_at (some x) b e k = absurd (let z : ◌≡◌ {A = ℕ} 0 1 = cc in omega arith)
 
     pub faultless : (b : Bool) → Ok b ≡ lowered_to f O → q' ≡ placed (fault_place O) q → (O ≡ none) × (b ≡ same_kind (kind (term f)) Boolean) × (q' ≡ q)
     faultless = faultless_at O
-
-  module _ (e : O ≡ none) where
-    pub boolean_root : same_kind (kind (term f)) Boolean ≡ true → X O ≡ refused 7 (some root)
-    boolean_root k = ap X e ∙ rw k
-
-    module _ (k : same_kind (kind (term f)) Boolean ≡ false) where
-      pub unknown_symbol : length ss ≤ s → X O ≡ refused 6 (some root)
-      unknown_symbol h = ap X e ∙ rw (k, le-ltb s (length ss) h)
-
-      pub known_symbol : s < length ss → X O ≡ fitted lens ss (derivative_records s (by_state ss s) f) (derivative s (by_state ss s) f)
-      known_symbol h = ap X e ∙ rw (k, lt-ltb s (length ss) h)
 
 pub not_boolean : (κ : ValueKind) → same_kind κ Boolean ≡ false → κ ≡ Number
 not_boolean Number e = refl

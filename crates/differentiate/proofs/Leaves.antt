@@ -53,9 +53,6 @@ tree_bytes f k w h n e = ap (λ (m : ℕ). take m (drop (node_size * k) f)) e �
 pub start_record : (m : Bool) (r : Record) (b : List ℕ) → m ≡ true → record_bytes r ≡ start m r b
 start_record m r b e = sym (ap (λ (x : Bool). start x r b) e)
 
-pub start_node : (m : Bool) (r : Record) (b : List ℕ) → m ≡ false → b ≡ start m r b
-start_node m r b e = sym (ap (λ (x : Bool). start x r b) e)
-
 pub literal_record : (m : Bool) (r k b : ℕ) → m ≡ true → record_bytes (by_rule r k) ≡ bytes m (recorded_literal r k b)
 unfolding bytes
 literal_record m r k b e = start_record m (by_rule r k) _ e ∙ sym (append-nil (start m (by_rule r k) _))
@@ -64,32 +61,7 @@ pub literal_node : (m : Bool) (r k b : ℕ) → m ≡ false → encode (node (nu
 unfolding bytes encode
 literal_node m r k b e = sym (ap (λ (x : Bool). bytes x (recorded_literal r k b)) e)
 
--- of a rule's literals the last is `power`'s
-module _ (m : Bool) (k : ℕ) (t : Formula) (o : ℕ) where
-  abbrev rule_bits : ℕ
-  rule_bits = literal_code (or_zero (second_literal (children_of t))) o
-
-  pub zeroth_text : o ≡ 11 → bytes m (recorded_literal to_the_zeroth k rule_bits) ≡ bytes m (literal_part k t o)
-  zeroth_text e = sym (ap (λ (x : Bool). bytes m (cond x (recorded_literal to_the_zeroth k rule_bits) (recorded_literal (arm_of t) k rule_bits))) (eq-eqb o 11 e))
-
-  pub rule_text : (o ≡ 11 → ⊥) → arm_literal m k t rule_bits ≡ bytes m (literal_part k t o)
-  rule_text e = sym (ap (λ (x : Bool). bytes m (cond x (recorded_literal to_the_zeroth k rule_bits) (recorded_literal (arm_of t) k rule_bits))) (ne_eqb o 11 e))
-
-  pub value_text : m ≡ false → encode (node (number rule_bits) last) ≡ bytes m (literal_part k t o)
-  value_text e = go (eqb o 11)
-    where
-      go : (x : Bool) → encode (node (number rule_bits) last)
-          ≡ bytes m (cond x (recorded_literal to_the_zeroth k rule_bits) (recorded_literal (arm_of t) k rule_bits))
-      go true = literal_node m to_the_zeroth k rule_bits e
-      go false = literal_node m (arm_of t) k rule_bits e
-
 -- the room that it takes
-pub step_record : (m : Bool) → m ≡ true → step m ≡ record_size
-step_record m e = ap step e
-
-pub step_node : (m : Bool) → m ≡ false → step m ≡ node_size
-step_node m e = ap step e
-
 pub start_length : (m : Bool) (r : Record) (f : Fields) → length (start m r (node_bytes f)) ≡ step m
 start_length true r f = record_length r
 start_length false r f = node_length f

@@ -91,9 +91,6 @@ front t u o h = omega (arith, length-append t u)
 
 -- u is to be written behind t, with room for both
 module _ {t o o1 : List ℕ} {n : ℕ} (w : Writes t o o1 n) (u : List ℕ) (h : length (t ++ u) ≤ length o) where
-  pub behind_start : n ≤ length o1
-  behind_start = free_start t o o1 n w (front t u o h)
-
   pub behind_room : length u ≤ length (mid_of n (length o1 - n) o1)
   behind_room = free_room t o o1 n w (front t u o h) u (omega (arith, length-append t u))
 

@@ -275,9 +275,6 @@ module _ (m : Bool) (s : ℕ) (b : Bool) (k : ℕ) (t : Formula) where
 -- ---- the derivative of a node
 
 module _ (m : Bool) (s : ℕ) (b : Bool) (f : List ℕ) (T : List Row) (k : ℕ) (o : Known s b f T k) where
-  pub ready_of : Ready s b f T k
-  ready_of = record { owned = o.owned; below = λ j x y. o.survey j (omega arith) y }
-
   own_survey : (row_in T k).has ≡ depends s (tree f k)
   own_survey = (o.survey k (omega arith) (omega (arith, size_pos (tree f k)))).has
 

@@ -274,7 +274,9 @@ fn other_letter(q: usize, i: usize) -> u8
     }
 }
 
-// A letter of a rule, 0 past its end.
+// A letter of a rule, 0 past its end. It is looked up apart, and what is made of it is inlined: so a caller's match on a code is
+// one with the match on its letter.
+#[inline(never)]
 fn letter(q: usize, i: usize) -> u8
     ensures { result ≡ letter_at q i }
 {
@@ -286,6 +288,7 @@ fn letter(q: usize, i: usize) -> u8
 }
 
 // The code of a letter that parts follow, and of M.
+#[inline(always)]
 fn operator_code(letter: u8) -> Code
     ensures { Reads result (coded operators operator_codes 0 letter) }
 {
@@ -312,6 +315,7 @@ fn operator_code(letter: u8) -> Code
 
 // The code of a letter.
 #[tactic(auto, unfolding(crate::specs::Notation::code_of))]
+#[inline(always)]
 fn code_of(letter: u8) -> Code
     ensures { Reads result (code_of letter) }
 {
@@ -341,6 +345,7 @@ fn code_of(letter: u8) -> Code
 
 impl Code {
     // How many parts follow it.
+    #[inline(always)]
     pub fn parts(self) -> usize
         ensures { result ≡ parts_in self }
     {
@@ -353,7 +358,9 @@ impl Code {
     }
 }
 
-// A part of a rule: the number of the rule, where the part starts, and how many levels it may have.
+// A part of a rule: the number of the rule, where the part starts, and how many levels it may have. A rule's number is its
+// node's kind and operator, two bytes as they stand in the node, or one that no node has: an enum of the thirty rules would
+// need this table of numbers too.
 #[derive(Clone, Copy)]
 pub struct RulePart {
     pub rule: usize,
@@ -375,6 +382,7 @@ impl RulePart {
 
     // The code that it starts with.
     #[tactic(auto, unfolding(crate::specs::Notation::code_at))]
+    #[inline(always)]
     pub fn code(self) -> Code
         ensures { Reads result (code_at self.rule self.start) }
     {

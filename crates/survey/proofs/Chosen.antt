@@ -26,21 +26,6 @@ use Rattle.survey.specs.declared.Attributes as Declared
 use Rattle.survey.proofs.Trees.{opened, count_is, trees_count}
 use Rattle.survey.proofs.Rows.{surveyed_given}
 
--- ---- Power
-
-power_by : (c d : Bool) (n : ℕ) → one_bits (less_one n) ≡ c → zero_bits (less_one n) ≡ d → power_number (some n) ≡ cond c 0x47 (cond d 0x48 0x46)
-power_by c d n p q = ap (λ (x : Bool). cond x 0x47 (cond (zero_bits (less_one n)) 0x48 0x46)) p ∙ ap (λ (x : Bool). cond c 0x47 (cond x 0x48 0x46)) q
-
-module _ (n : ℕ) where
-  pub power_two : one_bits (less_one n) ≡ true → 0x47 ≡ power_number (some n)
-  power_two p = sym (power_by true (zero_bits (less_one n)) n p refl)
-
-  pub power_one : one_bits (less_one n) ≡ false → zero_bits (less_one n) ≡ true → 0x48 ≡ power_number (some n)
-  power_one p q = sym (power_by false true n p q)
-
-  pub power_other : one_bits (less_one n) ≡ false → zero_bits (less_one n) ≡ false → 0x46 ≡ power_number (some n)
-  power_other p q = sym (power_by false false n p q)
-
 -- ---- a condition
 
 first_is : (s : ℕ) (ts : Formulas) (t : Formula) → nth ts 0 ≡ some t → first_depends s ts ≡ depends s t
@@ -214,11 +199,3 @@ pub worked_derived : (s : ℕ) (b : Bool) (t : Formula) (q : ℕ) → depends s 
     → worked s b t 16 q 0 ≡ attributes_of (derived s b t)
 unfolding worked
 worked_derived s b t q h e = sym (instance_right (parts_of s b t) (rule_for t 16 q 0)) ∙ ap attributes_of (sym (derived_ruled s b t (some (rule_for t 16 q 0)) h e))
-
--- ---- the tests of n - 1
-
-pub one_test : (r : Bool) (a : Declared.Attributes) (x m : ℕ) (v : Bool) → r ≡ attribute_algebra.is_one (reading a) → reading a ≡ literal_attributes x → x ≡ m → r ≡ v → one_bits m ≡ v
-one_test r a x m v e p q t = ap one_bits (sym q) ∙ sym (ap (λ (y : Attributes). attribute_algebra.is_one y) p) ∙ sym e ∙ t
-
-pub zero_test : (r : Bool) (a : Declared.Attributes) (x m : ℕ) (v : Bool) → r ≡ attribute_algebra.is_zero (reading a) → reading a ≡ literal_attributes x → x ≡ m → r ≡ v → zero_bits m ≡ v
-zero_test r a x m v e p q t = ap zero_bits (sym q) ∙ sym (ap (λ (y : Attributes). attribute_algebra.is_zero y) p) ∙ sym e ∙ t

@@ -170,13 +170,6 @@ module _ (f : List ℕ) (T : List Row) (k i : ℕ) (g : List ℕ) (U : List Row)
   surveyed_given s b o =
       subst (λ (x : List ℕ). Surveyed s b x U r) (sym h.0) (subst (λ (V : List Row). Surveyed s b f V r) (sym h.1) (surveyed_child s b f T k i r o h.2))
 
-  pub ready_given : (s : ℕ) (b : Bool) → Ready s b f T k → Ready s b g U r
-  ready_given s b o =
-      let c = h.2 in
-      subst (λ (x : List ℕ). Ready s b x U r) (sym h.0)
-      (subst (λ (V : List Row). Ready s b f V r) (sym h.1)
-      (record { owned = owned_child f T k i r o.owned c; below = λ j x y. o.below j (omega (arith, c.after)) (omega (arith, c.ends)) }))
-
 pub exponent_given : (f : List ℕ) (T : List Row) (k i : ℕ) (g : List ℕ) (U : List Row) (r : ℕ) → (g ≡ f) × (U ≡ T) × IsChild f k i r → i ≡ 1
     → second_literal (children_of (tree f k)) ≡ literal_bits (tree g r)
 exponent_given f T k i g U r h e =

@@ -157,7 +157,7 @@ fn conditional(a: Attributes, b: Attributes, c: Attributes) -> Attributes
 // ---- the table
 
 // A row: a node's own nodes and levels, whether the symbol stands in it, whether it has a derivative, and the derivative's
-// attributes, with a literal 0 where a rule is missing.
+// attributes, with a literal 0 where a rule is missing: so these are known where there is no derivative too, and no Option.
 #[derive(Clone, Copy)]
 pub struct Row {
     pub nodes: usize,
@@ -480,7 +480,8 @@ fn is_symbol(f: &[u8], k: usize, s: usize) -> bool
     byte(f, NODE_SIZE * k) == 2 && word(f, NODE_SIZE * k + 4) == s
 }
 
-// Fills the rows of a node and of all below it; the rows before and after them stay as they are.
+// Fills the rows of a node and of all below it; the rows before and after them stay as they are. While rows are written there
+// is no Node, which lends them.
 pub fn survey(f: &[u8], k: usize, depth: usize, by: By, rows: &mut [Row])
     requires { Room f.now rows.old k depth }
     ensures { Filled by.symbol by.state f.now rows.old rows.new k }
