@@ -14,9 +14,6 @@ use lib.Ieee.Bits.{of_bits-to_bits}
 use borrow.Author.Tests.{lt-ltb, ne_eqb}
 use Rattle.meaning.specs.Work.{Question, elementary, power}
 use Rattle.machine.specs.Machine.{Reply, State}
-use Rattle.work.specs.View.{kept_values}
-use Rattle.run.specs.declared.State as Declared
-use Rattle.run.specs.Views.{pending_of, state_of}
 use Rattle.vebrostin.specs.Cells.{ArgumentsBack, Askable, ComesBack, Held, padded, question_cells, question_in, state_cells, state_in, value_cell}
 use Rattle.vebrostin.specs.Calls.{written}
 
@@ -77,13 +74,6 @@ state_back s few held a h rest =
     ap (λ (x : List ℕ). state_in (s.position ∷ length s.kept ∷ x)) (append_assoc (padded 9 s.kept) (question_cells s.pending) rest)
     ∙ kept_back s.position q s.kept few held
     ∙ ap (λ (o : Option Question). record { position = s.position; kept = s.kept; pending = o }) (question_back s.pending a h rest)
-
--- the cells that the code writes
-pub written_back : (s : Declared.State) (count v : ℕ) (rest : List ℕ) → length (kept_values s.kept) ≤ 9 → Held (kept_values s.kept) → Askable (pending_of s.pending)
-    → ArgumentsBack (pending_of s.pending) → state_in ((state_cells (state_of s) ++ (count ∷ v ∷ [])) ++ rest) ≡ state_of s
-written_back s count v rest few held a h =
-    ap state_in (append_assoc (state_cells (state_of s)) (count ∷ v ∷ []) rest)
-    ∙ state_back (state_of s) few held a h ((count ∷ v ∷ []) ++ rest)
 
 -- ---- what a host reads from the cells of a reply
 

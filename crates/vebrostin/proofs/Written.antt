@@ -9,9 +9,6 @@ use lib.ListN.{length, take, set, get_or}
 use lib.Seq.{take_all}
 use lib.Ieee.{Float}
 use Rattle.meaning.specs.Work.{Question, elementary, power}
-use Rattle.work.specs.View.{kept_values}
-use Rattle.run.specs.declared.State.{State}
-use Rattle.run.specs.Views.{pending_of, state_of}
 use Rattle.vebrostin.specs.Cells.{bits, padded, question_cells, state_cells}
 
 -- ---- written
@@ -39,9 +36,9 @@ three (some (elementary f x)) t = refl
 three (some (power x y)) t = refl
 
 -- and the whole row
-pub row_whole : (s : State) (vs : List Float) (count v i : ℕ) {q row : List ℕ} → vs ≡ kept_values s.kept → length vs ≤ i → q ≡ question_cells (pending_of s.pending)
-    → row ≡ s.position ∷ length vs ∷ padded 9 (take i vs) ++ (get_or q 0 0 ∷ get_or q 1 0 ∷ get_or q 2 0 ∷ count ∷ v ∷ [])
-    → row ≡ state_cells (state_of s) ++ (count ∷ v ∷ [])
-row_whole s vs count v i ev h eq er =
+pub row_whole : (at : ℕ) (vs : List Float) (o : Option Question) (count v i : ℕ) {q row : List ℕ} → length vs ≤ i → q ≡ question_cells o
+    → row ≡ at ∷ length vs ∷ padded 9 (take i vs) ++ (get_or q 0 0 ∷ get_or q 1 0 ∷ get_or q 2 0 ∷ count ∷ v ∷ [])
+    → row ≡ state_cells (record { position = at; kept = vs; pending = o }) ++ (count ∷ v ∷ [])
+row_whole at vs o count v i h eq er =
     let t = count ∷ v ∷ [] in
-    rw (er, take_all i vs h, ev, eq, three (pending_of s.pending) t) (ap (λ (x : List ℕ). s.position ∷ length (kept_values s.kept) ∷ x) (sym (append_assoc (padded 9 (kept_values s.kept)) (question_cells (pending_of s.pending)) t)))
+    rw (er, take_all i vs h, eq, three o t) (ap (λ (x : List ℕ). at ∷ length vs ∷ x) (sym (append_assoc (padded 9 vs) (question_cells o) t)))

@@ -10,11 +10,11 @@ ghost use Rattle.machine.specs.Program.{valid};
 ghost use Rattle.machine.specs.Machine.{place_of};
 ghost use Rattle.layout.specs.Decode.{code_count, program_at};
 ghost use Rattle.work.specs.View.{kept_values, question_of};
-ghost use Rattle.run.specs.Views.{answer_of, pending_of, reply_of, state_of, supplied_of};
+ghost use Rattle.run.specs.Views.{answer_of, pending_of, state_of, supplied_of};
 ghost use Rattle.run.specs.Calls.{after, resume_at, run_at, steps_at, unfit_at};
 ghost use Rattle.vebrostin.specs.Cells.{ArgumentsBack, Askable, ComesBack, Held, bits, kept_in, number_of, padded, question_cells, question_in, state_cells, state_in, value_at, value_cell};
 ghost use Rattle.derive.specs.Outcome.{lengths};
-ghost use Rattle.vebrostin.specs.Calls.{Answers, Carries, Compiles, Derives, Leaves, PutsOnly, compile_outcome, derive_outcome, node_place, resume_outcome, run_outcome, Settles, short, told_node, told_number};
+ghost use Rattle.vebrostin.specs.Calls.{Answers, Carries, Compiles, Derives, Ends, Leaves, PutsOnly, compile_outcome, derive_outcome, node_place, resume_outcome, run_outcome, Settles, short, told_node, told_number};
 
 use floats::value::{bits_of, is_finite, of_bits};
 use instruction::value_at;
@@ -210,17 +210,22 @@ fn values_of(kept: &Kept) -> &[f64]
     &kept.values[..kept.count.min(9)]
 }
 
-// Writes a state's cells, and after them a count and a value: all sixteen.
-fn put(cells: &mut [u64], state: State, count: usize, value: u64)
-    requires { 16 ≤ length cells.old }
-    ensures cells { cells.new ≡ (state_cells (state_of state) ++ (count ∷ value ∷ [])) ++ drop 16 cells.old }
-    ensures state { Askable (pending_of state.pending) → state_in cells.new ≡ state_of state }
+// Writes all sixteen cells: a state's by its parts, nine values kept at most, then a count and a value.
+fn put(
+    cells: &mut [u64],
+    position: usize,
+    values: &[f64],
+    pending: Option<Question>,
+    count: usize,
+    value: u64,
+)
+    requires { (16 ≤ length cells.old) × (length values.now ≤ 9) }
+    ensures cells { cells.new ≡ (state_cells (record { position = position; kept = values.now; pending = pending_of pending }) ++ (count ∷ value ∷ [])) ++ drop 16 cells.old }
+    ensures state { Askable (pending_of pending) → state_in cells.new ≡ record { position = position; kept = values.now; pending = pending_of pending } }
 {
-    let kept = state.kept;
-    let values = values_of(&kept);
-    let [question, first, second] = question_cells(state.pending);
+    let [question, first, second] = question_cells(pending);
     let mut row = [
-        state.position as u64,
+        position as u64,
         values.len() as u64,
         0,
         0,
@@ -237,8 +242,8 @@ fn put(cells: &mut [u64], state: State, count: usize, value: u64)
         count as u64,
         value,
     ];
-    for (i, value) in values.iter().enumerate() {
-        row[2 + i] = value_bits(*value);
+    for (i, kept) in values.iter().enumerate() {
+        row[2 + i] = value_bits(*kept);
     }
     cells[..16].copy_from_slice(&row);
 }
@@ -250,7 +255,17 @@ fn put_reply(cells: &mut [u64], reply: Reply) -> usize
     ensures cells { cells.new ≡ (state_cells (state_of reply.state) ++ (reply.count ∷ value_cell (answer_of [] reply.answer) ∷ [])) ++ drop 16 cells.old }
     ensures state { Askable (pending_of reply.state.pending) → state_in cells.new ≡ state_of reply.state }
 {
-    put(cells, reply.state, reply.count, value_of(reply.answer));
+    let state = reply.state;
+    let kept = state.kept;
+    let value = value_of(reply.answer);
+    put(
+        cells,
+        state.position,
+        values_of(&kept),
+        state.pending,
+        reply.count,
+        value,
+    );
     number_of(reply.answer)
 }
 
@@ -285,57 +300,37 @@ fn question_at(program: &[u8], registers: &[f64], at: usize) -> Option<Question>
     None
 }
 
-// The end of a call that came to a place, nothing kept, with so many instructions completed. Most ends are told at once, as it
-// takes `run::rest` longer to come to them.
+// Ends a call that came to a place, nothing kept, with so many instructions completed. No state and no reply is made where
+// the end can be told at once: they take most of the time of a short run or an answer.
 fn ends(
     program: &[u8],
     inputs: &[f64],
     registers: &mut [f64],
     path: &mut [u8],
+    cells: &mut [u64],
     count: usize,
     place: Place,
-) -> Reply
-    requires { (8192 ≤ length path.old) × (count + place.left < 18446744073709551616) }
-    ensures reply { reply_of program.now result registers.new ≡ after count (steps_at inputs.now program.now place.left place.at [] registers.old) }
-    ensures place { valid (program_at program.now) ≡ true → path.new ≡ placed (place_of (answer_of program.now result.answer)) path.old }
+) -> usize
+    requires { (16 ≤ length cells.old) × (8192 ≤ length path.old) × (count + place.left < 18446744073709551616) }
+    ensures reply { Ends (after count (steps_at inputs.now program.now place.left place.at [] registers.old)) result cells.old cells.new registers.new }
+    ensures place { valid (program_at program.now) ≡ true → path.new ≡ placed (place_of (after count (steps_at inputs.now program.now place.left place.at [] registers.old)).answer) path.old }
 {
     let code = word(program, CODE_AT);
-    let kept = Kept::new();
     if code <= place.at {
         let value = value_at(registers, word(program, RESULT_AT));
-        return Reply {
-            answer: Answer::Value(value),
-            count,
-            state: State {
-                position: code,
-                kept,
-                pending: None,
-            },
-        };
+        put(cells, code, &[], None, count, bits_of(value));
+        return 0;
     }
     if place.left == 0 {
-        return Reply {
-            answer: Answer::Spent,
-            count,
-            state: State {
-                position: place.at,
-                kept,
-                pending: None,
-            },
-        };
+        put(cells, place.at, &[], None, count, 0);
+        return 101;
     }
     if let Some(question) = question_at(program, registers, place.at) {
-        return Reply {
-            answer: Answer::Question(question),
-            count,
-            state: State {
-                position: place.at,
-                kept,
-                pending: Some(question),
-            },
-        };
+        put(cells, place.at, &[], Some(question), count, 0);
+        return 100;
     }
-    run::rest(program, inputs, registers, path, count, place)
+    let reply = run::rest(program, inputs, registers, path, count, place);
+    put_reply(cells, reply)
 }
 
 // Whether the cells hold this question.
@@ -408,7 +403,7 @@ pub fn vebrostin_run(
     if run::goes_on(program, path.len()) {
         return vebrostin_run_unchecked(program, inputs, registers, path, budget, cells, report);
     }
-    put(cells, State::fresh(), 0, 0);
+    put(cells, 0, &[], None, 0, 0);
     number(Refusal::NoProgram)
 }
 
@@ -509,8 +504,8 @@ pub fn vebrostin_run_unchecked(
         left: budget,
     };
     let place = run::along(program, inputs, registers, start);
-    let reply = ends(program, inputs, registers, path, budget - place.left, place);
-    put_reply(cells, reply)
+    let count = budget - place.left;
+    ends(program, inputs, registers, path, cells, count, place)
 }
 
 fn resumed_unchecked(
@@ -585,8 +580,8 @@ pub fn vebrostin_answer_unchecked(
             left: budget - 1,
         };
         let place = run::along(program, inputs, registers, next);
-        let reply = ends(program, inputs, registers, path, budget - place.left, place);
-        return put_reply(cells, reply);
+        let count = budget - place.left;
+        return ends(program, inputs, registers, path, cells, count, place);
     }
     resumed_unchecked(
         program,

@@ -4,5 +4,5 @@ use Rattle.vebrostin.proofs.put.Given as goal
 
 abbrev pub invariant-loop-i : goal.invariant-loop-i
 invariant-loop-i l =
-    (l.row ≡ l.fn.state.position ∷ length l.values ∷ padded 9 (take l.i l.values) ++ (l.question ∷ l.first ∷ l.second ∷ l.count ∷ l.value ∷ []))
+    (l.row ≡ l.position ∷ length l.values ∷ padded 9 (take l.i l.values) ++ (l.question ∷ l.first ∷ l.second ∷ l.count ∷ l.value ∷ []))
     × Held (take l.i l.values)
