@@ -4,9 +4,9 @@ use mathlib.Core.List.{List, [], ◌∷◌, ◌++◌, map}
 use Prim.Native.Nat.{ℕ, ◌+◌, ◌-◌, ◌≤◌, ◌<◌}
 use native.Mathlib.Omega.{arith}
 use lib.ListN.{drop, get_or, length, length-append, length-drop, take}
-use lib.Seq.{drop-cons, length-take-le}
+use lib.Seq.{drop-cons, drop-length, length-take-le, take-length}
 use native.Mathlib.Numerals.{add-one}
-use Rattle.std.proofs.lemmas.List.{drop_all, take_all}
+use Rattle.std.proofs.lemmas.List.{append-nil, drop_all, take_all}
 use lib.Ieee.{Float}
 use Rattle.std.proofs.Common.{min}
 use Rattle.formula.specs.Path.{placed}
@@ -46,10 +46,15 @@ pub no_calls : (calls : List Call) → length calls < 1 → calls ≡ []
 no_calls [] h = refl
 no_calls (c ∷ cs) h = absurd (omega arith)
 
-pub none_played : (inputs : List Float) (b path part : List ℕ) (regs regs' : List Float) (r : Reply) → reply_of b r regs' ≡ run_at inputs b (length (take 0 path)) 0 regs
-    → part ≡ placed (place_of (answer_of b r.answer)) (take 0 path) → seen b r regs' (part ++ path) ≡ play_at inputs b path [] regs
+-- the whole path slice
+pub whole_lent : (path part : List ℕ) (f : List ℕ → List ℕ) → part ≡ f path → part ≡ f (take (length path) path) ++ drop (length path) path
+whole_lent path part f e = rw (take-length path, drop-length path, append-nil (f path)) e
+
+pub none_played : (inputs : List Float) (b path path' : List ℕ) (regs regs' : List Float) (r : Reply) → reply_of b r regs' ≡ run_at inputs b (length path) 0 regs
+    → path' ≡ placed (place_of (answer_of b r.answer)) path → seen b r regs' path' ≡ play_at inputs b path [] regs
 unfolding play_at run_at
-none_played inputs b path part regs regs' r e f = seen_is b 0 r regs' (part ++ path) path _ e (ap (λ (x : List ℕ). x ++ path) f)
+none_played inputs b path path' regs regs' r e f =
+    seen_is b (length path) r regs' path' path _ e (whole_lent path path' (λ q. placed (place_of (answer_of b r.answer)) q) f)
 
 module _ (inputs : List Float) (b : List ℕ) (n : ℕ) (rest : List Call) where
   unfoldable pub left_at : Played → ℕ → Played

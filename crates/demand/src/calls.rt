@@ -15,8 +15,8 @@ pub struct Call {
     pub supplied: Option<f64>,
 }
 
-// The reply to the last call of a list, which begins with a run: without a call in it, one with no path slice and budget 0.
-// Each call is lent the first bytes of the path slice.
+// The reply to the last call of a list, which begins with a run: without a call in it, one with the whole path slice and
+// budget 0. Each call is lent the first bytes of the path slice.
 pub fn play(
     program: &[u8],
     inputs: &[f64],
@@ -30,7 +30,7 @@ pub fn play(
 {
     let whole = path.len();
     match calls {
-        [] => run::run(program, inputs, registers, &mut path[..0], 0),
+        [] => run::run(program, inputs, registers, path, 0),
         [first, rest @ ..] => {
             let room = first.room.min(whole);
             let mut reply = run::run(program, inputs, registers, &mut path[..room], first.budget);

@@ -8,9 +8,9 @@ use native.Mathlib.Numerals.{add-one}
 use native.Mathlib.Omega.{arith}
 use lib.ListN.{drop, get_or, length, take, take-append-drop}
 use lib.Dec.{ltb}
-use lib.Seq.{length-take-le}
+use lib.Seq.{drop-length, length-take-le, take-length}
 use Rattle.std.proofs.Common.{min}
-use Rattle.std.proofs.lemmas.List.{drop_all}
+use Rattle.std.proofs.lemmas.List.{append-nil, drop_all}
 use lib.Ieee.{Float, binary64}
 use Rattle.refusals.specs.Numbers.{slice_too_short}
 use Rattle.formula.specs.Path.{placed}
@@ -151,15 +151,24 @@ pub record Ended (inputs : List Float) (b : List ℕ) (calls : List Code.Call) (
   pub reply : short cells report ≡ false → Follows (play_at inputs b path calls regs) number cells' regs' path'
 
 -- of a list without a call
-pub none_ended : (inputs : List Float) (b : List ℕ) (regs regs' : List Float) (cells cells' path part report report' : List ℕ) (number : ℕ)
-    → Leaves (run_outcome inputs b 0 regs cells (take 0 path) report) number cells' regs' part report' → Carries cells' report' (run_at inputs b (length (take 0 path)) 0 regs)
-    → length cells' ≡ length cells → length report' ≡ length report → Ended inputs b [] regs cells path report number cells' regs' (part ++ path) report'
+pub none_ended : (inputs : List Float) (b : List ℕ) (regs regs' : List Float) (cells cells' path path' report report' : List ℕ) (number : ℕ)
+    → Leaves (run_outcome inputs b 0 regs cells path report) number cells' regs' path' report' → Carries cells' report' (run_at inputs b (length path) 0 regs)
+    → length cells' ≡ length cells → length report' ≡ length report → Ended inputs b [] regs cells path report number cells' regs' path' report'
 unfolding host_at play_at run_at
-none_ended inputs b regs regs' cells cells' path part report report' number L K ec et =
+none_ended inputs b regs regs' cells cells' path path' report report' number L K ec et =
+    let n = length path in
+    let whole : take n path ≡ path = take-length path in
+    let back : path' ++ drop n path ≡ path' = rw (drop-length path) (append-nil path') in
+    let L' : Leaves (run_outcome inputs b 0 regs cells (take n path) report) number cells' regs' path' report' = rw whole L in
+    let K' : Carries cells' report' (run_at inputs b (length (take n path)) 0 regs) = rw whole K in
     record {
-      outcome = subst (λ (o : Outcome). Leaves o number cells' regs' (part ++ path) report')
-          (left_is (run_outcome inputs b 0 regs cells (take 0 path) report) number cells' regs' part path report' 0 L) (refl, refl, refl, refl, refl);
-      reply = λ enough. run_follows inputs b 0 regs regs' cells cells' path part report report' number 0 enough ec et L K;
+      outcome = subst (λ (q : List ℕ). Leaves (lent n (run_outcome inputs b 0 regs cells (take n path) report) path) number cells' regs' q report') back
+          (subst (λ (o : Outcome). Leaves o number cells' regs' (path' ++ drop n path) report')
+          (left_is (run_outcome inputs b 0 regs cells (take n path) report) number cells' regs' path' path report' n L') (refl, refl, refl, refl, refl));
+      reply = λ enough.
+          let f = run_follows inputs b 0 regs regs' cells cells' path path' report report' number n enough ec et L' K' in
+          subst (λ (k : ℕ). Follows (noted n (run_at inputs b k 0 regs) path) number cells' regs' path') (ap length whole)
+          (subst (λ (q : List ℕ). Follows (noted n (run_at inputs b (length (take n path)) 0 regs) path) number cells' regs' q) back f);
     }
 
 -- ---- the machine's list

@@ -61,8 +61,8 @@ fn go_on(
     }
 }
 
-// The number of the last call of a list, which begins with a run: without a call in it, one with no path slice and budget 0.
-// Each call is lent the first bytes of the path slice, and the cells as the last call left them.
+// The number of the last call of a list, which begins with a run: without a call in it, one with the whole path slice and
+// budget 0. Each call is lent the first bytes of the path slice, and the cells as the last call left them.
 fn call_all(
     program: &[u8],
     inputs: &[f64],
@@ -75,19 +75,11 @@ fn call_all(
     ensures outcome { Leaves (host_at inputs.now program.now cells.old path.old report.old calls.now registers.old) result cells.new registers.new path.new report.new }
     ensures reply { short cells.old report.old ≡ false → Follows (play_at inputs.now program.now path.old calls.now registers.old) result cells.new registers.new path.new }
 {
-    let n = path.len();
+    let whole = path.len();
     match calls {
-        [] => vebrostin_run(
-            program,
-            inputs,
-            registers,
-            &mut path[..0],
-            0,
-            cells,
-            report,
-        ),
+        [] => vebrostin_run(program, inputs, registers, path, 0, cells, report),
         [first, rest @ ..] => {
-            let room = first.room.min(n);
+            let room = first.room.min(whole);
             let mut number = vebrostin_run(
                 program,
                 inputs,
@@ -98,7 +90,7 @@ fn call_all(
                 report,
             );
             for call in rest {
-                let room = call.room.min(n);
+                let room = call.room.min(whole);
                 number = go_on(
                     program,
                     inputs,
