@@ -142,6 +142,10 @@ radicand_plain a c d M f K U w v e g h u =
     right : (M f w c v : ℕ) → M * f * (w * (c * v)) ≡ M * w * (c * (f * v))
     right M f w c v = simp (mul_assoc, mul_left_comm)
 
+-- ---- a long root has 54 digits at most
+pub long_below : (M r : ℕ) → M < 2 ^ 54 → Root (M * 2 ^ 54) r → r < 2 ^ 54
+long_below M r hi R = root_lt (M * 2 ^ 54) r (2 ^ 54) R (omega arith)
+
 -- ---- the bits that `root_bits` makes
 module _ (b digits exp M r : ℕ) (B : b < infinity_bits) (D : digits * 2 ^ exp ≡ magnitude b * 2 ^ 52) (some : 2 ^ 52 ≤ digits) (X : exp < 2098)
     (E : M * 4 ^ (exp / 2) ≡ digits * 2 ^ exp) (lo : 2 ^ 52 ≤ M) (hi : M < 2 ^ 54) (R : Root (M * 2 ^ 54) r) where
@@ -151,8 +155,8 @@ module _ (b digits exp M r : ℕ) (B : b < infinity_bits) (D : digits * 2 ^ exp 
   pub root_big : 2 ^ 53 ≤ r
   root_big = root_ge (M * 2 ^ 54) r (2 ^ 53) R (omega arith)
 
-  pub root_small : r < 2 ^ 54
-  root_small = root_lt (M * 2 ^ 54) r (2 ^ 54) R (omega arith)
+  root_small : r < 2 ^ 54
+  root_small = long_below M r hi R
 
   magnitude_pos : 0 < magnitude b
   magnitude_pos = first_pos (magnitude b) (2 ^ 52) (lt_of_lt_of_le (mul-pos (lt_of_lt_of_le (pow_pos 52) some) (pow_pos exp)) (le_of_eq D))

@@ -43,6 +43,7 @@ fn whole_root(m: u64) -> u64
 
 // The whole part of the root of m * 2^54: the upper 27 digits are the root of m, and the lower ones the
 // quotient of what is left by twice that, less one where the quotient's own square is too much.
+#[tactic(auto, using(crate::proofs::RootSteps::split, crate::proofs::RootSteps::some_root))]
 fn long_root(m: u64) -> u64
     requires { (2 ^ 52 ≤ m) × (m < 2 ^ 54) }
     ensures { Root (m * 2 ^ 54) result }

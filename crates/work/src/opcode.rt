@@ -1,4 +1,5 @@
 // The operations' opcodes, as docs/PROGRAM.md numbers them. A function's number is its opcode less EXP.
+// Names and no enum: a program's byte may hold any number, so an enum would first need a table as long as this one to read it.
 pub const POSITIVE: usize = 5;
 
 pub const NEGATIVE: usize = 6;
