@@ -1,11 +1,9 @@
 -- The loop over a host's list of calls: what the library's functions leave, and that it follows the machine's replies.
 use mathlib.Core.Path.{◌≡◌, refl, ap, ap₂, sym, ◌∙◌, subst}
-use mathlib.Core.Bool.{Bool, true, false, ◌||◌}
+use mathlib.Core.Bool.{true, false, ◌||◌}
 use mathlib.Core.List.{List, [], ◌∷◌, ◌++◌, map}
-use mathlib.Core.Option.{Option, none}
-use Prim.Native.Nat.{ℕ, suc, ◌+◌, ◌-◌, ◌≤◌, ◌<◌}
-use native.Mathlib.Numerals.{add-one}
-use native.Mathlib.Omega.{arith}
+use mathlib.Core.Option.{Option}
+use Prim.Native.Nat.{ℕ, ◌+◌, ◌≤◌}
 use lib.ListN.{drop, get_or, length, take, take-append-drop}
 use lib.Dec.{ltb}
 use lib.Seq.{drop-length, length-take-le, take-length}
@@ -14,19 +12,20 @@ use Rattle.std.proofs.lemmas.List.{append-nil, drop_all}
 use lib.Ieee.{Float, binary64}
 use Rattle.refusals.specs.Numbers.{slice_too_short}
 use Rattle.formula.specs.Path.{placed}
-use Rattle.machine.specs.Machine.{Call, Reply, State, place_of, resume, run}
+use Rattle.machine.specs.Machine.{Call, Reply, State, place_of, resume}
 use Rattle.layout.specs.Decode.{program_at}
 use Rattle.run.specs.Calls.{resume_at, run_at}
+use Rattle.run.specs.Views.{supplied_of}
 use Rattle.demand.proofs.Loops.{again_long}
 use Rattle.demand.specs.Listed.{Played, call_of, first_call, later_calls, noted, play_at, playing}
 use Rattle.demand.specs.declared.calls.Call as Code
 use Rattle.vebrostin.specs.Cells.{number_of, question_cells, question_of, state_in}
-use Rattle.vebrostin.specs.Calls.{Carries, Leaves, Outcome, after, is_refused, report_length, resume_outcome, run_outcome, short, state_length, told, untouched, with_room, written}
+use Rattle.vebrostin.specs.Calls.{Carries, Leaves, Outcome, after, is_refused, report_length, resume_outcome, run_outcome, short, state_length, untouched, with_room, written}
 use Rattle.vebrostin.proofs.Asking.{resume_asks, run_asks}
 use Rattle.vebrostin.proofs.Outcomes.{no_room, roomy}
 use Rattle.vebrostin.proofs.Crossing.{written_count, written_question, written_value}
 use Rattle.hosted.specs.Hosted.{host_at, hosting, lent, resumed}
-use Rattle.hosted.specs.Owed.{Follows, Shows}
+use Rattle.hosted.specs.Owed.{Follows}
 
 -- ---- the definitions of the library's functions
 

@@ -3,7 +3,7 @@ use mathlib.Core.Path.{◌≡◌, refl, sym, ap, ◌∙◌, subst}
 use mathlib.Core.Bool.{Bool, true, false, ◌||◌}
 use mathlib.Core.List.{List}
 use mathlib.Core.Option.{Option, none}
-use Prim.Native.Nat.{ℕ, ◌-◌, ◌≤◌, ◌<◌}
+use Prim.Native.Nat.{ℕ, ◌≤◌, ◌<◌}
 use native.Mathlib.Omega.{arith}
 use lib.ListN.{length, length-set, set}
 use lib.Dec.{ltb}
@@ -34,7 +34,6 @@ use Rattle.vebrostin.proofs.Outcomes.{roomy}
 use Rattle.hosted.specs.Hosted.{asked, host_at, made_node, made_number}
 use Rattle.hosted.specs.Owed.{Follows, Makes, Owes}
 use Rattle.demand.specs.declared.Wanted.{Wanted}
-use Rattle.demand.specs.declared.Wanted.TheVariants as Wanted
 use Rattle.compile.proofs.Numbers.{Numbered, Numbers, numbers}
 use Rattle.demand.proofs.Numbers.{DerivedNumbers, Told, derived_numbers, told}
 use Rattle.hosted.proofs.Loops.{host_short}
@@ -140,9 +139,9 @@ module _ (b names q q' t t' l l' p p' u u' : List ℕ) (number : ℕ) where
       let X = compile_outcome b names (length q) (length p) u in
       let C = compile b names (length q) (length p) in
       let e : of_compiled X ≡ asked u (of_compiled C) = asked_compiled few C in
-      let t = numbers_asked few C (numbers b names (length q) (length p)) in
+      let counted = numbers_asked few C (numbers b names (length q) (length p)) in
       subst (λ (v : Wanted ℕ). Done v) (sym ew) (
-        ((h.0 ∙ compiled_number X t ∙ ap made_number e, h.1 ∙ ap (λ (o : Option Path). placed o q) (compiled_place X ∙ ap place_of e)), h.3 ∙ ap (λ (k : ℕ). reported k u) (compiled_node X t ∙ ap made_node e)),
+        ((h.0 ∙ compiled_number X counted ∙ ap made_number e, h.1 ∙ ap (λ (o : Option Path). placed o q) (compiled_place X ∙ ap place_of e)), h.3 ∙ ap (λ (k : ℕ). reported k u) (compiled_node X counted ∙ ap made_node e)),
         (et ∙ as_it_was few t, el ∙ as_it_was few l, h.2 ∙ compiled_program few C p),
       )
 
@@ -151,9 +150,9 @@ module _ (b names q q' t t' l l' p p' u u' : List ℕ) (number : ℕ) where
       let X = derive_outcome b names s (length q) lens u in
       let D = derive b names s (length q) lens in
       let e : of_derived X ≡ asked u (of_derived D) = asked_derived few D in
-      let t = derived_asked few D (derived_numbers b names s (length q) lens) in
+      let counted = derived_asked few D (derived_numbers b names s (length q) lens) in
       subst (λ (v : Wanted ℕ). Done v) (sym ew) (
-        ((h.0 ∙ derived_number X t ∙ ap made_number e, h.1 ∙ ap (λ (o : Option Path). placed o q) (derived_place X ∙ ap place_of e)), h.5 ∙ ap (λ (k : ℕ). reported k u) (derived_node X t ∙ ap made_node e)),
+        ((h.0 ∙ derived_number X counted ∙ ap made_number e, h.1 ∙ ap (λ (o : Option Path). placed o q) (derived_place X ∙ ap place_of e)), h.5 ∙ ap (λ (k : ℕ). reported k u) (derived_node X counted ∙ ap made_node e)),
         (h.2 ∙ derived_tree few D t, h.3 ∙ derived_list few D l, h.4 ∙ derived_program few D p),
       )
 

@@ -1,5 +1,5 @@
 -- A host's calls of the library's functions: a program is made, then come a run and resumes, each with cells, registers, path slice and report as the last call left them.
-use Rattle.std.specs.Prelude.{List, [], ◌∷◌, ◌++◌, ℕ, ◌-◌, drop, length, take, Float}
+use Rattle.std.specs.Prelude.{List, [], ◌∷◌, ◌++◌, ℕ, drop, length, take, Float}
 use Rattle.std.proofs.Math.Option.{none}
 use Rattle.refusals.specs.Numbers.{slice_too_short}
 use Rattle.machine.specs.Machine.{Call}

@@ -1,5 +1,5 @@
 -- What a host is owed: demand 3 by the number and the cells of the last call. Every beginning of a list is a list, so each call of it owes this.
-use Rattle.std.specs.Prelude.{◌≡◌, true, false, List, ℕ, ◌-◌, ◌≤◌, ◌<◌, drop, get_or, length, take, Float}
+use Rattle.std.specs.Prelude.{◌≡◌, true, false, List, ℕ, ◌≤◌, ◌<◌, drop, get_or, length, take, Float}
 use Rattle.refusals.specs.Numbers.{slice_too_short}
 use Rattle.arithmetic.specs.Value.{finite}
 use Rattle.formula.specs.Text.{all}

@@ -128,7 +128,5 @@ pub fn make_and_call(
     if refusal != 0 {
         return refusal;
     }
-    call_all(
-        program, inputs, registers, path, calls, cells, report,
-    )
+    call_all(program, inputs, registers, path, calls, cells, report)
 }
