@@ -20,7 +20,7 @@ fn read_once(from: &mut impl Read, buf: &mut [u8]) -> Option<usize>
     from.read(buf).ok()
 }
 
-// A file's bytes, as many as the slice holds, or none where it can't be read.
+// A file's bytes, as many as the slice holds, or none where it can't be read. The loop goes on by what came, so no `for` counts it.
 fn read_all(from: &mut impl Read, buf: &mut [u8]) -> Option<usize>
     ensures { IfSome result (λ n. n ≤ length buf.old) }
 {
@@ -59,7 +59,8 @@ fn print(mut stdout: Stdout, out: &[u8], n: usize) -> Result<(), Stop>
     stdout.write_all(&out[..n]).map_err(|_| Stop::Closed)
 }
 
-// Hands a block of input on, part by part, and prints what came of each. All of it is used, unless a write fails.
+// Hands a block of input on, part by part, and prints what came of each. All of it is used, unless a write fails. The loop goes
+// on by what a call used, so no `for` counts it.
 fn feed(
     stdout: Stdout,
     formula: &[u8],

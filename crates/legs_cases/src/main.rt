@@ -40,8 +40,8 @@ fn block_end(at: usize, block: usize, length: usize) -> usize
     at + block.clamp(1, length - at)
 }
 
-// Hands the input on in blocks, each from the first byte that was not used; none where the whole output has no room for what
-// came of it.
+// Hands the input on in blocks, each from the first byte that was not used, so no `for` counts them; none where the whole output
+// has no room for what came of it.
 fn feed(
     formula: &[u8],
     input: &[u8],
