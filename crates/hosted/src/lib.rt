@@ -17,7 +17,8 @@ use vebrostin::{
     vebrostin_answer, vebrostin_compile, vebrostin_derive, vebrostin_resume, vebrostin_run,
 };
 
-// 0 and the program of the formula or of its derivative, or the refusal.
+// 0 and the program of the formula or of its derivative, or the refusal: a number, as the C interface has it, like cells and
+// report, which are slices.
 fn write_program(
     formula: &[u8],
     names: &[u8],
