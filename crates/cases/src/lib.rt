@@ -179,6 +179,7 @@ pub fn hex(digits: &[u8]) -> Option<u64> {
 }
 
 // Reads standard input to the start of a buffer until that is full, the input ends or a read fails, and says how many bytes it read.
+// A `while`, since each step goes on by as much as a read gave.
 pub fn read_full(mut stdin: Stdin, room: &mut [u8]) -> usize
     ensures { result ≤ length room.new }
 {
