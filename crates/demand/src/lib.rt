@@ -14,7 +14,8 @@ use derive::derive;
 use refusals::Refusal;
 use run::Reply;
 
-// "a formula that compiles, or its derivative by a named symbol where one is given": the symbol's number, of a type S.
+// "a formula that compiles, or its derivative by a named symbol where one is given": the symbol's number, of a type S. Not an Option of it, as
+// None would read as nothing wanted.
 #[derive(Clone, Copy)]
 pub enum Wanted<S> {
     Formula,

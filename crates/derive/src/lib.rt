@@ -28,6 +28,9 @@ use refusals::Refusal;
 use survey::{By, Row, survey_formula};
 use writer::zero_from;
 
+// Path, tree, list and program slice stay parameters beside each other: of a struct that lends them each clause would have to say
+// besides that they are the same slices still.
+
 // "the later ones leave it all zero": the tree slice, and the list slice with it.
 fn clear(tree: &mut [u8], list: &mut [u8])
     ensures { (tree.new ≡ zeros (length tree.old)) × (list.new ≡ zeros (length list.old)) }

@@ -1,4 +1,5 @@
 // "Constants in f64 bits: 2π 401921fb54442d18, ln 2 3fe62e42fefa39ef, ln 10 40026bb1bbb55516."
+// A function each: a constant's value can't be made from bits.
 ghost use Rattle.std.specs.Prelude.{◌≡◌};
 ghost use Rattle.arithmetic.specs.Constant.{literal, two_pi, ln_two, ln_ten_bits};
 

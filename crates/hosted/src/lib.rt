@@ -1,5 +1,6 @@
 #![tactic(auto)]
 // Demand 3 for a host that has only the functions of `vebrostin`, which `vebrostin_c` gives under C names: compile or derive, then a list of calls that hand the cells on.
+// Slices are handed on one by one, as those functions take them.
 ghost use Rattle.std.specs.Prelude.{◌≡◌, false, length};
 ghost use Rattle.run.specs.Calls.{resume_at};
 ghost use Rattle.derive.specs.Outcome.{lengths};

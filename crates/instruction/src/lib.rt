@@ -1,5 +1,6 @@
 #![tactic(auto)]
 // One instruction of a program's bytes (docs/PROGRAM.md): reads and stores are total, so nothing is asked of the bytes.
+// Bytes and registers stay two parameters: of a struct of both slices a clause reads `given.entry.regs.now`, which is no plainer.
 pub mod common;
 pub mod longer;
 

@@ -187,7 +187,8 @@ impl Name {
     }
 }
 
-// The names of a line: how many there are, and the kind of each; after them `Parameter` fills the rest.
+// The names of a line: how many there are, and the kind of each; after them `Parameter` fills the rest, as there is no heap for a
+// list.
 #[derive(Clone, Copy)]
 pub struct Names {
     pub count: usize,

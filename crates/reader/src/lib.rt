@@ -22,7 +22,7 @@ fn known_bytes<const N: usize>(b: &[u8], at: usize) -> [u8; N]
     bytes
 }
 
-// The little-endian number of 2, 4 or 8 bytes that are all there.
+// The little-endian number of 2, 4 or 8 bytes that are all there: a name for each width, as the definitions have one each.
 pub fn known_half(b: &[u8], at: usize) -> usize
     requires { at + 2 ≤ length b.now }
     ensures { (result ≡ half_at b.now at) × (result < 65536) }

@@ -23,7 +23,8 @@ use instruction::{Effect, Progress};
 use layout::{CODE_AT, HEADER_SIZE, INPUTS_AT, REGISTERS_AT, RESULT_AT, SLOT_SIZE};
 use reader::{byte, word};
 use refusals::Refusal;
-use work::{Kept, Outcome, Question};
+use work::opcode::LOG;
+use work::{Kept, LOG_NUMBER, Outcome, Question};
 
 // "Run state: made by the run, read by the next call": position, "the values supplied" to a half-done Hill or density, and
 // the question that was shown and has no answer yet.
@@ -274,11 +275,6 @@ fn stale(p: &[u8], inputs: &[f64], regs: &[f64], state: State, supplied: Option<
     !puts(effect, question)
 }
 
-// Log by its number as a function, and as an opcode.
-const LOG: u8 = 1;
-
-const LOG_OPCODE: u8 = 21;
-
 // Whether the instruction that put this question, nothing kept, puts no other. Hill and density begin with a Log.
 #[tactic(auto, using(crate::proofs::Looping::code_small))]
 fn is_single(p: &[u8], position: usize, pending: Option<Question>) -> bool
@@ -288,7 +284,7 @@ fn is_single(p: &[u8], position: usize, pending: Option<Question>) -> bool
     match pending {
         None => false,
         Some(Question::Elementary(f, _)) => {
-            f != LOG || byte(p, HEADER_SIZE + SLOT_SIZE * position) == LOG_OPCODE
+            f != LOG_NUMBER || usize::from(byte(p, HEADER_SIZE + SLOT_SIZE * position)) == LOG
         }
         Some(Question::Power(_, _)) => true,
     }

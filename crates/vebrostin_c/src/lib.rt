@@ -1,6 +1,6 @@
 #![tactic(auto)]
 // The static library for C and Rust: the functions of the crate `vebrostin`, each under its C name, with its clauses. include/vebrostin.h
-// declares them. No caller owes anything but slices that are there.
+// declares them. No caller owes anything but slices that are there. Their parameters are C's, so none is a struct of slices.
 ghost use Rattle.std.specs.Prelude.{◌≡◌, length};
 ghost use Rattle.std.proofs.Math.Option.{none, some};
 ghost use Rattle.formula.specs.Text.{word_at};

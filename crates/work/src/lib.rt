@@ -16,7 +16,8 @@ ghost use Rattle.work.specs.Opcode.{puts_function, work_of};
 use opcode::{ADD, EXP, LT, MODULO, NE, NOT, POWER, SQRT, TANH};
 
 // "A half-done Hill or density keeps the values supplied to it, logarithms and the density's first exp":
-// the first `count` of nine, as no node puts more than nine questions.
+// the first `count` of nine, as no node puts more than nine questions. There is no heap for a list, and a state that comes
+// over the C interface may have any count.
 #[derive(Clone, Copy)]
 pub struct Kept {
     pub count: usize,
@@ -84,7 +85,7 @@ pub enum Outcome {
 // The functions that Hill and the density ask for, by number.
 const EXP_NUMBER: u8 = 0;
 
-const LOG_NUMBER: u8 = 1;
+pub const LOG_NUMBER: u8 = 1;
 
 fn asking(function: u8, x: f64) -> Outcome
     ensures { result ≡ Outcome.Question (shown_question (elementary function x)) }
@@ -99,7 +100,7 @@ pub fn truth_value(b: bool) -> f64
     if b { 1.0 } else { 0.0 }
 }
 
-// The work of an opcode on its first three arguments; the run itself holds the values of a longer Min or Max.
+// The work of an opcode on its first three arguments, which stay three parameters, as each definition has them; the run itself holds the values of a longer Min or Max.
 pub fn work(opcode: usize, x: f64, y: f64, z: f64, kept: Kept) -> Outcome
     ensures { result ≡ shown (advance (work_of opcode x y z) (kept_values kept)) }
 {
