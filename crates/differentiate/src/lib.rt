@@ -206,7 +206,7 @@ fn put_tie<F: Form>(node: &Node, i: usize, out: &mut [u8]) -> usize
 
 // "A part without the symbol gives 0 before any rule is tried." The survey has found a rule wherever one is needed.
 #[cycle(writing)]
-fn differentiate<F: Form>(part: &Part, depth: usize, out: &mut [u8]) -> usize
+pub fn differentiate<F: Form>(part: &Part, depth: usize, out: &mut [u8]) -> usize
     requires { Task part.now.by.symbol part.now.by.state part.now.node.formula.now part.now.node.rows.now part.now.node.number depth (bytes F.records (recorded part.now.by.symbol part.now.by.state part.now.node.number (tree part.now.node.formula.now part.now.node.number))) out.old }
     ensures { Writes (bytes F.records (recorded part.now.by.symbol part.now.by.state part.now.node.number (tree part.now.node.formula.now part.now.node.number))) out.old out.new result }
 {

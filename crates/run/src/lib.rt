@@ -153,7 +153,7 @@ pub fn along(p: &[u8], inputs: &[f64], regs: &mut [f64], from: Place) -> Place
 
 // "Spent means that the whole budget was completed and code remains": the code's end is looked at first, then the
 // budget, then the instruction. What is kept is for one instruction only.
-fn steps(p: &[u8], inputs: &[f64], regs: &mut [f64], from: Place, kept: Kept) -> Reply
+pub fn steps(p: &[u8], inputs: &[f64], regs: &mut [f64], from: Place, kept: Kept) -> Reply
     ensures reply { reply_of p.now result regs.new ≡ steps_at inputs.now p.now from.left from.at (kept_values kept) regs.old }
     ensures place { KnownPlace p.now result.answer }
 {
