@@ -5,3 +5,4 @@ pub mod Writing
 pub mod Ends
 pub mod Left
 pub mod Rates
+pub mod Numbers

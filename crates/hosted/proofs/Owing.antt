@@ -21,51 +21,49 @@ use Rattle.layout.specs.Image.{image}
 use Rattle.reader.proofs.Bytes.{Bytes}
 use Rattle.derivative.specs.Derive.{Derived, Lengths, derive, derived, formula_refused, formula_refused_at}
 use Rattle.derivative.specs.Derive as Derive
-use Rattle.compile.specs.Entry as Entry
 use Rattle.derive.specs.Outcome.{lengths}
-use Rattle.derive.specs.Outcome as Entered
 use Rattle.demand.specs.Listed.{play_at}
 use Rattle.demand.specs.declared.calls.Call as Code
 use Rattle.demand.proofs.Lasts.{demand}
 use Rattle.demand.specs.Made.{Made, made, make, of_compiled, of_derived, place_of, program_left, refused, refused_at, tree_left, list_left}
 use Rattle.demand.proofs.Sources.{source}
-use Rattle.vebrostin.specs.Calls.{Compiles, Derives, Leaves, Outcome, compile_outcome, derive_outcome, node_place, report_length, report_short, reported, short, told_node, told_number, with_room}
+use Rattle.vebrostin.specs.Calls.{Compiles, Derives, Leaves, Outcome, compile_node, compile_number, compile_outcome, derive_node, derive_number, derive_outcome, node_place, report_length, report_short, reported, short, with_room}
 use Rattle.vebrostin.proofs.Outcomes.{roomy}
 use Rattle.hosted.specs.Hosted.{asked, host_at, made_node, made_number}
 use Rattle.hosted.specs.Owed.{Follows, Makes, Owes}
 use Rattle.demand.specs.declared.Wanted.{Wanted}
-use Rattle.compile.proofs.Numbers.{Numbered, Numbers, numbers}
-use Rattle.demand.proofs.Numbers.{DerivedNumbers, Told, derived_numbers, told}
+use Rattle.compile.proofs.Numbers.{Numbered}
+use Rattle.demand.proofs.Numbers.{Told, told}
 use Rattle.hosted.proofs.Loops.{host_short}
 
 -- ---- the making
 
-compiled_number : (X : Compiled) → Numbers X → told_number (Entry.answer X) ≡ made_number (of_compiled X)
-compiled_number (Compile.refused n place) t = t.number
-compiled_number (Compile.refused_at n k) t = t.number
-compiled_number (accepted f ss) t = refl
+compiled_number : (X : Compiled) → compile_number X ≡ made_number (of_compiled X)
+compiled_number (Compile.refused n place) = refl
+compiled_number (Compile.refused_at n k) = refl
+compiled_number (accepted f ss) = refl
 
-compiled_node : (X : Compiled) → Numbers X → told_node (Entry.answer X) ≡ made_node (of_compiled X)
-compiled_node (Compile.refused n place) t = rw t.node
-compiled_node (Compile.refused_at n k) t = rw t.node
-compiled_node (accepted f ss) t = refl
+compiled_node : (X : Compiled) → compile_node X ≡ made_node (of_compiled X)
+compiled_node (Compile.refused n place) = refl
+compiled_node (Compile.refused_at n k) = refl
+compiled_node (accepted f ss) = refl
 
 compiled_place : (X : Compiled) → Compile.place_of X ≡ place_of (of_compiled X)
 compiled_place (Compile.refused n place) = refl
 compiled_place (Compile.refused_at n k) = refl
 compiled_place (accepted f ss) = refl
 
-derived_number : (X : Derived) → DerivedNumbers X → told_number (Entered.answer X) ≡ made_number (of_derived X)
-derived_number (formula_refused n place) t = t.number
-derived_number (formula_refused_at n k) t = t.number
-derived_number (Derive.refused n place) t = t.number
-derived_number (derived d rs ss) t = refl
+derived_number : (X : Derived) → derive_number X ≡ made_number (of_derived X)
+derived_number (formula_refused n place) = refl
+derived_number (formula_refused_at n k) = refl
+derived_number (Derive.refused n place) = refl
+derived_number (derived d rs ss) = refl
 
-derived_node : (X : Derived) → DerivedNumbers X → told_node (Entered.answer X) ≡ made_node (of_derived X)
-derived_node (formula_refused n place) t = rw t.node
-derived_node (formula_refused_at n k) t = rw t.node
-derived_node (Derive.refused n place) t = rw t.node
-derived_node (derived d rs ss) t = refl
+derived_node : (X : Derived) → derive_node X ≡ made_node (of_derived X)
+derived_node (formula_refused n place) = refl
+derived_node (formula_refused_at n k) = refl
+derived_node (Derive.refused n place) = refl
+derived_node (derived d rs ss) = refl
 
 derived_place : (X : Derived) → Derive.place_of X ≡ place_of (of_derived X)
 derived_place (formula_refused n place) = refl
@@ -76,14 +74,6 @@ derived_place (derived d rs ss) = refl
 -- "1", which is asked for before anything else
 one : Numbered slice_too_short
 one = record { least = omega arith; most = omega arith; number = refl; node = refl }
-
-numbers_asked : (few : Bool) (X : Compiled) → Numbers X → Numbers (with_room few (Compile.refused slice_too_short none) X)
-numbers_asked true X t = one
-numbers_asked false X t = t
-
-derived_asked : (few : Bool) (X : Derived) → DerivedNumbers X → DerivedNumbers (with_room few (formula_refused slice_too_short none) X)
-derived_asked true X t = one
-derived_asked false X t = t
 
 asked_compiled : (few : Bool) (X : Compiled)
     → of_compiled (with_room few (Compile.refused slice_too_short none) X) ≡ with_room few (refused slice_too_short none) (of_compiled X)
@@ -139,9 +129,8 @@ module _ (b names q q' t t' l l' p p' u u' : List ℕ) (number : ℕ) where
       let X = compile_outcome b names (length q) (length p) u in
       let C = compile b names (length q) (length p) in
       let e : of_compiled X ≡ asked u (of_compiled C) = asked_compiled few C in
-      let counted = numbers_asked few C (numbers b names (length q) (length p)) in
       subst (λ (v : Wanted ℕ). Done v) (sym ew) (
-        ((h.0 ∙ compiled_number X counted ∙ ap made_number e, h.1 ∙ ap (λ (o : Option Path). placed o q) (compiled_place X ∙ ap place_of e)), h.3 ∙ ap (λ (k : ℕ). reported k u) (compiled_node X counted ∙ ap made_node e)),
+        ((h.0 ∙ compiled_number X ∙ ap made_number e, h.1 ∙ ap (λ (o : Option Path). placed o q) (compiled_place X ∙ ap place_of e)), h.3 ∙ ap (λ (k : ℕ). reported k u) (compiled_node X ∙ ap made_node e)),
         (et ∙ as_it_was few t, el ∙ as_it_was few l, h.2 ∙ compiled_program few C p),
       )
 
@@ -150,9 +139,8 @@ module _ (b names q q' t t' l l' p p' u u' : List ℕ) (number : ℕ) where
       let X = derive_outcome b names s (length q) lens u in
       let D = derive b names s (length q) lens in
       let e : of_derived X ≡ asked u (of_derived D) = asked_derived few D in
-      let counted = derived_asked few D (derived_numbers b names s (length q) lens) in
       subst (λ (v : Wanted ℕ). Done v) (sym ew) (
-        ((h.0 ∙ derived_number X counted ∙ ap made_number e, h.1 ∙ ap (λ (o : Option Path). placed o q) (derived_place X ∙ ap place_of e)), h.5 ∙ ap (λ (k : ℕ). reported k u) (derived_node X counted ∙ ap made_node e)),
+        ((h.0 ∙ derived_number X ∙ ap made_number e, h.1 ∙ ap (λ (o : Option Path). placed o q) (derived_place X ∙ ap place_of e)), h.5 ∙ ap (λ (k : ℕ). reported k u) (derived_node X ∙ ap made_node e)),
         (h.2 ∙ derived_tree few D t, h.3 ∙ derived_list few D l, h.4 ∙ derived_program few D p),
       )
 

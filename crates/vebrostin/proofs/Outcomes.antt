@@ -1,13 +1,14 @@
 -- What a call leaves, from what run and resume promise.
+use Rattle.std.specs.Prelude.{Result}
 use mathlib.Core.Path.{◌≡◌, refl, sym, ap, ◌∙◌, subst}
 use mathlib.Core.Bool.{Bool, true, false, true≢false}
 use mathlib.Core.List.{List, [], ◌∷◌, ◌++◌}
 use mathlib.Core.Logic.{⊎_elim}
 use mathlib.Core.Option.{Option}
-use Prim.Native.Nat.{ℕ, ◌<◌, ◌≤◌}
+use Prim.Native.Nat.{ℕ, ◌≤◌}
 use lib.ListN.{length, drop, set}
 use lib.Ieee.{Float}
-use borrow.Author.Tests.{le-ltb, lt-ltb, ltb-false}
+use borrow.Author.Tests.{le-ltb, ltb-false}
 use Rattle.refusals.specs.Numbers.{no_program, slice_too_short}
 use Rattle.refusals.specs.declared.Refusal.{Refusal}
 use Rattle.formula.specs.Path.{path_room, placed}
@@ -24,6 +25,8 @@ use Rattle.derivative.specs.Derive.{Derived, derive}
 use Rattle.derivative.specs.Derive as Derive
 use Rattle.derive.specs.Outcome.{lengths}
 use Rattle.derive.specs.Outcome as Entered
+use Rattle.compile.proofs.Numbers.{Numbers, numbers}
+use Rattle.derive.proofs.Numbers.{DerivedNumbers, derived_numbers}
 use Rattle.run.specs.declared.Answer.{Answer}
 use Rattle.run.specs.declared.Reply.{Reply}
 use Rattle.run.specs.declared.State.{State}
@@ -31,7 +34,7 @@ use Rattle.run.specs.Views.{HandsBack, answer_of, pending_of, reply_of, state_of
 use Rattle.run.specs.Calls.{Settled, resume_at, run_at}
 use Rattle.run.proofs.Whole.{resume_10}
 use Rattle.vebrostin.specs.Cells.{Askable, number_of, state_cells, state_in, value_cell}
-use Rattle.vebrostin.specs.Calls.{Carries, Compiles, Derives, Leaves, Outcome, Settles, after, compile_outcome, derive_outcome, Ends, is_refused, node_place, report_length, report_short, reported, resume_outcome, run_outcome, short, state_length, told, told_node, told_number, untouched, with_room, written}
+use Rattle.vebrostin.specs.Calls.{Carries, Compiles, Derives, Leaves, Outcome, Settles, after, compile_node, compile_number, compile_outcome, derive_node, derive_number, derive_outcome, Ends, is_refused, node_place, report_length, report_short, reported, resume_outcome, run_outcome, short, state_length, told, told_node, told_number, untouched, with_room, written}
 use Rattle.vebrostin.proofs.Asking.{resume_asks, run_asks}
 
 -- ---- the numbers of an answer don't go by the program
@@ -127,43 +130,63 @@ apart f g c = (λ t. (g (f t)).0, (λ t. (g (f t)).1, c))
 
 -- ---- compile and derive
 
-short_report : (report : List ℕ) (k : ℕ) → length report < report_length → report ≡ reported k report
-short_report report k h = no_room (report_short report) report (set report node_place k) (lt-ltb (length report) report_length h)
-
 long_report : (report : List ℕ) (k : ℕ) → report_length ≤ length report → set report node_place k ≡ reported k report
 long_report report k h = roomy (report_short report) report (set report node_place k) (le-ltb (length report) report_length h)
 
-module _ (b l q p report : List ℕ) where
-  pub compile_short : length report < report_length → Compiles (compile_outcome b l (length q) (length p) report) slice_too_short q q p p report report
-  compile_short h =
-      subst (λ (X : Compiled). Compiles X slice_too_short q q p p report report)
-      (no_room (report_short report) _ _ (lt-ltb (length report) report_length h)) (refl, refl, refl, short_report report 0 h)
+-- the refusal that the code tells has the definition's number and node
+compiled_number : (X : Compiled) → Numbers X → told_number (Entry.answer X) ≡ compile_number X
+compiled_number (Compile.refused n place) t = t.number
+compiled_number (Compile.refused_at n k) t = t.number
+compiled_number (Compile.accepted f ss) t = refl
 
-  pub compile_leaves : report_length ≤ length report → (n k : ℕ) (q' p' : List ℕ)
-      → (let X = compile b l (length q) (length p) in
-      n ≡ told_number (Entry.answer X) → k ≡ told_node (Entry.answer X) → q' ≡ Compile.path_after X q → p' ≡ Compile.program_after image X p
-      → Compiles (compile_outcome b l (length q) (length p) report) n q q' p p' report (set report node_place k))
-  compile_leaves h n k q' p' en ek eq ep =
-      subst (λ (X : Compiled). Compiles X n q q' p p' report (set report node_place k))
-      (roomy (report_short report) _ _ (le-ltb (length report) report_length h))
-      (en, eq, ep, long_report report k h ∙ ap (λ (i : ℕ). reported i report) ek)
+compiled_node : (X : Compiled) → Numbers X → told_node (Entry.answer X) ≡ compile_node X
+compiled_node (Compile.refused n place) t = rw t.node
+compiled_node (Compile.refused_at n k) t = rw t.node
+compiled_node (Compile.accepted f ss) t = refl
 
-module _ (b names : List ℕ) (s : ℕ) (q t l p report : List ℕ) where
-  pub derive_short : length report < report_length
-      → Derives (derive_outcome b names s (length q) (lengths t l p) report) slice_too_short q q t t l l p p report report
-  derive_short h =
-      subst (λ (X : Derived). Derives X slice_too_short q q t t l l p p report report)
-      (no_room (report_short report) _ _ (lt-ltb (length report) report_length h)) (refl, refl, refl, refl, refl, short_report report 0 h)
+derived_number : (X : Derived) → DerivedNumbers X → told_number (Entered.answer X) ≡ derive_number X
+derived_number (Derive.formula_refused n place) t = t.number
+derived_number (Derive.formula_refused_at n k) t = t.number
+derived_number (Derive.refused n place) t = t.number
+derived_number (Derive.derived d rs ss) t = refl
 
-  pub derive_leaves : report_length ≤ length report → (n k : ℕ) (q' t' l' p' : List ℕ)
-      → (let X = derive b names s (length q) (lengths t l p) in
-      n ≡ told_number (Entered.answer X) → k ≡ told_node (Entered.answer X) → q' ≡ Derive.path_after X q → t' ≡ Derive.tree_after X t
-      → l' ≡ Derive.list_after X l → p' ≡ Derive.program_after image X p
-      → Derives (derive_outcome b names s (length q) (lengths t l p) report) n q q' t t' l l' p p' report (set report node_place k))
-  derive_leaves h n k q' t' l' p' en ek eq et el ep =
-      subst (λ (X : Derived). Derives X n q q' t t' l l' p p' report (set report node_place k))
-      (roomy (report_short report) _ _ (le-ltb (length report) report_length h))
-      (en, eq, et, el, ep, long_report report k h ∙ ap (λ (i : ℕ). reported i report) ek)
+derived_node : (X : Derived) → DerivedNumbers X → told_node (Entered.answer X) ≡ derive_node X
+derived_node (Derive.formula_refused n place) t = rw t.node
+derived_node (Derive.formula_refused_at n k) t = rw t.node
+derived_node (Derive.refused n place) t = rw t.node
+derived_node (Derive.derived d rs ss) t = refl
+
+pub compile_leaves : (b l q p report : List ℕ) (r : Result Unit Refusal) {n : ℕ} {q' p' report' : List ℕ} → report_length ≤ length report
+    → (let X = compile b l (length q) (length p) in
+    r ≡ Entry.answer X → q' ≡ Compile.path_after X q → p' ≡ Compile.program_after image X p → n ≡ told_number r → report' ≡ set report node_place (told_node r)
+    → Compiles (compile_outcome b l (length q) (length p) report) n q q' p p' report report')
+compile_leaves b l q p report r {n} {q'} {p'} {report'} h er eq ep en ek =
+    let X = compile b l (length q) (length p) in
+    let N = numbers b l (length q) (length p) in
+    subst (λ (Y : Compiled). Compiles Y n q q' p p' report report')
+    (roomy (report_short report) _ _ (le-ltb (length report) report_length h)) (
+      en ∙ ap told_number er ∙ compiled_number X N,
+      eq,
+      ep,
+      ek ∙ long_report report (told_node r) h ∙ ap (λ (k : ℕ). reported k report) (ap told_node er ∙ compiled_node X N),
+    )
+
+pub derive_leaves : (b names : List ℕ) (s : ℕ) (q t l p report : List ℕ) (r : Result ℕ Refusal) {n : ℕ} {q' t' l' p' report' : List ℕ}
+    → report_length ≤ length report → Entered.Leaves (derive b names s (length q) (lengths t l p)) r q q' t t' l l' p p' → n ≡ told_number r
+    → report' ≡ set report node_place (told_node r)
+    → Derives (derive_outcome b names s (length q) (lengths t l p) report) n q q' t t' l l' p p' report report'
+derive_leaves b names s q t l p report r {n} {q'} {t'} {l'} {p'} {report'} h L en ek =
+    let X = derive b names s (length q) (lengths t l p) in
+    let N = derived_numbers b names s (length q) (lengths t l p) in
+    subst (λ (Y : Derived). Derives Y n q q' t t' l l' p p' report report')
+    (roomy (report_short report) _ _ (le-ltb (length report) report_length h)) (
+      en ∙ ap told_number L.0 ∙ derived_number X N,
+      L.1,
+      L.2,
+      L.3,
+      L.4,
+      ek ∙ long_report report (told_node r) h ∙ ap (λ (k : ℕ). reported k report) (ap told_node L.0 ∙ derived_node X N),
+    )
 
 -- ---- run
 

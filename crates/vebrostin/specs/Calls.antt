@@ -10,9 +10,7 @@ use Rattle.machine.specs.Machine.{Answer, Reply, place_of, refused, gives, asks,
 use Rattle.layout.specs.Decode.{code_count}
 use Rattle.layout.specs.Image.{image}
 use Rattle.machine.specs.Compile as Compile
-use Rattle.compile.specs.Entry as Entry
 use Rattle.derivative.specs.Derive as Derive
-use Rattle.derive.specs.Outcome as Entered
 use Rattle.work.specs.View.{question_of}
 use Rattle.work.specs.declared.Question.{Question}
 use Rattle.work.specs.declared.Outcome.TheVariants as Outcomes
@@ -53,7 +51,7 @@ with_room few refusal o = cond few refusal o
 abbrev pub reported : ℕ → List ℕ → List ℕ
 reported node report = with_room (report_short report) report (set report node_place node)
 
--- the number of a refusal, and its node; 0 where nothing is refused, and where it has no node
+-- the number of the code's refusal, and its node; 0 where nothing is refused, and where it has no node
 abbrev pub told_number : {T : Type 0} → Result T Refusal → ℕ
 told_number (Ok x) = 0
 told_number (Err r) = refusals.number_of r
@@ -62,6 +60,17 @@ abbrev pub told_node : {T : Type 0} → Result T Refusal → ℕ
 told_node (Ok x) = 0
 told_node (Err r) = unwrap_or (refusals.node_of r) 0
 
+-- 0 for a program, else the refusal
+abbrev pub compile_number : Compile.Compiled → ℕ
+compile_number (Compile.accepted f symbols) = 0
+compile_number (Compile.refused n place) = n
+compile_number (Compile.refused_at n k) = n
+
+abbrev pub compile_node : Compile.Compiled → ℕ
+compile_node (Compile.accepted f symbols) = 0
+compile_node (Compile.refused n place) = 0
+compile_node (Compile.refused_at n k) = k
+
 -- of formula bytes and a name line, with path and program slices of these lengths and this report
 abbrev pub compile_outcome : List ℕ → List ℕ → ℕ → ℕ → List ℕ → Compile.Compiled
 compile_outcome b l q p report = with_room (report_short report) (Compile.refused slice_too_short none) (Compile.compile b l q p)
@@ -69,8 +78,21 @@ compile_outcome b l q p report = with_room (report_short report) (Compile.refuse
 -- the number answered, and the path, program and report slices before and after
 abbrev pub Compiles : Compile.Compiled → ℕ → List ℕ → List ℕ → List ℕ → List ℕ → List ℕ → List ℕ → Type 0
 Compiles X n q q' p p' t t' =
-    (n ≡ told_number (Entry.answer X)) × (q' ≡ Compile.path_after X q) × (p' ≡ Compile.program_after image X p)
-    × (t' ≡ reported (told_node (Entry.answer X)) t)
+    (n ≡ compile_number X) × (q' ≡ Compile.path_after X q) × (p' ≡ Compile.program_after image X p)
+    × (t' ≡ reported (compile_node X) t)
+
+-- 0 for a tree, its records and its program, else the refusal
+abbrev pub derive_number : Derive.Derived → ℕ
+derive_number (Derive.derived d rs symbols) = 0
+derive_number (Derive.formula_refused n place) = n
+derive_number (Derive.formula_refused_at n k) = n
+derive_number (Derive.refused n place) = n
+
+abbrev pub derive_node : Derive.Derived → ℕ
+derive_node (Derive.derived d rs symbols) = 0
+derive_node (Derive.formula_refused n place) = 0
+derive_node (Derive.formula_refused_at n k) = k
+derive_node (Derive.refused n place) = 0
 
 -- of formula bytes, a name line and a symbol, with a path slice of this length, tree, list and program slices of these and this report
 abbrev pub derive_outcome : List ℕ → List ℕ → ℕ → ℕ → Derive.Lengths → List ℕ → Derive.Derived
@@ -79,9 +101,9 @@ derive_outcome b names s q l report = with_room (report_short report) (Derive.fo
 -- the number answered, and the path, tree, list, program and report slices before and after
 abbrev pub Derives : Derive.Derived → ℕ → List ℕ → List ℕ → List ℕ → List ℕ → List ℕ → List ℕ → List ℕ → List ℕ → List ℕ → List ℕ → Type 0
 Derives X n q q' t t' l l' p p' u u' =
-    (n ≡ told_number (Entered.answer X))
+    (n ≡ derive_number X)
     × (q' ≡ Derive.path_after X q) × (t' ≡ Derive.tree_after X t) × (l' ≡ Derive.list_after X l) × (p' ≡ Derive.program_after image X p)
-    × (u' ≡ reported (told_node (Entered.answer X)) u)
+    × (u' ≡ reported (derive_node X) u)
 
 -- ---- run and resume
 
