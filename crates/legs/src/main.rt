@@ -36,12 +36,13 @@ fn read_all(from: &mut impl Read, buf: &mut [u8]) -> Option<usize>
 }
 
 // The slice has a byte more than a formula file may have, so that a longer file is told from it.
-fn read_file(rt: &impl Files, path: &str, buf: &mut [u8]) -> Option<usize>
+fn read_file<'a>(rt: &impl Files, path: &str, buf: &'a mut [u8]) -> Option<&'a [u8]>
     requires { 4097 ≤ length buf.old }
-    ensures { IfSome result (λ n. n ≤ length buf.old) }
+    ensures { IfSome result (λ bytes. length bytes.now ≤ length buf.old) }
 {
     let mut file = fs::open(rt, path).ok()?;
-    read_all(&mut file, buf)
+    let n = read_all(&mut file, buf)?;
+    Some(&buf[..n])
 }
 
 // Why a listing stops before its end: a write failed, or as many blocks were read as are counted.
@@ -116,15 +117,15 @@ fn feed_all(
 fn list(
     stdin: Stdin,
     stdout: Stdout,
-    readable: bool,
-    formula: &[u8],
+    file: Option<&[u8]>,
     block: &mut [u8],
     memory: &mut Memory,
 ) -> Result<(), Stop>
     requires { Lent block.old (held memory.old) memory.old.out.now }
 {
+    let formula = file.unwrap_or(b"");
     let out = &mut *memory.out;
-    let begun = lines::start(readable, formula, out);
+    let begun = lines::start(file, out);
     print(stdout, out, begun.length)?;
     let last = feed_all(stdin, stdout, formula, block, begun.stage, memory)?;
     let length = lines::finish(formula, last, memory);
@@ -150,13 +151,5 @@ fn main(rt: HostRuntime) {
         out: &mut out,
     };
     let file = read_file(&rt, "formula.bin", &mut formula);
-    let n = file.unwrap_or(0);
-    let _ = list(
-        rt.stdin(),
-        rt.stdout(),
-        file.is_some(),
-        &formula[..n],
-        &mut block,
-        &mut memory,
-    );
+    let _ = list(rt.stdin(), rt.stdout(), file, &mut block, &mut memory);
 }

@@ -1,6 +1,6 @@
 -- An input handed on in blocks, and the whole output.
 use mathlib.Core.Path.{◌≡◌, refl, sym, ap, ◌∙◌, subst}
-use mathlib.Core.Bool.{Bool}
+use mathlib.Core.Option as Math
 use mathlib.Core.List.{List, [], ◌++◌, append_assoc}
 use Prim.Native.Nat.{ℕ, ◌+◌, ◌-◌, ◌≤◌}
 use native.Mathlib.Omega.{arith}
@@ -11,7 +11,7 @@ use Rattle.listing.specs.Legs.{legs}
 use Rattle.writer.proofs.Over.{over_nil}
 use Rattle.lines.specs.declared.Advanced.{Advanced}
 use Rattle.lines.specs.declared.Stage.{Stage}
-use Rattle.lines.specs.Owed.{Begins, Ends, Memory, Roomy, file_of}
+use Rattle.lines.specs.Owed.{Begins, BytesOf, Ends, Memory, Roomy}
 use Rattle.lines.specs.Calls.{Advancing}
 use Rattle.lines.proofs.Compose.{whole_output}
 use Rattle.lines.proofs.Feeding.{Feeding, SameLengths, feeding_advances, feeding_end, feeding_start, feeding_step}
@@ -78,32 +78,33 @@ module _ (formula input : List ℕ) (m : Memory) (s : Stage) (out all : List ℕ
 
 -- ---- the whole
 
-module _ (readable : Bool) (formula input : List ℕ) (m : Memory) (s : Stage) (all o₁ : List ℕ) (k₁ : ℕ) (a₁ : List ℕ) (roomy : Roomy m) (b : Begins readable formula s (take k₁ o₁))
+module _ (file : Math.Option (List ℕ)) (formula input : List ℕ) (m : Memory) (s : Stage) (all o₁ : List ℕ) (k₁ : ℕ) (a₁ : List ℕ) (bytes : BytesOf file formula) (roomy : Roomy m)
+    (b : Begins file s (take k₁ o₁))
     (short : k₁ ≤ length o₁) where
   -- the header does not fit
-  pub listed_none : Copies all 0 o₁ k₁ None a₁ → Lists readable formula input all None a₁
+  pub listed_none : Copies all 0 o₁ k₁ None a₁ → Lists file input all None a₁
   listed_none z =
       let x = take k₁ o₁ in
-      let y = b m roomy in
+      let y = b formula bytes m roomy in
       let more = y.0 input in
       let l = length-take-le k₁ o₁ short in
       record {
         longer = let v = z.1 in omega (arith, ap length (y.2 input), length-append x more);
         first = [];
-        rest = legs (file_of readable formula) input;
+        rest = legs file input;
         parts = refl;
         wrote = record { ends = refl; stands = z.0 ∙ sym (over_nil all 0) };
       }
 
   module _ (n₁ : ℕ) (c : Copies all 0 o₁ k₁ (Some n₁) a₁) (l₁ : length a₁ ≡ length all) where
     -- what came of the input does not fit
-    pub listed_some : (m' : Memory) (a₂ : List ℕ) → FeedsAll formula m s input m' a₁ n₁ None a₂ → Lists readable formula input all None a₂
+    pub listed_some : (m' : Memory) (a₂ : List ℕ) → FeedsAll formula m s input m' a₁ n₁ None a₂ → Lists file input all None a₂
     listed_some m' a₂ f =
         let x = take k₁ o₁ in
-        let y = b m roomy in
+        let y = b formula bytes m roomy in
         let t = f y.0 y.1 in
         let e = c.wrote.ends in
-        let w : legs (file_of readable formula) input ≡ (x ++ t.first) ++ t.rest = y.2 input ∙ ap (λ (xs : List ℕ). x ++ xs) t.parts ∙ sym (append_assoc x t.first t.rest) in
+        let w : legs file input ≡ (x ++ t.first) ++ t.rest = y.2 input ∙ ap (λ (xs : List ℕ). x ++ xs) t.parts ∙ sym (append_assoc x t.first t.rest) in
         record {
           longer = let v = t.longer in omega (arith, ap length (y.2 input), length-append x (y.0 input));
           first = x ++ t.first;
@@ -122,12 +123,12 @@ module _ (readable : Bool) (formula input : List ℕ) (m : Memory) (s : Stage) (
             room = let v = f.2.room in omega arith;
           }
 
-      whole : legs (file_of readable formula) input ≡ (take k₁ o₁ ++ f.0) ++ take k₃ o₃
+      whole : legs file input ≡ (take k₁ o₁ ++ f.0) ++ take k₃ o₃
       whole =
-          whole_output readable formula m m' s fd.stage input (take k₁ o₁) f.0 (take k₃ o₃) roomy b f.1 e
+          whole_output file formula m m' s fd.stage input (take k₁ o₁) f.0 (take k₃ o₃) bytes roomy b f.1 e
           ∙ sym (append_assoc (take k₁ o₁) f.0 (take k₃ o₃))
 
-      pub listed_by : (r : Option ℕ) (a₃ : List ℕ) → Copies a₂ fd.length o₃ k₃ r a₃ → Lists readable formula input all r a₃
+      pub listed_by : (r : Option ℕ) (a₃ : List ℕ) → Copies a₂ fd.length o₃ k₃ r a₃ → Lists file input all r a₃
       listed_by (Some n₃) a₃ d =
           subst (λ (xs : List ℕ). Fits all 0 xs a₃ n₃) (sym whole)
           (record {

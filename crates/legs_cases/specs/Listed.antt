@@ -1,9 +1,10 @@
 -- A whole listing, put together from what `start`, `advance` and `finish` wrote.
-use Rattle.std.specs.Prelude.{Option, Some, None, ◌≡◌, Bool, List, ◌++◌, ℕ, ◌+◌, ◌≤◌, ◌<◌, length, take}
+use Rattle.std.specs.Prelude.{Option, Some, None, ◌≡◌, List, ◌++◌, ℕ, ◌+◌, ◌≤◌, ◌<◌, length, take}
+use Rattle.std.proofs.Math.Option as Math
 use Rattle.listing.specs.Legs.{legs}
 use Rattle.lines.specs.declared.Stage.{Stage}
 use Rattle.lines.specs.Text.{Wrote}
-use Rattle.lines.specs.Owed.{Advances, Memory, Owed, file_of}
+use Rattle.lines.specs.Owed.{Advances, Memory, Owed}
 use Rattle.legs_cases.specs.declared.Fed.{Fed}
 
 -- all of a text stands in the slice from a place on
@@ -29,6 +30,6 @@ FeedsAll formula m s input m' all from (Some f) all' = (text : List ℕ) × Adva
 FeedsAll formula m s input m' all from None all' = (g : List ℕ → List ℕ) → Owed formula m s g → TooLong all from (g input) all'
 
 -- the whole output is the definition's, just where it fits
-abbrev pub Lists : Bool → List ℕ → List ℕ → List ℕ → Option ℕ → List ℕ → Type 0
-Lists readable formula input all (Some n) all' = Fits all 0 (legs (file_of readable formula) input) all' n
-Lists readable formula input all None all' = TooLong all 0 (legs (file_of readable formula) input) all'
+abbrev pub Lists : Math.Option (List ℕ) → List ℕ → List ℕ → Option ℕ → List ℕ → Type 0
+Lists file input all (Some n) all' = Fits all 0 (legs file input) all' n
+Lists file input all None all' = TooLong all 0 (legs file input) all'

@@ -7,7 +7,7 @@
 ghost use Rattle.std.specs.Prelude.{◌+◌, ◌≤◌, ◌<◌, length};
 ghost use Rattle.legs_cases.specs.Listed.{Copies, FeedsAll, Lists};
 ghost use Rattle.lines.specs.Calls.{Feedable, SameSlices, held};
-ghost use Rattle.lines.specs.Owed.{Roomy};
+ghost use Rattle.lines.specs.Owed.{Roomy, file_of};
 
 use cases::Record;
 use lines::{Memory, Stage};
@@ -71,18 +71,18 @@ fn feed(
 
 // Lists a whole input: what `start` gave, what `advance` gave for each block, and what `finish` gave, one after another.
 fn list_in(
-    readable: bool,
-    formula: &[u8],
+    file: Option<&[u8]>,
     input: &[u8],
     block: usize,
     memory: &mut Memory,
     all: &mut [u8],
 ) -> Option<usize>
     requires { Roomy (held memory.old) × (8353 ≤ length memory.old.out.now) }
-    ensures { Lists readable formula.now input.now all.old result all.new }
+    ensures { Lists (file_of file.entry) input.now all.old result all.new }
 {
+    let formula = file.unwrap_or(b"");
     let out = &mut *memory.out;
-    let begun = lines::start(readable, formula, out);
+    let begun = lines::start(file, out);
     let first = add(all, 0, out, begun.length)?;
     let fed = feed(formula, input, block, begun.stage, memory, all, first)?;
     let length = lines::finish(formula, fed.stage, memory);
@@ -92,8 +92,8 @@ fn list_in(
 
 // The same with memory of its own: what it gives is the definition's whole output, for any input and any length of block, just
 // where it fits.
-fn list(readable: bool, formula: &[u8], input: &[u8], block: usize, all: &mut [u8]) -> Option<usize>
-    ensures { Lists readable formula.now input.now all.old result all.new }
+fn list(file: Option<&[u8]>, input: &[u8], block: usize, all: &mut [u8]) -> Option<usize>
+    ensures { Lists (file_of file.entry) input.now all.old result all.new }
 {
     let mut names = [0u8; 17152];
     let mut path = [0u8; 8192];
@@ -109,7 +109,7 @@ fn list(readable: bool, formula: &[u8], input: &[u8], block: usize, all: &mut [u
         regs: &mut regs,
         out: &mut out,
     };
-    list_in(readable, formula, input, block, &mut memory, all)
+    list_in(file, input, block, &mut memory, all)
 }
 
 // ---- the record
@@ -124,8 +124,9 @@ fn as_recorded(record: &mut Record) -> Option<bool> {
     let formula = record.bytes(formula)?;
     let input = record.bytes(input)?;
     let output = record.bytes(output)?;
+    let file = readable.then_some(formula);
     let mut all = [0u8; 65536];
-    let n = list(readable, formula, input, block, &mut all)?;
+    let n = list(file, input, block, &mut all)?;
     Some(all.get(..n)? == output)
 }
 

@@ -1,5 +1,6 @@
 -- What `start`, `advance` and `finish` promise, one law for each way through a stage.
 use Rattle.std.proofs.Common.{◌≡◌, ℕ, ◌+◌, ◌-◌, ◌<◌, ◌≤◌, Bool, true, false, List, [], length, get_or, take, sym, refl, ap, ◌∙◌, subst, arith, length-take-le}
+use mathlib.Core.Option.{Option}
 use lib.Ieee.{Float}
 use Rattle.layout.specs.Decode.{program_at}
 use Rattle.listing.specs.Legs.{header}
@@ -29,19 +30,19 @@ advanced s used len = record { stage = s; used = used; length = len }
 
 -- ---- the start
 
-pub start_idle : (readable : Bool) (formula out : List ℕ) (t : Totals) → totals_of t ≡ nothing → length out < output_room
-    → Starting readable formula out (record { stage = Stage.Finished t; length = 0 }) out
-start_idle readable formula out t e h =
+pub start_idle : (file : Option (List ℕ)) (out : List ℕ) (t : Totals) → totals_of t ≡ nothing → length out < output_room
+    → Starting file out (record { stage = Stage.Finished t; length = 0 }) out
+start_idle file out t e h =
     record { begins = λ room. absurd (omega arith); idle = λ z. ((t, refl, e), refl, refl); room = omega arith; beyond = refl }
 
-pub starting : (readable : Bool) (formula out mid : List ℕ) (at : ℕ) (r : Begun) (out' : List ℕ) → output_room ≤ length out → at ≤ length out → r.length ≤ length out
-    → Wrote out 0 header mid at → Opens readable formula r mid at out' → Starting readable formula out r out'
-starting readable formula out mid at r out' room h k w o =
+pub starting : (file : Option (List ℕ)) (out mid : List ℕ) (at : ℕ) (r : Begun) (out' : List ℕ) → output_room ≤ length out → at ≤ length out → r.length ≤ length out
+    → Wrote out 0 header mid at → Opens file r mid at out' → Starting file out r out'
+starting file out mid at r out' room h k w o =
     record {
-      begins = λ y. begins readable formula out mid at r out' h k w o;
+      begins = λ y. begins file out mid at r out' h k w o;
       idle = λ y. absurd (omega arith);
       room = k;
-      beyond = begins_beyond readable formula out mid at r out' h k w o;
+      beyond = begins_beyond file out mid at r out' h k w o;
     }
 
 -- ---- too little output, and at the end

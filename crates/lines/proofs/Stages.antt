@@ -1,6 +1,6 @@
 -- From one stage of a listing to the next.
 use Rattle.std.proofs.Common.{◌≡◌, ℕ, suc, ◌+◌, ◌<◌, ◌≤◌, Bool, true, false, cond, leb, List, [], ◌∷◌, ◌++◌, length, get_or, take, drop, sym, refl, ap, ◌∙◌, subst, append_assoc, append-nil, arith, le-ltb, lt-ltb, leb-false, leb-true}
-use mathlib.Core.Option.{none}
+use mathlib.Core.Option.{Option, none, some}
 use lib.Ieee.{Float}
 use Rattle.formula.specs.Values.{last_line, lines_of, values_of}
 use Rattle.formula.specs.Term.{term}
@@ -26,7 +26,7 @@ use Rattle.values.specs.Reading.{Reading, TellsEmpty}
 use Rattle.lines.specs.Record.{Ready, Records}
 use Rattle.lines.specs.Text.{Wrote}
 use Rattle.lines.specs.Sums.{totals_of}
-use Rattle.lines.specs.Owed.{Advances, Begins, CompiledAs, Compiles, Ends, EndsWith, KeepsOn, Listing, Lists, Memory, Naming, Opens, Owed, file_of, memory, output_from, stage_at}
+use Rattle.lines.specs.Owed.{Advances, Begins, CompiledAs, Compiles, Ends, EndsWith, KeepsOn, Listing, Lists, Memory, Naming, Opens, Owed, memory, output_from, stage_at}
 use Rattle.lines.proofs.Keeping.{keeps_none}
 use Rattle.lines.proofs.NameLines.{compiled_kept}
 use Rattle.lines.proofs.Newlines.{drop_wrote, take_byte, take_wrote}
@@ -265,53 +265,53 @@ module _ (ln : Line) (program₀ : List ℕ) (values regs : List Float) (formula
 
 -- ---- the start
 
-opens_names_true : (formula out : List ℕ) (at : ℕ) → length formula ≤ 4096 → Opens true formula (record { stage = Stage.Names 0; length = at }) out at out
-opens_names_true formula out at h = (
+opens_some : (formula out : List ℕ) (at : ℕ) → length formula ≤ 4096 → Opens (some formula) (record { stage = Stage.Names 0; length = at }) out at out
+opens_some formula out at h = (
   [],
   record { ends = omega arith; stands = sym (over_nil out at) },
-  λ m roomy. (
+  λ bytes e m roomy. (
     λ input. with_total (with_input formula (lines_of input)),
-    record { roomy = roomy; seen = []; no_newline = refl; kept = keeps_none m.names; owes = λ rest. refl },
+    record { roomy = roomy; seen = []; no_newline = refl; kept = keeps_none m.names; owes = λ rest. ap (λ (xs : List ℕ). with_total (with_input xs (lines_of rest))) e },
     λ input. ap (λ (t : Bool). with_total (cond t (refusal_line 1 none) (with_input formula (lines_of input)))) (le-ltb 4096 (length formula) h),
   ),
 )
 
-missing_true : (formula : List ℕ) (ls : List (List ℕ)) → 4096 < length formula → with_file (file_of true formula) ls ≡ refusal_line 1 none
-missing_true formula ls h = ap (λ (t : Bool). cond t (refusal_line 1 none) (with_input formula ls)) (lt-ltb 4096 (length formula) h)
+pub opens_names : (file : Option (List ℕ)) (formula out : List ℕ) (at : ℕ) → file ≡ some formula → length formula ≤ 4096
+    → Opens file (record { stage = Stage.Names 0; length = at }) out at out
+opens_names file formula out at e h =
+    subst (λ (o : Option (List ℕ)). Opens o (record { stage = Stage.Names 0; length = at }) out at out) (sym e) (opens_some formula out at h)
 
-missing_at : (formula : List ℕ) (readable : Bool) → ((ls : List (List ℕ)) → with_file (file_of readable formula) ls ≡ refusal_line 1 none)
-    → (r : Begun) (out : List ℕ) (at : ℕ) (out' : List ℕ) → EndsWith nothing r.stage × Wrote out at (refusal_line 1 none) out' r.length → Opens readable formula r out at out'
-missing_at formula readable h r out at out' w = (
+opens_refused : (file : Option (List ℕ)) → ((ls : List (List ℕ)) → with_file file ls ≡ refusal_line 1 none) → (r : Begun) (out : List ℕ) (at : ℕ) (out' : List ℕ)
+    → EndsWith nothing r.stage × Wrote out at (refusal_line 1 none) out' r.length → Opens file r out at out'
+opens_refused file h r out at out' w = (
   refusal_line 1 none,
   w.1,
-  λ m roomy. (
+  λ formula bytes m roomy. (
     λ input. total_line nothing,
     none_owed formula m r.stage w.0,
     λ input. ap with_total (h (lines_of input)) ∙ refused_total 1 none,
   ),
 )
 
-pub opens_names : (readable : Bool) (formula out : List ℕ) (at : ℕ) → readable ≡ true → length formula ≤ 4096 → Opens readable formula (record { stage = Stage.Names 0; length = at }) out at out
-opens_names readable formula out at e h =
-    subst (λ (b : Bool). Opens b formula (record { stage = Stage.Names 0; length = at }) out at out) (sym e) (opens_names_true formula out at h)
+pub opens_long : (file : Option (List ℕ)) (formula : List ℕ) → file ≡ some formula → 4096 < length formula → (r : Begun) (out : List ℕ) (at : ℕ) (out' : List ℕ)
+    → EndsWith nothing r.stage × Wrote out at (refusal_line 1 none) out' r.length → Opens file r out at out'
+opens_long file formula e h =
+    opens_refused file
+    (λ ls.
+    ap (λ (o : Option (List ℕ)). with_file o ls) e
+    ∙ ap (λ (t : Bool). cond t (refusal_line 1 none) (with_input formula ls)) (lt-ltb 4096 (length formula) h))
 
-pub opens_long : (readable : Bool) (formula : List ℕ) → readable ≡ true → 4096 < length formula → (r : Begun) (out : List ℕ) (at : ℕ) (out' : List ℕ)
-    → EndsWith nothing r.stage × Wrote out at (refusal_line 1 none) out' r.length → Opens readable formula r out at out'
-opens_long readable formula e h r out at out' w =
-    missing_at formula readable (λ ls. ap (λ (b : Bool). with_file (file_of b formula) ls) e ∙ missing_true formula ls h) r out at out' w
+pub opens_none : (file : Option (List ℕ)) → file ≡ none → (r : Begun) (out : List ℕ) (at : ℕ) (out' : List ℕ)
+    → EndsWith nothing r.stage × Wrote out at (refusal_line 1 none) out' r.length → Opens file r out at out'
+opens_none file e = opens_refused file (λ ls. ap (λ (o : Option (List ℕ)). with_file o ls) e)
 
-pub opens_none : (readable : Bool) (formula : List ℕ) → readable ≡ false → (r : Begun) (out : List ℕ) (at : ℕ) (out' : List ℕ)
-    → EndsWith nothing r.stage × Wrote out at (refusal_line 1 none) out' r.length → Opens readable formula r out at out'
-opens_none readable formula e r out at out' w =
-    missing_at formula readable (λ ls. ap (λ (b : Bool). with_file (file_of b formula) ls) e) r out at out' w
-
-pub begins : (readable : Bool) (formula out mid : List ℕ) (at : ℕ) (r : Begun) (out' : List ℕ) → at ≤ length out → r.length ≤ length out → Wrote out 0 header mid at
-    → Opens readable formula r mid at out' → Begins readable formula r.stage (take r.length out')
+pub begins : (file : Option (List ℕ)) (out mid : List ℕ) (at : ℕ) (r : Begun) (out' : List ℕ) → at ≤ length out → r.length ≤ length out → Wrote out 0 header mid at
+    → Opens file r mid at out' → Begins file r.stage (take r.length out')
 unfolding legs
-begins readable formula out mid at r out' h k w o m roomy =
+begins file out mid at r out' h k w o formula bytes m roomy =
     let text = o.0 in
     let t = take_wrote out 0 (header ++ text) out' r.length (wrote_then out 0 header mid at text out' r.length h w o.1) k in
-    let b = o.2 m roomy in (
+    let b = o.2 formula bytes m roomy in (
       b.0,
       b.1,
       λ input.
@@ -320,7 +320,7 @@ begins readable formula out mid at r out' h k w o m roomy =
           ∙ ap (λ (xs : List ℕ). xs ++ b.0 input) (sym t),
     )
 
-pub begins_beyond : (readable : Bool) (formula out mid : List ℕ) (at : ℕ) (r : Begun) (out' : List ℕ) → at ≤ length out → r.length ≤ length out → Wrote out 0 header mid at
-    → Opens readable formula r mid at out' → drop r.length out' ≡ drop r.length out
-begins_beyond readable formula out mid at r out' h k w o =
+pub begins_beyond : (file : Option (List ℕ)) (out mid : List ℕ) (at : ℕ) (r : Begun) (out' : List ℕ) → at ≤ length out → r.length ≤ length out → Wrote out 0 header mid at
+    → Opens file r mid at out' → drop r.length out' ≡ drop r.length out
+begins_beyond file out mid at r out' h k w o =
     drop_wrote out 0 (header ++ o.0) out' r.length (wrote_then out 0 header mid at o.0 out' r.length h w o.1) k

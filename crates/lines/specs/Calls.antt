@@ -1,6 +1,7 @@
 -- What `start`, `advance` and `finish` promise: the text, how far they came, and what every lent slice holds after. Free are the values and registers
 -- after lines of values; their lengths stay, as those of all slices.
-use Rattle.std.specs.Prelude.{◌≡◌, ℕ, ◌+◌, ◌-◌, ◌<◌, ◌≤◌, Bool, List, length, take, drop, Float}
+use Rattle.std.specs.Prelude.{◌≡◌, ℕ, ◌+◌, ◌-◌, ◌<◌, ◌≤◌, List, length, take, drop, Float}
+use Rattle.std.proofs.Math.Option.{Option}
 use Rattle.machine.specs.Compile.{compile, path_after, program_after}
 use Rattle.machine.specs.Program.{Program}
 use Rattle.layout.specs.Image.{image}
@@ -98,8 +99,8 @@ LeavesLast formula m (Finished t) r m' = m' ≡ m
 
 -- ---- the calls
 
-pub record Starting (readable : Bool) (formula out : List ℕ) (r : Begun) (out' : List ℕ) : Type 0 where
-  pub begins : output_room ≤ length out → Begins readable formula r.stage (take r.length out')
+pub record Starting (file : Option (List ℕ)) (out : List ℕ) (r : Begun) (out' : List ℕ) : Type 0 where
+  pub begins : output_room ≤ length out → Begins file r.stage (take r.length out')
   pub idle : length out < output_room → EndsWith nothing r.stage × (r.length ≡ 0) × (out' ≡ out)
   pub room : r.length ≤ length out
   pub beyond : drop r.length out' ≡ drop r.length out

@@ -1,5 +1,8 @@
 -- Where a listing stands between two blocks of input, and what is still to be written for the input that is left.
 use Rattle.std.specs.Prelude.{◌≡◌, ℕ, suc, ◌+◌, ◌-◌, ◌≤◌, min, Bool, true, false, cond, List, [], ◌++◌, length, take, nat_le, nat_lt, Float}
+use Rattle.std.specs.Prelude as Std
+use Rattle.std.specs.Prelude.{None, Some}
+use Rattle.std.specs.Borrow.{Bor}
 use Rattle.std.proofs.Math.Option.{Option, none, some}
 use Rattle.formula.specs.Text.{zeros}
 use Rattle.formula.specs.Values.{lines_of}
@@ -138,15 +141,20 @@ abbrev pub Ends : List ℕ → Memory → Stage → List ℕ → Type 0
 Ends formula m s text = (g : List ℕ → List ℕ) → Owed formula m s g → g [] ≡ text
 
 -- a formula file that can be read, or none
-abbrev pub file_of : Bool → List ℕ → Option (List ℕ)
-file_of true formula = some formula
-file_of false formula = none
+abbrev pub file_of : Std.Option (Bor (List ℕ)) → Option (List ℕ)
+file_of (Some bytes) = some bytes.now
+file_of None = none
+
+-- the formula that `advance` and `finish` are given: the file's bytes, or any where there is no file
+abbrev pub BytesOf : Option (List ℕ) → List ℕ → Type 0
+BytesOf (some bytes) formula = bytes ≡ formula
+BytesOf none formula = Unit {0}
 
 -- the output of `legs` begins with `text`, and then comes what is owed
-abbrev pub Begins : Bool → List ℕ → Stage → List ℕ → Type 0
-Begins readable formula s text =
-    (m : Memory) → Roomy m
-    → (g : List ℕ → List ℕ) × Owed formula m s g × ((input : List ℕ) → legs (file_of readable formula) input ≡ text ++ g input)
+abbrev pub Begins : Option (List ℕ) → Stage → List ℕ → Type 0
+Begins file s text =
+    (formula : List ℕ) → BytesOf file formula → (m : Memory) → Roomy m
+    → (g : List ℕ → List ℕ) × Owed formula m s g × ((input : List ℕ) → legs file input ≡ text ++ g input)
 
 -- ---- compiling
 
@@ -167,8 +175,8 @@ abbrev pub TextLength : List ℕ → ℕ → Type 0
 TextLength path r = (r ≤ length path) × (r ≤ 8192) × ((t : List ℕ) (m : ℕ) → path ≡ t ++ zeros m → free 0 t ≡ true → length t ≤ 8192 → r ≡ length t)
 
 -- with the header written up to a place
-abbrev pub Opens : Bool → List ℕ → Begun → List ℕ → ℕ → List ℕ → Type 0
-Opens readable formula r out at out' =
+abbrev pub Opens : Option (List ℕ) → Begun → List ℕ → ℕ → List ℕ → Type 0
+Opens file r out at out' =
     (text : List ℕ) × Wrote out at text out' r.length
-    × ((m : Memory) → Roomy m
-    → (g : List ℕ → List ℕ) × Owed formula m r.stage g × ((input : List ℕ) → with_total (with_file (file_of readable formula) (lines_of input)) ≡ text ++ g input))
+    × ((formula : List ℕ) → BytesOf file formula → (m : Memory) → Roomy m
+    → (g : List ℕ → List ℕ) × Owed formula m r.stage g × ((input : List ℕ) → with_total (with_file file (lines_of input)) ≡ text ++ g input))

@@ -14,7 +14,7 @@ ghost use Rattle.names.specs.Lines.{free};
 ghost use Rattle.writer.specs.Over.{over};
 ghost use Rattle.lines.specs.Calls.{Advancing, Beginning, Finishing, ListingBlock, SameNumbers, SameSlices, Starting, held};
 ghost use Rattle.lines.specs.declared.Stage.TheVariants.{Names, Values};
-ghost use Rattle.lines.specs.Owed.{EndsWith, KeepsOn, Opens, TellsFinished, TextLength, one_more, stage_at};
+ghost use Rattle.lines.specs.Owed.{EndsWith, KeepsOn, Opens, TellsFinished, TextLength, file_of, one_more, stage_at};
 ghost use Rattle.lines.specs.Record.{Ready};
 ghost use Rattle.lines.specs.Text.{Wrote};
 
@@ -259,23 +259,23 @@ fn put_missing(out: &mut [u8], at: usize) -> Begun
 }
 
 // A file that can be read and has at most 4,096 bytes is followed by the name line.
-fn opened(readable: bool, formula: &[u8], out: &mut [u8], at: usize) -> Begun
+fn opened(file: Option<&[u8]>, out: &mut [u8], at: usize) -> Begun
     requires { at + 8209 ≤ length out.old }
-    ensures opens { Opens readable formula.now result out.old at out.new }
+    ensures opens { Opens (file_of file.entry) result out.old at out.new }
     ensures room { result.length ≤ length out.old }
 {
-    if readable && formula.len() <= 4096 {
-        return Begun {
+    match file {
+        Some(formula) if formula.len() <= 4096 => Begun {
             stage: Stage::Names(0),
             length: at,
-        };
+        },
+        _ => put_missing(out, at),
     }
-    put_missing(out, at)
 }
 
-// Begins the listing of a formula file, which can be read or not: the header. The output needs 8,353 bytes.
-pub fn start(readable: bool, formula: &[u8], out: &mut [u8]) -> Begun
-    ensures { Starting readable formula.now out.old result out.new }
+// Begins the listing of a formula file, of its bytes or of none where it can't be read: the header. The output needs 8,353 bytes.
+pub fn start(file: Option<&[u8]>, out: &mut [u8]) -> Begun
+    ensures { Starting (file_of file.entry) out.old result out.new }
 {
     if out.len() < OUTPUT_ROOM {
         return Begun {
@@ -284,7 +284,7 @@ pub fn start(readable: bool, formula: &[u8], out: &mut [u8]) -> Begun
         };
     }
     let at = writer::put_bytes(out, 0, b"no,answer,detail,steps\n");
-    opened(readable, formula, out, at)
+    opened(file, out, at)
 }
 
 // Nothing was used and nothing written.

@@ -1,15 +1,17 @@
 use Rattle.std.proofs.Common.{take, arith}
 use Rattle.lines.specs.Calls.{held}
-use Rattle.lines.proofs.Compose.{stands_first}
+use Rattle.lines.specs.Owed.{file_of}
+use Rattle.lines.proofs.Compose.{bytes_or, stands_first}
 use Rattle.legs_cases.proofs.Listed.{listed_by, listed_none, listed_some}
 use Rattle.legs_cases.proofs.list_in.Goals as goal
 
 pub feed-requires : goal.feed-requires
 feed-requires c =
     let a = c.args in
+    let f = c.unwrap_or-formula in
     let b = c.start-begun in (
       record {
-        stands = stands_first a.readable a.formula.now (held a.memory.now) b.result.stage (take b.result.length b.new.out) c.requires.0
+        stands = stands_first (file_of a.file) f.result.now (held a.memory.now) b.result.stage (take b.result.length b.new.out) (bytes_or a.file _ f.result f.ensures) c.requires.0
             (b.ensures.begins c.requires.1);
         room = omega (arith, b.auto.out, c.requires.1);
       },
@@ -19,29 +21,32 @@ feed-requires c =
 pub returns-in_err-first : goal.returns-in_err-first
 returns-in_err-first c =
     let a = c.args in
+    let f = c.unwrap_or-formula in
     let b = c.start-begun in
     rw c.from_residual.ensures
-    (listed_none a.readable a.formula.now a.input.now (held a.memory.now) b.result.stage a.all.now b.new.out b.result.length c.add.new.all c.requires.0
+    (listed_none (file_of a.file) f.result.now a.input.now (held a.memory.now) b.result.stage a.all.now b.new.out b.result.length c.add.new.all (bytes_or a.file _ f.result f.ensures) c.requires.0
     (b.ensures.begins c.requires.1) (omega (arith, b.ensures.room, b.auto.out)) (rw c.in_err-first.was at c.add.ensures))
 
 pub returns-in_err-fed : goal.returns-in_err-fed
 returns-in_err-fed c =
     let a = c.args in
+    let f = c.unwrap_or-formula in
     let b = c.start-begun in
-    let f = c.feed in
+    let g = c.feed in
     rw c.from_residual-in_err-fed.ensures
-    (listed_some a.readable a.formula.now a.input.now (held a.memory.now) b.result.stage a.all.now b.new.out b.result.length c.add.new.all c.requires.0
+    (listed_some (file_of a.file) f.result.now a.input.now (held a.memory.now) b.result.stage a.all.now b.new.out b.result.length c.add.new.all (bytes_or a.file _ f.result f.ensures) c.requires.0
     (b.ensures.begins c.requires.1) (omega (arith, b.ensures.room, b.auto.out)) c.in_ok-first.first (rw c.in_ok-first.was at c.add.ensures) c.add.auto.all
-    (held f.new.memory) f.new.all (rw c.in_err-fed.was at f.ensures.feeds))
+    (held g.new.memory) g.new.all (rw c.in_err-fed.was at g.ensures.feeds))
 
 pub returns : goal.returns
 returns c =
     let a = c.args in
+    let f = c.unwrap_or-formula in
     let b = c.start-begun in
-    let f = c.feed in
+    let g = c.feed in
     let e = c.finish-length in
-    listed_by a.readable a.formula.now a.input.now (held a.memory.now) b.result.stage a.all.now b.new.out b.result.length c.add.new.all c.requires.0
+    listed_by (file_of a.file) f.result.now a.input.now (held a.memory.now) b.result.stage a.all.now b.new.out b.result.length c.add.new.all (bytes_or a.file _ f.result f.ensures) c.requires.0
     (b.ensures.begins c.requires.1) (omega (arith, b.ensures.room, b.auto.out)) c.in_ok-first.first (rw c.in_ok-first.was at c.add.ensures) c.add.auto.all
-    (held f.new.memory) c.in_ok-fed.fed f.new.all (rw c.in_ok-fed.was at f.ensures.feeds) f.auto.all e.new.memory.out.now e.result
+    (held g.new.memory) c.in_ok-fed.fed g.new.all (rw c.in_ok-fed.was at g.ensures.feeds) g.auto.all e.new.memory.out.now e.result
     (omega (arith, e.ensures.finishes.room, e.ensures.slices.out.1))
-    (e.ensures.finishes.ends (omega (arith, f.ensures.slices.out.1, b.auto.out, c.requires.1))) c.add-2.result c.add-2.new.all c.add-2.ensures
+    (e.ensures.finishes.ends (omega (arith, g.ensures.slices.out.1, b.auto.out, c.requires.1))) c.add-2.result c.add-2.new.all c.add-2.ensures

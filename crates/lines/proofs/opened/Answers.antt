@@ -1,19 +1,22 @@
+use Rattle.std.proofs.Common.{ap}
+use Rattle.lines.specs.Owed.{file_of}
 use Rattle.lines.proofs.Stages.{opens_long, opens_names, opens_none}
 use Rattle.lines.proofs.opened.Goals as goal
-use Rattle.lines.proofs.opened.Goals.{else-readable-via-then-readable+else-formula-le4096, else-readable-via-else-readable}
+use Rattle.lines.proofs.opened.Goals.{in_default-via-in-Some+else-formula-le4096, in_default-via-in_default}
 
-pub returns-then-formula-le4096-clause-opens : goal.returns-then-formula-le4096-clause-opens
-returns-then-formula-le4096-clause-opens c =
+pub returns-in-Some-clause-opens : goal.returns-in-Some-clause-opens
+returns-in-Some-clause-opens c =
     let args = c.args in
-    opens_names args.readable args.formula.now args.out.now args.at c.if-readable.true c.if-formula-le4096.true
+    let some = c.in-Some in
+    opens_names (file_of args.file) some.formula.now args.out.now args.at (ap file_of some.is) c.if-formula-le4096.true
 
-pub returns-clause-opens : goal.returns-clause-opens
-returns-clause-opens c =
+pub returns-in_default-clause-opens : goal.returns-in_default-clause-opens
+returns-in_default-clause-opens c =
     let args = c.args in
+    let file = file_of args.file in
     let put = c.put_missing in
-    elim c.else-readable.branch [
-      | else-readable-via-then-readable+else-formula-le4096 w ↦
-          opens_long args.readable args.formula.now w.if-readable.true w.if-formula-le4096.false put.result args.out.now args.at put.new.out put.ensures.ended
-      | else-readable-via-else-readable w ↦
-          opens_none args.readable args.formula.now w.if-readable.false put.result args.out.now args.at put.new.out put.ensures.ended
+    elim c.in_default.branch [
+      | in_default-via-in-Some+else-formula-le4096 w ↦
+          opens_long file w.in-Some.formula.now (ap file_of w.in-Some.is) w.if-formula-le4096.false put.result args.out.now args.at put.new.out put.ensures.ended
+      | in_default-via-in_default w ↦ opens_none file (ap file_of w.in_default.is) put.result args.out.now args.at put.new.out put.ensures.ended
     ]
