@@ -18,7 +18,7 @@ use Rattle.derivative.specs.Differentiate.{and_then, derivative}
 use Rattle.derivative.specs.Derive.{Derived}
 use Rattle.derivative.proofs.Attributes.{derivative_right, map_option}
 use Rattle.survey.specs.Table.{Room, found, reading, readings, tree}
-use Rattle.survey.specs.declared.attributes.Attributes as Declared
+use Rattle.survey.specs.declared.Attributes as Declared
 use Rattle.survey.specs.declared.Found.{Found}
 use Rattle.derive.specs.Outcome.{Leaves}
 use Rattle.std.specs.Prelude.{Result, Some, None}

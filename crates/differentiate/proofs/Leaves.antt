@@ -1,25 +1,30 @@
 -- The bytes and the records of a node, of a literal and of a copy.
 use mathlib.Core.Path.{◌≡◌, refl, sym, ap, ◌∙◌}
-use mathlib.Core.Bool.{Bool, true, false}
+use mathlib.Core.Bool.{Bool, true, false, cond}
 use mathlib.Core.List.{List, [], ◌∷◌, append-nil}
 use Prim.Native.Nat.{ℕ, zero, suc, ◌+◌, ◌*◌, ◌/◌, ◌%◌, ◌≤◌, ◌<◌}
 use native.Mathlib.Omega.{arith}
+use lib.Dec.{eqb}
+use borrow.Author.Tests.{eq-eqb, ne_eqb}
 use lib.ListN.{length, take, drop, replicate}
 use Rattle.formula.specs.Text.{byte_at, half_at, little_endian}
 use Rattle.writer.specs.Over.{over}
 use Rattle.formula.specs.Operator.{unary, binary, compare, call, Positive, Negative, Not, Add, Subtract, Multiply, Divide, Power, Modulo, Exp, Log, Log10, Sqrt, Sin, Cos, Tan, Tanh, Abs, Floor, Ceil, Min, Max, Hill, InverseGaussianDensity}
-use Rattle.formula.specs.Formula.{Head, number, truth, symbol, operation, junction, ifelse, conditional, malformed, node, last, size, well_formed}
+use Rattle.formula.specs.Formula.{Head, number, truth, symbol, operation, junction, ifelse, conditional, malformed, Formula, node, last, size, well_formed}
 use Rattle.formula.specs.Node.{Fields, fields_at, fields_of, encode, node_bytes, inner_fields, node_size}
-use Rattle.derivative.specs.Records.{Record, Recorded, erase, by_rule, copy, arm, recorded_literal, record_bytes, record_size, list_bytes}
+use Rattle.derivative.specs.Records.{Record, Recorded, erase, by_rule, copy, arm, recorded_literal, to_the_zeroth, record_bytes, record_size, list_bytes}
 use Rattle.derivative.specs.Provenance.{numbered}
 use Rattle.reader.proofs.Bytes.{Bytes}
 use Rattle.reader.proofs.Trees.{size_pos}
 use Rattle.reader.proofs.Encode.{copied_tree}
+use Rattle.derivative.specs.Differentiate.{second_literal}
+use Rattle.rules.specs.Notation.{or_zero, literal_code}
+use Rattle.survey.specs.Derived.{children_of}
 use Rattle.survey.specs.Table.{tree, Owned, IsChild, row_in}
 use Rattle.survey.specs.declared.Row.{Row}
 use Rattle.survey.proofs.Rows.{own_row}
 use Rattle.survey.proofs.Trees.{tree_ends, opened}
-use Rattle.differentiate.specs.Written.{start, step, bytes, coded_arm, arm_of, arm_literal, copy_of}
+use Rattle.differentiate.specs.Written.{start, step, bytes, coded_arm, arm_of, arm_literal, literal_part, copy_of}
 use Rattle.differentiate.proofs.Recorded.{record_length, bytes_length, numbered_length, copy_numbers, copy_nodes, copy_is, copy_none}
 pub use Rattle.reader.proofs.Encode.{node_length}
 

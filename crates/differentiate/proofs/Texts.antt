@@ -23,11 +23,11 @@ use Rattle.reader.proofs.Heads.{head_fields}
 use Rattle.reader.proofs.Trees.{size_pos}
 use Rattle.rules.specs.Notation.{end_at, code_at, parts, literal_code, literal_rule, extremum}
 use Rattle.survey.specs.Derived.{parts_of, rule_for, children_of, derived_of, zero_literal, head_of_tree, or_else}
-use Rattle.survey.specs.Table.{tree, reading, number_of, IsChild}
+use Rattle.survey.specs.Table.{tree, reading, number_of, row_in, IsChild, Ready}
 use Rattle.survey.specs.declared.Row.{Row}
 use Rattle.survey.specs.Worked.{worked}
-use Rattle.survey.specs.declared.attributes.Attributes as Declared
-use Rattle.survey.proofs.Rows.{owned_child, own_read}
+use Rattle.survey.specs.declared.Attributes as Declared
+use Rattle.survey.proofs.Rows.{owned_child}
 use Rattle.survey.proofs.Worked.{rule_none, rule_long, rule_kind, rule_literal, rule_node, rules_for, bits_for, Writing, coded}
 use Rattle.survey.proofs.Chosen.{no_rule, some_rule}
 use Rattle.differentiate.specs.Written.{Known, Task, start, bytes, bytes_all, arm_of, arms, arm_literal, literal_part, arm_node, recorded, recorded_all, recorded_parts, copy_of, recorded_of, part, parts_bytes, extremum_bytes, extremum_tree, tie_bytes, sum_bytes, product_bytes}
@@ -275,15 +275,15 @@ module _ (m : Bool) (s : ℕ) (b : Bool) (k : ℕ) (t : Formula) where
 -- ---- the derivative of a node
 
 module _ (m : Bool) (s : ℕ) (b : Bool) (f : List ℕ) (T : List Row) (k : ℕ) (o : Known s b f T k) where
-  own_survey : (r : Row) → (get_or T k r).has ≡ depends s (tree f k)
-  own_survey r = ap (λ (x : Row). x.has) (own_read f T k o.owned r) ∙ (o.survey k (omega arith) (omega (arith, size_pos (tree f k)))).has
+  own_survey : (row_in T k).has ≡ depends s (tree f k)
+  own_survey = (o.survey k (omega arith) (omega (arith, size_pos (tree f k)))).has
 
-  pub has_not : (r : Row) → (get_or T k r).has ≡ false → bytes m (recorded_literal without_symbol k 0) ≡ bytes m (recorded s b k (tree f k))
-  has_not r h = ap (bytes m) (sym (recorded_without s b k (tree f k) (sym (own_survey r) ∙ h)))
+  pub has_not : (row_in T k).has ≡ false → bytes m (recorded_literal without_symbol k 0) ≡ bytes m (recorded s b k (tree f k))
+  has_not h = ap (bytes m) (sym (recorded_without s b k (tree f k) (sym own_survey ∙ h)))
 
-  module _ (r : Row) (h : (get_or T k r).has ≡ true) (q : ℕ) (e : q ≡ number_of s b f k) where
+  module _ (h : (row_in T k).has ≡ true) (q : ℕ) (e : q ≡ number_of s b f k) where
     has_it : depends s (tree f k) ≡ true
-    has_it = sym (own_survey r) ∙ h
+    has_it = sym own_survey ∙ h
 
     pub without_rule : code_at q 0 ≡ 0 → bytes m (recorded_literal without_symbol k 0) ≡ bytes m (recorded s b k (tree f k))
     without_rule z = ap (bytes m) (sym (recorded_ruled s b k (tree f k) none has_it (no_rule s b f k o.owned.formed q e z)))

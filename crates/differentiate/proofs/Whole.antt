@@ -22,7 +22,9 @@ use Rattle.survey.specs.Derived.{derived}
 use Rattle.std.specs.Prelude.{Some}
 use Rattle.survey.specs.Table.{tree, Room, Filled, found, reading, readings}
 use Rattle.survey.specs.declared.Row.{Row}
-use Rattle.survey.specs.declared.attributes.Attributes as Declared
+use Rattle.survey.specs.Worked.{Capped}
+use Rattle.survey.specs.declared.Attributes as Declared
+use Rattle.survey.proofs.Capped.{capped_tree}
 use Rattle.survey.specs.declared.Found.{Found}
 use Rattle.survey.proofs.Derivative.{fine_some}
 use Rattle.differentiate.specs.Written.{Known, Job, step, bytes, outer_node, primal_bytes, recorded, asked, Writes}
@@ -136,6 +138,18 @@ module _ (s : ℕ) (b : Bool) (f : List ℕ) (T T' : List Row) (levels : ℕ) (r
         fine = is_fine;
         room = λ d q. subst (λ (x : ℕ). step m * x ≤ length out) (let e = sized n p d q in omega arith) k;
       }
+
+-- what the survey found is within the caps
+capped_option : (o : Option Formula) (a : Declared.Attributes) → some (reading a) ≡ map_option attributes_of o → Capped a
+capped_option none a e = let z : ◌≡◌ {A = ℕ} 0 1 = cc in absurd (omega arith)
+capped_option (some d) a e = let q : reading a ≡ attributes_of d = cc in capped_tree a d q
+
+module _ (s : ℕ) (b : Bool) (t : Formula) (r : Found) (e : found r ≡ survey s b t) where
+  pub own_capped : Capped r.own
+  own_capped = capped_tree r.own t (ap (λ (x : Survey). x.own) (e ∙ survey_right s b t))
+
+  pub diff_capped : (d : Declared.Attributes) → r.diff ≡ Some d → Capped d
+  diff_capped d f = capped_option (differentiate s b t) d (sym (ap readings f) ∙ ap (λ (x : Survey). x.diff) (e ∙ survey_right s b t))
 
 -- a formula within the limits, as the reader says it
 pub room_from : (f : List ℕ) (T : List Row) → is_some (formula_of f) ≡ true → limited 256 32 (formula_of f) ≡ true → 256 ≤ length T → Room f T 0 32

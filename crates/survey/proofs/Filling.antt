@@ -5,7 +5,7 @@ use mathlib.Core.Option.{Option, none, some}
 use mathlib.Core.List.{List, ◌∷◌}
 use Prim.Native.Nat.{ℕ, suc, ◌+◌, ◌-◌, ◌*◌, ◌<◌, ◌≤◌, max}
 use native.Mathlib.Omega.{arith}
-use lib.ListN.{length, set, length-set, get_or}
+use lib.ListN.{length, set, length-set}
 use lib.Seq.{get_or-set_same, get_or-set_other}
 use lib.Dec.{eqb, ltb}
 use borrow.Author.Tests.{leb-true, leb-false, ltb-true, ltb-false}
@@ -25,11 +25,10 @@ use Rattle.reader.proofs.Trees.{size_pos}
 use Rattle.survey.specs.Derived.{children_of, head_of_tree, derived, ruled}
 use Rattle.survey.specs.Table.{tree, trees, Own, Surveyed, Ready, Room, Filled, reading, row_in, empty_row, option_of, or_literal}
 use Rattle.survey.specs.Worked.{literal_attributes}
-use Rattle.survey.specs.declared.attributes.Attributes as Declared
+use Rattle.survey.specs.declared.Attributes as Declared
 use Rattle.std.specs.Option.{unwrap_or, is_some as given_is_some}
 use Rattle.std.specs.Prelude.{Option as Given, None, Some}
 use Rattle.survey.specs.declared.Row.{Row}
-use Rattle.survey.proofs.Rows.{row_read}
 use Rattle.survey.proofs.Trees.{opened, trees_next, trees_none}
 use Rattle.formula.proofs.Tests.{and_one}
 
@@ -124,7 +123,7 @@ pub given_some : (o : Given Declared.Attributes) → given_is_some o ≡ is_some
 given_some None = refl
 given_some (Some a) = refl
 
-pub given_right : (o : Given Declared.Attributes) (z : Declared.Attributes) → reading z ≡ literal_attributes 0 → reading (unwrap_or o z) ≡ or_literal o
+pub given_right : (o : Given Declared.Attributes) (z : Declared.Attributes) → reading z ≡ literal_attributes 0 → reading (unwrap_or o z) ≡ reading (or_literal o)
 given_right None z e = e
 given_right (Some a) z e = refl
 
@@ -209,9 +208,6 @@ module _ (s : ℕ) (b : Bool) (f : List ℕ) (T₀ : List Row) (k d : ℕ) (room
       -- the child's row
       pub row_there : at < length T
       row_there = omega (arith, child_room.long, size_pos (tree f at))
-
-      pub row_next : (T' : List Row) → length T' ≡ length T → (r : Row) → r ≡ get_or T' at r → r ≡ row_in T' at
-      row_next T' l r e = e ∙ row_read T' at r (omega (arith, l, row_there))
 
       going_next : (T' : List Row) → length T' ≡ length T → Filled s b f T T' at → (has' fine' : Bool) (levels' at' : ℕ)
           → has' ≡ (has || (row_in T' at).has) → fine' ≡ (fine && (row_in T' at).fine) → levels' ≡ max levels (row_in T' at).levels

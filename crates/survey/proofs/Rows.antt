@@ -5,8 +5,7 @@ use mathlib.Core.List.{List}
 use mathlib.Core.Option.{Option, none, some}
 use Prim.Native.Nat.{ℕ, zero, suc, ◌+◌, ◌-◌, ◌*◌, ◌<◌, ◌≤◌, min}
 use native.Mathlib.Omega.{arith}
-use lib.ListN.{length, get_or}
-use Rattle.std.proofs.lemmas.List.{get_or_default}
+use lib.ListN.{length}
 use Rattle.formula.specs.Operator.{unary, binary, compare, call}
 use Rattle.formula.specs.Formula.{Head, number, truth, symbol, operation, junction, ifelse, conditional, malformed, Formula, Formulas, last, next, count, size, depth, well_formed}
 use Rattle.formula.specs.Text.{byte_at, half_at, long_at}
@@ -15,7 +14,7 @@ use Rattle.derivative.specs.Differentiate.{literal_head, literal_bits, second_li
 use Rattle.derivative.specs.Attributes.{Attributes, attributes_of}
 use Rattle.reader.proofs.Trees.{size_pos}
 use Rattle.survey.specs.Derived.{children_of, child_of, derived, derived_of, zero_literal}
-use Rattle.survey.specs.Table.{tree, nth, IsChild, Own, Owned, Surveyed, Ready, row_in, empty_row}
+use Rattle.survey.specs.Table.{tree, nth, IsChild, Own, Owned, Surveyed, Ready, row_in}
 use Rattle.survey.specs.declared.Row.{Row}
 use Rattle.rules.specs.Notation.{literal_code}
 use Rattle.survey.proofs.Trees.{opened, Walk, walk_next, walk_stands, Stands, count_is, child_at, derived_at, child_past, derived_past}
@@ -61,17 +60,10 @@ module _ (f : List ℕ) (k : ℕ) (w : well_formed (tree f k) ≡ true) where
 pub first_inside : (f : List ℕ) (k : ℕ) → well_formed (tree f k) ≡ true → node_size * k + node_size ≤ length f
 first_inside f k w = (opened f k w).inside
 
--- a row as the code reads it
-pub row_read : (T : List Row) (k : ℕ) (r : Row) → k < length T → get_or T k r ≡ row_in T k
-row_read T k r h = get_or_default T k r empty_row h
-
 -- ---- its own row
 
 pub row_inside : (f : List ℕ) (T : List Row) (k : ℕ) → Owned f T k → k < length T
 row_inside f T k o = omega (arith, o.long, size_pos (tree f k))
-
-pub own_read : (f : List ℕ) (T : List Row) (k : ℕ) → Owned f T k → (r : Row) → get_or T k r ≡ row_in T k
-own_read f T k o r = row_read T k r (row_inside f T k o)
 
 pub own_row : (f : List ℕ) (T : List Row) (k : ℕ) → Owned f T k → Own f T k
 own_row f T k o = o.own k (omega arith) (omega (arith, size_pos (tree f k)))

@@ -1,19 +1,17 @@
 -- The steps of the reading of a rule over attributes.
 use mathlib.Core.Path.{◌≡◌, sym, ap, ◌∙◌}
 use mathlib.Core.Bool.{Bool}
-use mathlib.Core.List.{[], ◌∷◌}
 use Prim.Native.Nat.{ℕ, ◌+◌, ◌-◌, ◌/◌, ◌%◌, ◌≤◌, ◌<◌, max}
 use native.Mathlib.Omega.{arith}
 use Rattle.formula.specs.Formula.{Formula}
-use Rattle.derivative.specs.Rules.{Algebra, add_of, mul_of, instance, extremum_from}
+use Rattle.derivative.specs.Rules.{Algebra, add_of, mul_of}
 use Rattle.derivative.specs.Attributes.{Attributes, attribute_algebra, attributes_of, total_nodes, most_levels}
 use Rattle.rules.specs.Notation.{end_at, code_at, parts}
-use Rattle.survey.specs.Derived.{child_of, derived_of}
 use Rattle.survey.specs.Table.{reading}
-use Rattle.survey.specs.Worked.{attribute_parts, worked, worked_all, summed, inner, over_sum}
-use Rattle.survey.specs.declared.attributes.Attributes as Declared
-use Rattle.survey.specs.declared.attributes.Sum.{Sum}
-use Rattle.survey.proofs.Worked.{worked_add, worked_mul, worked_node, Writing, all_none, all_next, all_nodes, all_levels, extremum_step}
+use Rattle.survey.specs.Worked.{worked, worked_all, summed, inner, over_sum}
+use Rattle.survey.specs.declared.Attributes as Declared
+use Rattle.survey.specs.declared.Sum.{Sum}
+use Rattle.survey.proofs.Worked.{worked_add, worked_mul, worked_node, Writing, all_none, all_next, all_nodes, all_levels}
 
 abbrev G : Algebra Attributes
 G = attribute_algebra
@@ -67,19 +65,3 @@ module _ (s : ℕ) (b : Bool) (t : Formula) where
   pub sum_fits : (d q left i : ℕ) (S : Sum) → left ≤ 3 → S ≡ summed (worked_all s b t d q left i) → (S.nodes ≤ 49155) × (S.levels ≤ 129)
   sum_fits d q left i S h e =
       (omega (arith, ap (λ (x : Sum). x.nodes) e, all_nodes s b t d q left i), omega (arith, ap (λ (x : Sum). x.levels) e, all_levels s b t d q left i))
-
--- one turn of the loop of Min and Max
-module _ (s : ℕ) (b : Bool) (t : Formula) (n i : ℕ) (z : i ≡ 0 → ⊥) (h : i < n) (w e x d : Declared.Attributes)
-    (pw : reading w ≡ attributes_of t) (px : reading x ≡ attributes_of (child_of t (i - 1))) (pe : reading e ≡ inner (reading x ∷ reading w ∷ []))
-    (pd : reading d ≡ attributes_of (derived_of s b t (i - 1))) where
-  pub selected_next : (y r : Declared.Attributes) → reading y ≡ instance attribute_algebra (attribute_parts s b t) (extremum_from i (n - 1 - i))
-      → reading r ≡ inner (reading e ∷ reading d ∷ reading y ∷ []) → reading r ≡ instance attribute_algebra (attribute_parts s b t) (extremum_from (i - 1) (n - 1 - (i - 1)))
-  selected_next y r py pr =
-      let Y = instance attribute_algebra (attribute_parts s b t) (extremum_from i (n - 1 - i)) in
-      let X = attributes_of (child_of t (i - 1)) in
-      let D = attributes_of (derived_of s b t (i - 1)) in
-      pr
-      ∙ ap (λ (v : Attributes). inner (v ∷ reading d ∷ reading y ∷ [])) (pe ∙ ap (λ (v : Attributes). inner (v ∷ reading w ∷ [])) px ∙ ap (λ (v : Attributes). inner (X ∷ v ∷ [])) pw)
-      ∙ ap (λ (v : Attributes). inner (inner (X ∷ attributes_of t ∷ []) ∷ v ∷ reading y ∷ [])) pd
-      ∙ ap (λ (v : Attributes). inner (inner (X ∷ attributes_of t ∷ []) ∷ D ∷ v ∷ [])) py
-      ∙ extremum_step s b t n i z h

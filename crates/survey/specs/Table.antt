@@ -2,7 +2,6 @@
 use Rattle.std.specs.Prelude.{◌≡◌, Bool, true, false, List, ℕ, zero, suc, ◌+◌, ◌*◌, ◌<◌, ◌≤◌, length, get_or}
 use Rattle.std.specs.Prelude.{Option as Given, None, Some}
 use Rattle.std.proofs.Math.Option.{Option, none, some}
-use native.Mathlib.Omega.{arith}
 use Rattle.formula.specs.Formula.{Formula, Formulas, last, next, count, size, depth, depends, well_formed}
 use Rattle.formula.specs.Text.{byte_at}
 use Rattle.formula.specs.Node.{node_size, tree_at}
@@ -13,7 +12,7 @@ use Rattle.reader.specs.Read.{is_some}
 use Rattle.rules.specs.Notation.{rule_number, code_at}
 use Rattle.rules.specs.declared.RulePart.{RulePart}
 use Rattle.survey.specs.Derived.{derived, children_of}
-use Rattle.survey.specs.declared.attributes.Attributes.{Attributes}
+use Rattle.survey.specs.declared.Attributes.{Attributes}
 use Rattle.survey.specs.declared.Row.{Row}
 use Rattle.survey.specs.declared.Found.{Found}
 
@@ -42,22 +41,15 @@ readings None = none
 readings (Some a) = some (reading a)
 
 -- and of the literal 0 where there is none
-abbrev pub or_literal : Given Attributes → Spec.Attributes
-or_literal None = record { nodes = 1; levels = 1; bits = some 0 }
-or_literal (Some a) = reading a
+abbrev pub or_literal : Given Attributes → Attributes
+or_literal None = record { nodes = 1; levels = 1; literal = Some 0 }
+or_literal (Some a) = a
 
 abbrev pub found : Found → Spec.Survey
 found r = record { own = reading r.own; has_symbol = r.has; diff = readings r.diff }
 
 abbrev pub empty_row : Row
-empty_row =
-    record {
-      nodes = 0;
-      levels = 0;
-      has = false;
-      fine = false;
-      diff = record { nodes = 0; levels = 0; literal = None; few = omega arith; low = omega arith };
-    }
+empty_row = record { nodes = 0; levels = 0; has = false; fine = false; diff = record { nodes = 0; levels = 0; literal = None } }
 
 abbrev pub row_in : List Row → ℕ → Row
 row_in T k = get_or T k empty_row

@@ -1,12 +1,13 @@
 -- The attributes that a rule gives, by the attributes of its parts.
-use Rattle.std.specs.Prelude.{Bool, List, map, ℕ, suc, min}
+use Rattle.std.specs.Prelude.{Bool, List, map, ℕ, suc, min, ◌≤◌}
 use Rattle.std.proofs.Math.Option.{none, some}
 use Rattle.formula.specs.Formula.{Formula, to_list}
 use Rattle.derivative.specs.Rules.{Parts, instance, instances}
 use Rattle.derivative.specs.Attributes.{Attributes, attribute_algebra, attributes_of, total_nodes, most_levels}
 use Rattle.rules.specs.Notation.{rules_from, end_at}
 use Rattle.survey.specs.Derived.{derived_all, children_of, rule_for}
-use Rattle.survey.specs.declared.attributes.Sum.{Sum}
+use Rattle.survey.specs.declared.Attributes as Declared
+use Rattle.survey.specs.declared.Sum.{Sum}
 
 -- of a literal, and of a node that is none
 abbrev pub literal_attributes : ℕ → Attributes
@@ -17,6 +18,10 @@ over_sum nodes levels = record { nodes = min 16385 (suc nodes); levels = min 129
 
 abbrev pub inner : List Attributes → Attributes
 inner as' = over_sum (total_nodes as') (most_levels as')
+
+-- within the caps
+abbrev pub Capped : Declared.Attributes → Type 0
+Capped a = (a.nodes ≤ 16385) × (a.levels ≤ 129)
 
 abbrev pub attribute_parts : ℕ → Bool → Formula → Parts Attributes
 attribute_parts s by_state t =

@@ -5,23 +5,23 @@ ghost use Rattle.std.specs.Prelude.{◌≡◌, true, [], ◌∷◌, ◌+◌, ◌
 ghost use Rattle.formula.specs.Text.{byte_at, half_at};
 ghost use Rattle.formula.specs.Formula.{count, depends, well_formed, is_symbol as is_symbol_of};
 ghost use Rattle.formula.specs.Node.{node_size};
-ghost use Rattle.derivative.specs.Rules.{instance, less_one};
+ghost use Rattle.derivative.specs.Rules.{instance, less_one, add_of, mul_of};
 ghost use Rattle.derivative.specs.Differentiate.{literal_bits, second_literal, first_depends};
-ghost use Rattle.derivative.specs.Attributes.{attribute_algebra, attributes_of, survey as survey_of};
+ghost use Rattle.derivative.specs.Attributes.{attribute_algebra, attributes_of, primal_attributes, survey as survey_of};
 ghost use Rattle.reader.specs.Read.{is_some};
 ghost use Rattle.rules.specs.Notation.{or_zero, literal_code, extremum as extremum_of, power_number};
 ghost use Rattle.rules.specs.Codes.{literal_number};
 ghost use Rattle.survey.specs.Derived.{children_of, head_of_tree, child_of, derived, derived_of, ruled};
 ghost use Rattle.survey.specs.Table.{tree, number_of, IsRule, reading, option_of, or_literal, row_in, Owned, Ready, IsChild, Room, Filled, found};
-ghost use Rattle.survey.specs.Worked.{attribute_parts, worked, worked_all, summed, inner};
+ghost use Rattle.survey.specs.Worked.{attribute_parts, worked, worked_all, summed, literal_attributes, inner, over_sum, Capped};
 
 use reader::{NODE_SIZE, byte, half, long, word};
 use rules::{Code, Literal, RulePart};
 
-mod attributes;
+// The bits of the literals 1 and -0.
+const ONE: u64 = 0x3ff0000000000000;
 
-pub use attributes::Attributes;
-use attributes::{ONE, Sum};
+const MINUS_ZERO: u64 = 0x8000000000000000;
 
 // A symbol, and whether it is a state.
 #[derive(Clone, Copy)]
@@ -30,8 +30,121 @@ pub struct By {
     pub state: bool,
 }
 
+// ---- attributes of trees that are not built
+
+// What is known of a tree: its nodes, its levels, and its bits where it is a literal.
+#[derive(Clone, Copy)]
+pub struct Attributes {
+    pub nodes: usize,
+    pub levels: usize,
+    pub literal: Option<u64>,
+}
+
+// The nodes and the levels of trees one after another.
+#[derive(Clone, Copy)]
+struct Sum {
+    nodes: usize,
+    levels: usize,
+}
+
+impl Sum {
+    // A node above such trees.
+    fn above(self) -> Attributes
+        requires { (self.nodes ≤ 65540) × (self.levels ≤ 129) }
+        ensures { reading result ≡ over_sum self.nodes self.levels }
+    {
+        Attributes {
+            nodes: (self.nodes + 1).min(16385),
+            levels: (self.levels + 1).min(129),
+            literal: None,
+        }
+    }
+}
+
+impl Attributes {
+    fn of_literal(bits: u64) -> Attributes
+        ensures { reading result ≡ literal_attributes bits }
+    {
+        Attributes {
+            nodes: 1,
+            levels: 1,
+            literal: Some(bits),
+        }
+    }
+
+    // "a literal zero (of either sign)"
+    pub fn is_zero(self) -> bool
+        ensures { result ≡ attribute_algebra.is_zero (reading self) }
+    {
+        match self.literal {
+            Some(bits) => bits == 0 || bits == MINUS_ZERO,
+            None => false,
+        }
+    }
+
+    pub fn is_one(self) -> bool
+        ensures { result ≡ attribute_algebra.is_one (reading self) }
+    {
+        match self.literal {
+            Some(bits) => bits == ONE,
+            None => false,
+        }
+    }
+
+    // A node above two trees.
+    fn beside(self, other: Attributes) -> Attributes
+        requires { Capped self × Capped other }
+        ensures { reading result ≡ inner (reading self ∷ reading other ∷ []) }
+    {
+        let both = Sum {
+            nodes: self.nodes + other.nodes,
+            levels: self.levels.max(other.levels),
+        };
+        both.above()
+    }
+
+    // "Only a literal zero (of either sign) beside Add, a literal zero or one beside Multiply .. are simplified."
+    fn add(self, other: Attributes) -> Attributes
+        requires { Capped self × Capped other }
+        ensures { reading result ≡ add_of attribute_algebra (reading self) (reading other) }
+    {
+        if self.is_zero() {
+            return other;
+        }
+        if other.is_zero() {
+            return self;
+        }
+        self.beside(other)
+    }
+
+    fn multiply(self, other: Attributes) -> Attributes
+        requires { Capped self × Capped other }
+        ensures { reading result ≡ mul_of attribute_algebra (reading self) (reading other) }
+    {
+        if self.is_zero() || other.is_zero() {
+            return Attributes::of_literal(0);
+        }
+        if self.is_one() {
+            return other;
+        }
+        if other.is_one() {
+            return self;
+        }
+        self.beside(other)
+    }
+
+    // Of 0 × formula + derivative, by their attributes.
+    pub fn with_primal(self, diff: Attributes) -> Attributes
+        requires { Capped self × Capped diff }
+        ensures { reading result ≡ primal_attributes (reading self) (reading diff) }
+    {
+        Attributes::of_literal(0).beside(self).beside(diff)
+    }
+}
+
 // A conditional with these three parts.
 fn conditional(a: Attributes, b: Attributes, c: Attributes) -> Attributes
+    requires { Capped a × Capped b × Capped c }
     ensures { reading result ≡ inner (reading a ∷ reading b ∷ reading c ∷ []) }
 {
     let all = Sum {
@@ -346,7 +459,7 @@ impl<'a> Part<'a> {
     // tried."
     fn diff(&self, has: bool) -> Option<Attributes>
         requires { has ≡ depends self.now.by.symbol (tree self.now.node.formula.now self.now.node.number) }
-        ensures { (is_some (option_of result) ≡ ruled self.now.by.symbol self.now.by.state (tree self.now.node.formula.now self.now.node.number)) × (or_literal result ≡ attributes_of (derived self.now.by.symbol self.now.by.state (tree self.now.node.formula.now self.now.node.number))) }
+        ensures { (is_some (option_of result) ≡ ruled self.now.by.symbol self.now.by.state (tree self.now.node.formula.now self.now.node.number)) × (reading (or_literal result) ≡ attributes_of (derived self.now.by.symbol self.now.by.state (tree self.now.node.formula.now self.now.node.number))) }
     {
         if !has {
             return Some(Attributes::of_literal(0));

@@ -7,7 +7,8 @@ use Rattle.derivative.specs.Attributes.{Attributes}
 use Rattle.derivative.specs.Derive.{too_short}
 use lib.ListN.{length-replicate}
 use Rattle.survey.specs.declared.Row.{Row}
-use Rattle.differentiate.proofs.Whole.{job_of}
+use Rattle.survey.specs.Table.{tree}
+use Rattle.differentiate.proofs.Whole.{diff_capped, job_of, own_capped}
 use Rattle.derive.specs.Outcome.{lengths}
 use Rattle.derive.proofs.Parts.{has_derivative, leaves, no_derivative, nodes_exact, surveyed_room, too_deep, too_many, within_limit}
 use Rattle.derive.proofs.Ends.{by_is, long_enough, rooms, short, too_large, unruled}
@@ -32,6 +33,16 @@ returns-in_default g c =
     (sym (by_is args.by.symbol f args.by.state ss D.is_state)
     ∙ no_derivative args.formula.now f D.given.formed D.given.limit args.by.symbol args.by.state found.result found.ensures.0 c.in_default.is))
     (c.refuse_at_root.ensures.0, c.refuse_at_root.ensures.1, c.refuse_at_root.ensures.2, c.refuse_at_root.ensures.3, refl)
+
+pub with_primal-whole-requires : goal.with_primal-whole-requires
+with_primal-whole-requires g c =
+    let args = c.args in
+    let found = c.survey_formula-found in
+    let diff = c.in-Some.diff in
+    let t = tree args.formula.now 0 in (
+      own_capped args.by.symbol args.by.state t found.result found.ensures.0,
+      diff_capped args.by.symbol args.by.state t found.result found.ensures.0 diff c.in-Some.is,
+    )
 
 pub returns-then-whole-gt16384 : goal.returns-then-whole-gt16384
 returns-then-whole-gt16384 g c =

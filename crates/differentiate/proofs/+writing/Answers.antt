@@ -34,7 +34,7 @@ differentiate-put_literal-requires g t c =
     let part = c.args.part.now in
     let tree2 = tree part.node.formula.now part.node.number in
     bytes_room g.F.Form.records _ _ _
-    (has_not g.F.Form.records part.by.symbol part.by.state part.node.formula.now part.node.rows.now part.node.number c.requires.known c.index-part-part.result c.if-not-has.true)
+    (has_not g.F.Form.records part.by.symbol part.by.state part.node.formula.now part.node.rows.now part.node.number c.requires.known c.if-not-has.true)
     c.requires.room
 
 pub differentiate-returns-then-not-has : goal.differentiate-returns-then-not-has
@@ -42,7 +42,7 @@ differentiate-returns-then-not-has g t c =
     let part = c.args.part.now in
     let tree2 = tree part.node.formula.now part.node.number in
     as_text _ _ _ _ _
-    (has_not g.F.Form.records part.by.symbol part.by.state part.node.formula.now part.node.rows.now part.node.number c.requires.known c.index-part-part.result c.if-not-has.true)
+    (has_not g.F.Form.records part.by.symbol part.by.state part.node.formula.now part.node.rows.now part.node.number c.requires.known c.if-not-has.true)
     c.put_literal.ensures
 
 pub differentiate-write_rule-requires : goal.differentiate-write_rule-requires
@@ -56,7 +56,7 @@ differentiate-write_rule-requires g t c =
         outlives,
         (task_as part.by.symbol part.by.state part.node.formula.now part.node.rows.now part.node.number c.args.depth _ _ c.args.out.now
             (ap (λ (x : RulePart). bytes g.F.Form.records (part_of part.by.symbol part.by.state part.node.number tree2 x.levels x.rule x.start)) c.in-Some.ensures.0
-            ∙ by_rule g.F.Form.records part.by.symbol part.by.state part.node.formula.now part.node.rows.now part.node.number c.requires.known c.index-part-part.result c.if-not-has.false (number_of part.by.symbol part.by.state part.node.formula.now part.node.number) refl c.in-Some.ensures.1)
+            ∙ by_rule g.F.Form.records part.by.symbol part.by.state part.node.formula.now part.node.rows.now part.node.number c.requires.known c.if-not-has.false (number_of part.by.symbol part.by.state part.node.formula.now part.node.number) refl c.in-Some.ensures.1)
             c.requires),
       ),
     )
@@ -67,7 +67,7 @@ differentiate-returns-in-Some g t c =
     let tree2 = tree part.node.formula.now part.node.number in
     as_text _ _ _ _ _
     (ap (λ (x : RulePart). bytes g.F.Form.records (part_of part.by.symbol part.by.state part.node.number tree2 x.levels x.rule x.start)) c.in-Some.ensures.0
-    ∙ by_rule g.F.Form.records part.by.symbol part.by.state part.node.formula.now part.node.rows.now part.node.number c.requires.known c.index-part-part.result c.if-not-has.false (number_of part.by.symbol part.by.state part.node.formula.now part.node.number) refl c.in-Some.ensures.1)
+    ∙ by_rule g.F.Form.records part.by.symbol part.by.state part.node.formula.now part.node.rows.now part.node.number c.requires.known c.if-not-has.false (number_of part.by.symbol part.by.state part.node.formula.now part.node.number) refl c.in-Some.ensures.1)
     c.write_rule.ensures
 
 pub differentiate-put_literal-requires-in-None : goal.differentiate-put_literal-requires-in-None
@@ -75,7 +75,7 @@ differentiate-put_literal-requires-in-None g t c =
     let part = c.args.part.now in
     let tree2 = tree part.node.formula.now part.node.number in
     bytes_room g.F.Form.records _ _ _
-    (without_rule g.F.Form.records part.by.symbol part.by.state part.node.formula.now part.node.rows.now part.node.number c.requires.known c.index-part-part.result c.if-not-has.false (number_of part.by.symbol part.by.state part.node.formula.now part.node.number) refl c.in-None.ensures)
+    (without_rule g.F.Form.records part.by.symbol part.by.state part.node.formula.now part.node.rows.now part.node.number c.requires.known c.if-not-has.false (number_of part.by.symbol part.by.state part.node.formula.now part.node.number) refl c.in-None.ensures)
     c.requires.room
 
 pub differentiate-returns-in-None : goal.differentiate-returns-in-None
@@ -83,7 +83,7 @@ differentiate-returns-in-None g t c =
     let part = c.args.part.now in
     let tree2 = tree part.node.formula.now part.node.number in
     as_text _ _ _ _ _
-    (without_rule g.F.Form.records part.by.symbol part.by.state part.node.formula.now part.node.rows.now part.node.number c.requires.known c.index-part-part.result c.if-not-has.false (number_of part.by.symbol part.by.state part.node.formula.now part.node.number) refl c.in-None.ensures)
+    (without_rule g.F.Form.records part.by.symbol part.by.state part.node.formula.now part.node.rows.now part.node.number c.requires.known c.if-not-has.false (number_of part.by.symbol part.by.state part.node.formula.now part.node.number) refl c.in-None.ensures)
     c.put_literal-in-None.ensures
 
 pub write_diff-overflow_sub-depth : goal.write_diff-overflow_sub-depth

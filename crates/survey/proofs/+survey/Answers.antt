@@ -1,11 +1,10 @@
-use Prim.Native.Nat.{ℕ, ◌+◌, ◌-◌, max}
+use Prim.Native.Nat.{ℕ, ◌+◌, ◌-◌}
 use native.Mathlib.Omega.{arith}
-use mathlib.Core.Bool.{true, ◌||◌, ◌&&◌}
+use mathlib.Core.Bool.{true, false}
 use mathlib.Core.Path.{◌≡◌, refl, ◌∙◌, subst, ap}
 use Rattle.reader.proofs.Trees.{size_pos}
-use Rattle.survey.specs.Table.{reading, tree}
-use Rattle.survey.specs.declared.Row.{Row}
-use Rattle.survey.proofs.Filling.{Going, going_start, child_room, row_there, row_next, going_on, symbol_is, all_fine, ready, filled, fine_is, given_some, given_right, larger_is}
+use Rattle.survey.specs.Table.{reading, tree, empty_row}
+use Rattle.survey.proofs.Filling.{Going, going_start, child_room, row_there, going_on, symbol_is, all_fine, ready, filled, fine_is, given_some, given_right, larger_is}
 use Rattle.survey.proofs.+survey.Goals as goal
 
 pub loop-child-init : goal.loop-child-init
@@ -28,8 +27,8 @@ survey-requires t c =
     loop.next (c.half-children.result - loop._child) loop.invariant.1 (λ e. omega (arith, c.loop-child-test.true)) in
     (omega (arith, loop.invariant.0.deep, loop.invariant.1.deep), room)
 
-pub bounds-rows-next : goal.bounds-rows-next
-bounds-rows-next t c =
+pub slice_copy_out-row : goal.slice_copy_out-row
+slice_copy_out-row t c =
     let args = c.args in
     let loop = c.loop-child in
     let there = row_there args.by.symbol args.by.state args.f.now args.rows.now args.k args.depth loop.invariant.0 loop.rows loop.has loop.fine loop.levels
@@ -42,25 +41,18 @@ overflow_add-next-in-loop-child t c =
     let loop = c.loop-child in
     let room = child_room args.by.symbol args.by.state args.f.now args.rows.now args.k args.depth loop.invariant.0 loop.rows loop.has loop.fine loop.levels
     loop.next (c.half-children.result - loop._child) loop.invariant.1 (λ e. omega (arith, c.loop-child-test.true)) in
-    let read = row_next args.by.symbol args.by.state args.f.now args.rows.now args.k args.depth loop.invariant.0 loop.rows loop.has loop.fine loop.levels
-    loop.next (c.half-children.result - loop._child) loop.invariant.1 (λ e. omega (arith, c.loop-child-test.true)) c.survey.new.rows c.survey.auto.rows
-    c.index-rows-next.result c.index-rows-next.is in
     let size = (c.survey.ensures.own loop.next (omega arith) (omega (arith, size_pos (tree args.f.now loop.next)))).nodes in
-    omega (arith, room.long, size, loop.invariant.1.same_length, ap (λ (x : Row). x.nodes) read)
+    omega (arith, room.long, size, loop.invariant.1.same_length)
 
 pub loop-child-preserved : goal.loop-child-preserved
 loop-child-preserved t c =
     let args = c.args in
-    let loop = c.loop-child in
-    let read = row_next args.by.symbol args.by.state args.f.now args.rows.now args.k args.depth loop.invariant.0 loop.rows loop.has loop.fine loop.levels
-    loop.next (c.half-children.result - loop._child) loop.invariant.1 (λ e. omega (arith, c.loop-child-test.true)) c.survey.new.rows c.survey.auto.rows
-    c.index-rows-next.result c.index-rows-next.is in (
+    let loop = c.loop-child in (
       loop.invariant.0,
       going_on args.by.symbol args.by.state args.f.now args.rows.now args.k args.depth loop.invariant.0 loop.rows loop.has loop.fine loop.levels
           loop.next (c.half-children.result - loop._child) loop.invariant.1
-          (λ e. omega (arith, c.loop-child-test.true)) c.survey.new.rows c.survey.auto.rows c.survey.ensures _ _ c.max-levels.result _ _
-          (ap (λ (x : Row). loop.has || x.has) read) (ap (λ (x : Row). loop.fine && x.fine) read)
-          (c.max-levels.ensures ∙ larger_is _ _ ∙ ap (λ (x : Row). max loop.levels x.levels) read) (ap (λ (x : Row). loop.next + x.nodes) read) (omega arith),
+          (λ e. omega (arith, c.loop-child-test.true)) c.survey.new.rows c.survey.auto.rows c.survey.ensures _ _ c.max-levels.result _ _ refl refl
+          (c.max-levels.ensures ∙ larger_is _ _) refl (omega arith),
     )
 
 pub invariant_of-node : goal.invariant_of-node
@@ -69,7 +61,7 @@ invariant_of-node t c =
     let loop = c.loop-child in
     let now = ready args.by.symbol args.by.state args.f.now args.rows.now args.k args.depth loop.invariant.0 loop.rows loop.has loop.fine loop.levels
     loop.next (c.half-children.result - loop._child) loop.invariant.1 (omega (arith, c.loop-child.auto._child-end, c.loop-child-test.false))
-    _ refl refl in
+    (record { nodes = loop.next - args.k; levels = loop.levels + 1; has = loop.has; fine = false; diff = empty_row.diff }) refl refl in
     record { owned = now.owned }
 
 pub invariant_of-part : goal.invariant_of-part
@@ -80,7 +72,7 @@ invariant_of-part t c =
       ready =
           ready args.by.symbol args.by.state args.f.now args.rows.now args.k args.depth loop.invariant.0 loop.rows loop.has loop.fine loop.levels
           loop.next (c.half-children.result - loop._child) loop.invariant.1 (omega (arith, c.loop-child.auto._child-end, c.loop-child-test.false))
-          _ refl refl;
+          (record { nodes = loop.next - args.k; levels = loop.levels + 1; has = loop.has; fine = false; diff = empty_row.diff }) refl refl;
     }
 
 pub diff-diff-requires : goal.diff-diff-requires
@@ -96,7 +88,7 @@ returns t c =
     let loop = c.loop-child in
     filled args.by.symbol args.by.state args.f.now args.rows.now args.k args.depth loop.invariant.0 loop.rows loop.has loop.fine loop.levels
     loop.next (c.half-children.result - loop._child) loop.invariant.1 (omega (arith, c.loop-child.auto._child-end, c.loop-child-test.false))
-    _ refl refl _ refl refl (symbol_is args.by.symbol args.by.state args.f.now args.rows.now args.k args.depth loop.invariant.0 loop.rows loop.has loop.fine loop.levels
+    (record { nodes = loop.next - args.k; levels = loop.levels + 1; has = loop.has; fine = false; diff = empty_row.diff }) refl refl _ refl refl (symbol_is args.by.symbol args.by.state args.f.now args.rows.now args.k args.depth loop.invariant.0 loop.rows loop.has loop.fine loop.levels
     loop.next (c.half-children.result - loop._child) loop.invariant.1 (omega (arith, c.loop-child.auto._child-end, c.loop-child-test.false)))
     (fine_is args.by.symbol args.by.state (tree args.f.now args.k) loop.has loop.fine c.is_some.result _ _
     (symbol_is args.by.symbol args.by.state args.f.now args.rows.now args.k args.depth loop.invariant.0 loop.rows loop.has loop.fine loop.levels

@@ -1,12 +1,11 @@
 use Prim.Native.Nat.{ℕ, ◌+◌, ◌-◌, ◌*◌, ◌<◌}
 use native.Mathlib.Omega.{arith}
-use mathlib.Core.Path.{◌≡◌, refl, sym, ap, subst}
+use mathlib.Core.Path.{◌≡◌, refl, subst}
 use Rattle.formula.specs.Text.{half_at}
 use Rattle.formula.specs.Node.{node_size}
 use Rattle.survey.specs.Table.{row_in}
 use Rattle.survey.proofs.Trees.{Walk, walk_start, walk_done}
-use Rattle.survey.proofs.Rows.{row_read, stands, step_size, walk_again, owned_child}
-use Rattle.survey.specs.declared.Row.{Row}
+use Rattle.survey.proofs.Rows.{stands, step_size, walk_again, owned_child}
 use Rattle.survey.proofs.Node.child.Goals as goal
 
 pub loop-passed-init : goal.loop-passed-init
@@ -40,22 +39,17 @@ overflow_add-number-in-loop-passed c =
     let left = c.args.i - c.loop-passed._passed in
     let s = stands node.formula.now node.rows.now node.number c.args.i node.owned inside left c.loop-passed.number c.loop-passed.invariant in
     let z = step_size node.formula.now node.rows.now node.number c.args.i node.owned inside left c.loop-passed.number c.loop-passed.invariant in
-    let read = row_read node.rows.now c.loop-passed.number c.index-self-number.result (omega (arith, s.ends, s.one, node.owned.long)) in
-    omega (arith, s.ends, z, node.owned.long, ap (λ (x : Row). x.nodes) read)
+    omega (arith, s.ends, z, node.owned.long)
 
 pub loop-passed-preserved : goal.loop-passed-preserved
 loop-passed-preserved c =
     let node = c.args.self.now in
     let inside : c.args.i < half_at node.formula.now (node_size * node.number + 2) = omega (arith, c.children.ensures.0, c.if-i-children.false) in
     let rest = half_at node.formula.now (node_size * node.number + 2) - c.args.i in
-    let left = c.args.i - c.loop-passed._passed in
-    let at = c.loop-passed.number in
-    let s = stands node.formula.now node.rows.now node.number c.args.i node.owned inside left at c.loop-passed.invariant in
-    let read = row_read node.rows.now at c.index-self-number.result (omega (arith, s.ends, s.one, node.owned.long)) in
-    let next = at + (row_in node.rows.now at).nodes in
-    subst (λ (x : Row). Walk node.formula.now node.number c.args.i (c.args.i - (c.loop-passed._passed + 1) + rest) (c.args.i - (c.loop-passed._passed + 1)) (at + x.nodes)) (sym read)
-    (subst (λ (m : ℕ). Walk node.formula.now node.number c.args.i (m + rest) m next) (omega arith)
-    (walk_again node.formula.now node.rows.now node.number c.args.i node.owned inside left at c.loop-passed.invariant (λ e. omega (arith, c.loop-passed-test.true))))
+    let next = c.loop-passed.number + (row_in node.rows.now c.loop-passed.number).nodes in
+    subst (λ (m : ℕ). Walk node.formula.now node.number c.args.i (m + rest) m next) (omega arith)
+    (walk_again node.formula.now node.rows.now node.number c.args.i node.owned inside (c.args.i - c.loop-passed._passed) c.loop-passed.number
+    c.loop-passed.invariant (λ e. omega (arith, c.loop-passed-test.true)))
 
 pub invariant_of-result : goal.invariant_of-result
 invariant_of-result c =

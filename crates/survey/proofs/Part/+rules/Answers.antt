@@ -10,6 +10,7 @@ use Rattle.survey.specs.Derived.{children_of, child_of, derived_of}
 use Rattle.survey.specs.Table.{tree, reading}
 use Rattle.survey.specs.Worked.{literal_attributes}
 use Rattle.survey.proofs.Worked.{rule_none, rule_long, worked_by, worked_zero, worked_child, worked_diff, worked_whole, worked_extremum, worked_literal, unless_yes, unless_no, writing}
+use Rattle.survey.proofs.Capped.{capped_worked}
 use Rattle.survey.proofs.Steps.{tested, added, multiplied, noded, sum_none, sum_next, sum_fits}
 use Rattle.survey.proofs.Part.+rules.Goals as goal
 
@@ -57,6 +58,15 @@ rule_attributes-returns-else-is_zero measure c =
     (tested c.is_zero.result c.diff_attributes-in-Unless.result (derived_of part.by.symbol part.by.state t (code_at here.rule here.start % 16)) _ c.is_zero.ensures
     (c.diff_attributes-in-Unless.ensures ∙ ap (λ (x : ℕ). attributes_of (derived_of part.by.symbol part.by.state t x)) c.in-Unless.ensures.which) c.if-is_zero.false)
 
+pub rule_attributes-add-requires : goal.rule_attributes-add-requires
+rule_attributes-add-requires measure c =
+    let part = c.args.self.now in
+    let here = c.args.here in
+    let t = tree part.node.formula.now part.node.number in (
+      capped_worked part.by.symbol part.by.state t (here.levels - 1) here.rule (here.start + 1) c.rule_attributes-a.result c.rule_attributes-a.ensures,
+      capped_worked part.by.symbol part.by.state t (here.levels - 1) here.rule c.end.result c.rule_attributes-in-Add.result c.rule_attributes-in-Add.ensures,
+    )
+
 pub rule_attributes-returns-in-Add : goal.rule_attributes-returns-in-Add
 rule_attributes-returns-in-Add measure c =
     let part = c.args.self.now in
@@ -65,6 +75,15 @@ rule_attributes-returns-in-Add measure c =
     added part.by.symbol part.by.state t here.levels here.rule here.start (code_at here.rule here.start) c.if-here-eq0.false c.if-here-ge128.false refl
     (sym c.in-Add.ensures.kind) (reading c.rule_attributes-a.result) (reading c.rule_attributes-in-Add.result) (reading c.add.result) c.end.result c.rule_attributes-a.ensures c.end.ensures c.rule_attributes-in-Add.ensures
     c.add.ensures
+
+pub rule_attributes-multiply-requires : goal.rule_attributes-multiply-requires
+rule_attributes-multiply-requires measure c =
+    let part = c.args.self.now in
+    let here = c.args.here in
+    let t = tree part.node.formula.now part.node.number in (
+      capped_worked part.by.symbol part.by.state t (here.levels - 1) here.rule (here.start + 1) c.rule_attributes-a-in-Multiply.result c.rule_attributes-a-in-Multiply.ensures,
+      capped_worked part.by.symbol part.by.state t (here.levels - 1) here.rule c.end-in-Multiply.result c.rule_attributes-in-Multiply.result c.rule_attributes-in-Multiply.ensures,
+    )
 
 pub rule_attributes-returns-in-Multiply : goal.rule_attributes-returns-in-Multiply
 rule_attributes-returns-in-Multiply measure c =
@@ -150,7 +169,8 @@ rules_attributes-overflow_add-result measure c =
     let t = tree part.node.formula.now part.node.number in
     let sum = sum_fits part.by.symbol part.by.state t here.levels here.rule (c.args.left - 1) c.end.result c.rules_attributes-rest.result (omega (arith, c.requires))
     c.rules_attributes-rest.ensures in
-    omega (arith, sum.0, c.rule_attributes-a.result.few)
+    let one = capped_worked part.by.symbol part.by.state t here.levels here.rule here.start c.rule_attributes-a.result c.rule_attributes-a.ensures in
+    omega (arith, sum.0, one.0)
 
 pub rules_attributes-returns : goal.rules_attributes-returns
 rules_attributes-returns measure c =

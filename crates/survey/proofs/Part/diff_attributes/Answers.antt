@@ -1,8 +1,6 @@
 use mathlib.Core.Path.{◌∙◌, ap, sym}
 use Rattle.derivative.specs.Attributes.{attributes_of}
-use Rattle.survey.specs.declared.Row.{Row}
-use Rattle.survey.specs.Table.{reading}
-use Rattle.survey.proofs.Rows.{row_inside, own_read, surveyed_given, derived_given, derived_none}
+use Rattle.survey.proofs.Rows.{row_inside, surveyed_given, derived_given, derived_none}
 use Rattle.survey.proofs.Part.diff_attributes.Goals as goal
 
 pub bounds-child-child : goal.bounds-child-child
@@ -16,8 +14,7 @@ returns-in-Some c =
     let node = part.node in
     let child = c.in-Some.child in
     let given = c.in-Some.ensures in
-    ap (λ (x : Row). reading x.diff) (own_read child.formula.now child.rows.now child.number child.owned c.index-child-child.result)
-    ∙ (surveyed_given node.formula.now node.rows.now node.number c.args.i child.formula.now child.rows.now child.number given part.by.symbol part.by.state part.ready).diff
+    (surveyed_given node.formula.now node.rows.now node.number c.args.i child.formula.now child.rows.now child.number given part.by.symbol part.by.state part.ready).diff
     ∙ ap attributes_of
     (sym (derived_given node.formula.now node.rows.now node.number c.args.i child.formula.now child.rows.now child.number given part.by.symbol part.by.state))
 

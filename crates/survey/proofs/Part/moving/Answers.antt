@@ -1,8 +1,7 @@
 use native.Mathlib.Omega.{arith}
-use mathlib.Core.Path.{◌∙◌, ap, sym}
-use Rattle.survey.specs.declared.Row.{Row}
+use mathlib.Core.Path.{sym}
 use Rattle.survey.proofs.Chosen.{moving_given, moving_none}
-use Rattle.survey.proofs.Rows.{row_inside, own_read}
+use Rattle.survey.proofs.Rows.{row_inside}
 use Rattle.survey.proofs.Part.moving.Goals as goal
 
 pub bounds-child-child : goal.bounds-child-child
@@ -16,8 +15,7 @@ returns-in-Some c =
     let node = part.node in
     let child = c.in-Some.child in
     let given = c.in-Some.ensures in
-    ap (λ (x : Row). x.has) (own_read child.formula.now child.rows.now child.number child.owned c.index-child-child.result)
-    ∙ moving_given part.by.symbol part.by.state node.formula.now node.rows.now node.number child.formula.now child.rows.now child.number given part.ready
+    moving_given part.by.symbol part.by.state node.formula.now node.rows.now node.number child.formula.now child.rows.now child.number given part.ready
 
 pub returns-in-None : goal.returns-in-None
 returns-in-None c =
