@@ -61,6 +61,7 @@ impl Sum {
     }
 }
 
+// The caps stay in the clauses: were they facts of the type, `is_zero` and `is_one`, which ask for none, would ask for them too.
 impl Attributes {
     fn of_literal(bits: u64) -> Attributes
         ensures { reading result ≡ literal_attributes bits }
