@@ -16,6 +16,7 @@ use Rattle.meaning.specs.Work.{Question, elementary, power}
 use Rattle.machine.specs.Machine.{Reply, State}
 use Rattle.vebrostin.specs.Cells.{ArgumentsBack, Askable, ComesBack, Held, padded, question_cells, question_in, state_cells, state_in, value_cell}
 use Rattle.vebrostin.specs.Calls.{written}
+use Rattle.vebrostin.proofs.Written.{padded_length}
 
 -- every f64 is read again from its bits
 pub comes_back : (x : Float) → fits binary64 x ≡ true → ComesBack x
@@ -76,11 +77,6 @@ state_back s few held a h rest =
     ∙ ap (λ (o : Option Question). record { position = s.position; kept = s.kept; pending = o }) (question_back s.pending a h rest)
 
 -- ---- what a host reads from the cells of a reply
-
-padded_length : (n : ℕ) (ks : List Float) → length (padded n ks) ≡ n
-padded_length zero ks = refl
-padded_length (suc n) [] = ap suc (padded_length n [])
-padded_length (suc n) (k ∷ ks) = ap suc (padded_length n ks)
 
 fourth : (o : Option Question) (a b : ℕ) (rest : List ℕ) → (let l = question_cells o ++ (a ∷ b ∷ rest) in
     (get_or l 3 0 ≡ a) × (get_or l 4 0 ≡ b) × (take 3 l ≡ question_cells o))

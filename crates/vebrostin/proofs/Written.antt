@@ -5,13 +5,22 @@ use mathlib.Core.Option.{Option, none, some}
 use Prim.Native.Nat.{ℕ, zero, suc, ◌+◌, ◌<◌, ◌≤◌}
 use native.Mathlib.Numerals.{add-one}
 use native.Mathlib.Omega.{arith}
-use lib.ListN.{length, take, set, get_or}
+use lib.ListN.{length, length-append, drop, take, set, get_or}
 use lib.Seq.{take_all}
 use lib.Ieee.{Float}
 use Rattle.meaning.specs.Work.{Question, elementary, power}
 use Rattle.vebrostin.specs.Cells.{bits, padded, question_cells, state_cells}
 
 -- ---- written
+
+pub padded_length : (n : ℕ) (ks : List Float) → length (padded n ks) ≡ n
+padded_length zero ks = refl
+padded_length (suc n) [] = ap suc (padded_length n [])
+padded_length (suc n) (k ∷ ks) = ap suc (padded_length n ks)
+
+-- sixteen cells
+pub row_length : (a b : ℕ) (ks : List Float) (t : List ℕ) {row : List ℕ} → length t ≡ 5 → row ≡ a ∷ b ∷ padded 9 ks ++ t → length row ≡ 16
+row_length a b ks t h e = rw (e, length-append, padded_length 9 ks, h) refl
 
 -- one value more
 padded_more : (n : ℕ) (xs : List Float) (i : ℕ) (d : Float) (t : List ℕ) → i < n → i < length xs → set (padded n (take i xs) ++ t) i (bits (get_or xs i d)) ≡ padded n (take (i + 1) xs) ++ t
@@ -42,3 +51,9 @@ pub row_whole : (at : ℕ) (vs : List Float) (o : Option Question) (count v i : 
 row_whole at vs o count v i h eq er =
     let t = count ∷ v ∷ [] in
     rw (er, take_all i vs h, eq, three o t) (ap (λ (x : List ℕ). at ∷ length vs ∷ x) (sym (append_assoc (padded 9 vs) (question_cells o) t)))
+
+-- over the first sixteen cells
+pub row_over : (row o : List ℕ) {cells : List ℕ} {i : ℕ} → length row ≡ 16 → 16 ≤ i → i ≤ 16 → cells ≡ take i row ++ drop i o → cells ≡ row ++ drop 16 o
+row_over row o {cells} {i} n low high e =
+    let all : i ≡ 16 = omega (arith, low, high) in
+    e ∙ ap (λ (k : ℕ). take k row ++ drop k o) all ∙ ap (λ (x : List ℕ). x ++ drop 16 o) (take_all 16 row (omega (arith, n)))

@@ -210,7 +210,8 @@ fn values_of(kept: &Kept) -> &[f64]
     &kept.values[..kept.count.min(9)]
 }
 
-// Writes all sixteen cells: a state's by its parts, nine values kept at most, then a count and a value.
+// Writes all sixteen cells: a state's by its parts, nine values kept at most, then a count and a value. The row is copied
+// cell by cell: `copy_from_slice` reads it back from memory (a run of 24 questions 17,129 machine instructions for 16,433).
 fn put(
     cells: &mut [u64],
     position: usize,
@@ -245,7 +246,9 @@ fn put(
     for (i, kept) in values.iter().enumerate() {
         row[2 + i] = value_bits(*kept);
     }
-    cells[..16].copy_from_slice(&row);
+    for place in 0..16 {
+        cells[place] = row[place];
+    }
 }
 
 // Writes a reply's cells, and tells its number.
@@ -279,7 +282,9 @@ fn is_early(program: &[u8], inputs: &[f64], registers: &[f64], room: usize, budg
 }
 
 // The question of an instruction that puts no other: Power's within its domain, or a function's that the host answers.
+// It and `ends` stand in line where they are called: with calls, 24 questions take 19,046 machine instructions for 16,433.
 #[tactic(auto, using(run::proofs::Looping::code_small))]
+#[inline(always)]
 fn question_at(program: &[u8], registers: &[f64], at: usize) -> Option<Question>
     requires { at < code_count program.now }
     ensures { IfSome result (PutsOnly program.now registers.now at) }
@@ -302,6 +307,7 @@ fn question_at(program: &[u8], registers: &[f64], at: usize) -> Option<Question>
 
 // Ends a call that came to a place, nothing kept, with so many instructions completed. No state and no reply is made where
 // the end can be told at once: they take most of the time of a short run or an answer.
+#[inline(always)]
 fn ends(
     program: &[u8],
     inputs: &[f64],
