@@ -9,7 +9,7 @@ use lib.ListN.{length, get_or, get_or-append, replicate}
 use lib.Dec.{leb}
 use borrow.Author.Tests.{leb-true}
 use Rattle.formula.specs.Text.{split, all_some}
-use Rattle.formula.specs.Names.{Symbol, SymbolKind, Parameter, State, Time, Input, symbol_of, table, none_twice, symbols_of, kinds}
+use Rattle.formula.specs.Names.{Symbol, SymbolKind, Parameter, State, Time, Input, symbol_of, table, none_twice, symbols_of, kinds, varies, is_state}
 use Rattle.std.specs.Prelude.{Some, None}
 use Rattle.names.specs.Lines.{kind_as, symbol_kind, names_of, table_of}
 use Rattle.names.specs.declared.Kind.TheVariants as Kinds
@@ -51,6 +51,13 @@ kind_back Parameter = refl
 kind_back State = refl
 kind_back Time = refl
 kind_back Input = refl
+
+-- only parameters are not dynamic, and a state is told from the others
+pub kind_varies : (k : SymbolKind) → varies (symbol_kind (kind_as k)) ≡ varies k
+kind_varies k = ap varies (kind_back k)
+
+pub kind_state : (k : SymbolKind) → is_state (symbol_kind (kind_as k)) ≡ is_state k
+kind_state k = ap is_state (kind_back k)
 
 pub kinds_back : (ks : List SymbolKind) → map symbol_kind (map kind_as ks) ≡ ks
 kinds_back [] = refl
