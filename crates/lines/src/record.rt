@@ -1,14 +1,13 @@
 // A line of values to its record: the program is run on them, with registers that start as 0.0 and a budget of all its code.
-ghost use Rattle.std.specs.Prelude.{◌≡◌, ◌+◌, ◌≤◌, true, length};
-ghost use Rattle.machine.specs.Program.{valid};
-ghost use Rattle.layout.specs.Decode.{program_at, register_total};
+ghost use Rattle.std.specs.Prelude.{◌≡◌, ◌+◌, ◌≤◌, length};
+ghost use Rattle.layout.specs.Decode.{register_total};
 ghost use Rattle.run.specs.Views.{Writable};
 ghost use Rattle.lines.specs.Record.{Answers, Ready, Records, Runs};
 ghost use Rattle.lines.specs.Text.{WroteSome};
 
 use crate::Line;
 use crate::sums::Totals;
-use crate::text::put_line;
+use crate::text::{Checked, put_line};
 use layout::{CODE_AT, REGISTERS_AT};
 use refusals::Refusal;
 use run::Answer;
@@ -21,15 +20,15 @@ pub struct Outcome {
     pub count: usize,
 }
 
-fn run_values(p: &[u8], inputs: &[f64], regs: &mut [f64]) -> Outcome
-    requires { (valid (program_at p.now) ≡ true) × (register_total p.now ≤ length regs.old) }
-    ensures runs { Runs p.now inputs.now result }
-    ensures place { Writable p.now 8192 result.answer }
+fn run_values(p: Checked, inputs: &[f64], regs: &mut [f64]) -> Outcome
+    requires { register_total p.bytes.now ≤ length regs.old }
+    ensures runs { Runs p.entry.bytes.now inputs.now result }
+    ensures place { Writable p.entry.bytes.now 8192 result.answer }
 {
-    let budget = reader::word(p, CODE_AT);
-    let n = reader::word(p, REGISTERS_AT);
+    let budget = reader::word(p.bytes, CODE_AT);
+    let n = reader::word(p.bytes, REGISTERS_AT);
     regs[..n].fill(0.0);
-    let reply = run::run_reply(p, inputs, &mut regs[..n], budget);
+    let reply = run::run_reply(p.bytes, inputs, &mut regs[..n], budget);
     Outcome {
         answer: reply.answer,
         count: reply.count,
@@ -47,10 +46,10 @@ fn refused(refusal: Refusal) -> Outcome
 
 // "A value line that isn't hex digits and commas as said shows `bad` with 3; otherwise a wrong count of values or a value
 // that isn't finite shows 5."
-fn answer_of(p: &[u8], found: Option<usize>, values: &[f64], regs: &mut [f64]) -> Outcome
-    requires { Ready p.now (length values.now) (length regs.old) }
-    ensures answers { Answers p.now found values.now result }
-    ensures place { Writable p.now 8192 result.answer }
+fn answer_of(p: Checked, found: Option<usize>, values: &[f64], regs: &mut [f64]) -> Outcome
+    requires { Ready p.bytes.now (length values.now) (length regs.old) }
+    ensures answers { Answers p.entry.bytes.now found values.now result }
+    ensures place { Writable p.entry.bytes.now 8192 result.answer }
 {
     match found {
         None => refused(Refusal::MalformedLine),
@@ -81,8 +80,9 @@ pub(crate) fn put_record(
     ensures room { result.end ≤ at + 8242 }
 {
     let found = finish(line.reading, values);
-    let outcome = answer_of(p, found, values, regs);
-    let end = put_line(p, out, at, line.number, outcome.answer, outcome.count);
+    let program = Checked { bytes: p };
+    let outcome = answer_of(program, found, values, regs);
+    let end = put_line(program, out, at, line.number, outcome.answer, outcome.count);
     Recorded {
         end,
         totals: line.totals.with_line(outcome.answer, outcome.count),

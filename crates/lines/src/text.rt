@@ -25,6 +25,13 @@ use values::words::write_eight;
 use work::Question;
 use writer::{put_bytes, put_decimal, put_long};
 
+// Bytes that are a program.
+#[derive(Clone, Copy)]
+pub(crate) struct Checked<'a> {
+    pub bytes: &'a [u8],
+    ghost sound: { valid (program_at bytes.now) ≡ true },
+}
+
 // The 16 digits of a value's bits.
 fn put_bits(out: &mut [u8], at: usize, x: f64) -> usize
     requires { at + 16 ≤ length out.old }
@@ -99,22 +106,22 @@ fn path_length(p: &[u8], k: usize) -> usize
 }
 
 // The path goes straight into the output, of which just its own bytes are lent.
-fn put_domain(p: &[u8], out: &mut [u8], at: usize, k: usize) -> usize
-    requires { (valid (program_at p.now) ≡ true) × (k < path_total p.now) × (length_at p.now k ≤ 8192) × (at + 8199 ≤ length out.old) }
-    ensures wrote { Wrote out.old at (shown (line_of (outside (path_of p.now k)) 0)) out.new result }
+fn put_domain(p: Checked, out: &mut [u8], at: usize, k: usize) -> usize
+    requires { (k < path_total p.bytes.now) × (length_at p.bytes.now k ≤ 8192) × (at + 8199 ≤ length out.old) }
+    ensures wrote { Wrote out.old at (shown (line_of (outside (path_of p.entry.bytes.now k)) 0)) out.new result }
     ensures room { result ≤ at + 8199 }
 {
     let from = put_bytes(out, at, b"domain,");
-    let n = path_length(p, k);
+    let n = path_length(p.bytes, k);
     let end = from + n;
-    program::write_place(p, k, &mut out[from..end]);
+    program::write_place(p.bytes, k, &mut out[from..end]);
     end
 }
 
 // The answer and its detail.
-fn put_answer(p: &[u8], out: &mut [u8], at: usize, answer: Answer) -> usize
-    requires { (valid (program_at p.now) ≡ true) × (Writable p.now 8192 answer) × (at + 8199 ≤ length out.old) }
-    ensures wrote { Wrote out.old at (shown (line_of (answer_of p.now answer) 0)) out.new result }
+fn put_answer(p: Checked, out: &mut [u8], at: usize, answer: Answer) -> usize
+    requires { (Writable p.bytes.now 8192 answer) × (at + 8199 ≤ length out.old) }
+    ensures wrote { Wrote out.old at (shown (line_of (answer_of p.entry.bytes.now answer) 0)) out.new result }
     ensures room { result ≤ at + 8199 }
 {
     match answer {
@@ -138,15 +145,15 @@ fn steps_of(answer: Answer, count: usize) -> usize
 
 // A line's number, its answer with the detail, and the instructions completed.
 pub(crate) fn put_line(
-    p: &[u8],
+    p: Checked,
     out: &mut [u8],
     at: usize,
     number: u64,
     answer: Answer,
     count: usize,
 ) -> usize
-    requires { (valid (program_at p.now) ≡ true) × (Writable p.now 8192 answer) × (at + 8242 ≤ length out.old) }
-    ensures wrote { Wrote out.old at (printed number (line_of (answer_of p.now answer) count)) out.new result }
+    requires { (Writable p.bytes.now 8192 answer) × (at + 8242 ≤ length out.old) }
+    ensures wrote { Wrote out.old at (printed number (line_of (answer_of p.entry.bytes.now answer) count)) out.new result }
     ensures room { result ≤ at + 8242 }
 {
     let comma = put_decimal(out, at, number);

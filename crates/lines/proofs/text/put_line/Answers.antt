@@ -6,7 +6,7 @@ use Rattle.std.proofs.Common.{arith}
 use Rattle.lines.proofs.text.put_line.Goals as goal
 
 pub put_decimal-comma-requires : goal.put_decimal-comma-requires
-put_decimal-comma-requires c = omega (arith, decimal_long c.args.number c.ranges.number.fits, c.requires.2)
+put_decimal-comma-requires c = omega (arith, decimal_long c.args.number c.ranges.number.fits, c.requires.1)
 
 pub put_bytes-first-requires : goal.put_bytes-first-requires
 put_bytes-first-requires c =
@@ -14,7 +14,7 @@ put_bytes-first-requires c =
     let fits = c.ranges in
     let pre = c.requires in
     let put_decimal = c.put_decimal-comma in
-    omega (arith, decimal_long args.number fits.number.fits, put_decimal.ensures.0, put_decimal.auto.out, pre.2)
+    omega (arith, decimal_long args.number fits.number.fits, put_decimal.ensures.0, put_decimal.auto.out, pre.1)
 
 pub put_answer-end-requires : goal.put_answer-end-requires
 put_answer-end-requires c =
@@ -24,7 +24,6 @@ put_answer-end-requires c =
     let put_decimal = c.put_decimal-comma in
     let put_bytes = c.put_bytes-first in (
       pre.0,
-      pre.1,
       omega (
         arith,
         decimal_long args.number fits.number.fits,
@@ -32,7 +31,7 @@ put_answer-end-requires c =
         put_decimal.auto.out,
         put_bytes.ensures.0,
         put_bytes.auto.out,
-        pre.2,
+        pre.1,
       ),
     )
 
@@ -53,7 +52,7 @@ put_bytes-last-requires c =
       put_bytes.auto.out,
       put_answer.ensures.room,
       put_answer.auto.out,
-      pre.2,
+      pre.1,
     )
 
 pub put_decimal-newline-requires : goal.put_decimal-newline-requires
@@ -77,7 +76,7 @@ put_decimal-newline-requires c =
       put_bytes2.ensures.0,
       put_bytes2.auto.out,
       decimal_long c.steps_of.result c.steps_of.type_inv,
-      pre.2,
+      pre.1,
     )
 
 pub put_bytes-requires : goal.put_bytes-requires
@@ -105,7 +104,7 @@ put_bytes-requires c =
       decimal_long steps_of.result steps_of.type_inv,
       put_decimal2.ensures.0,
       put_decimal2.auto.out,
-      pre.2,
+      pre.1,
     )
 
 pub returns : goal.returns
@@ -120,11 +119,11 @@ returns c =
     let steps_of = c.steps_of in
     let put_decimal2 = c.put_decimal-newline in
     let put_bytes3 = c.put_bytes in record {
-      wrote = line_wrote args.out.now args.at args.number args.count steps_of.result (answer_of args.p.now args.answer)
+      wrote = line_wrote args.out.now args.at args.number args.count steps_of.result (answer_of args.p.bytes.now args.answer)
           put_decimal.new.out put_bytes.new.out put_answer.new.out put_bytes2.new.out put_decimal2.new.out put_bytes3.new.out
           put_decimal.result put_bytes.result put_answer.result put_bytes2.result put_decimal2.result put_bytes3.result
-          (steps_of.ensures args.p.now)
-          (omega (arith, decimal_long args.number fits.number.fits, put_decimal.ensures.0, put_decimal.auto.out, pre.2))
+          (steps_of.ensures args.p.bytes.now)
+          (omega (arith, decimal_long args.number fits.number.fits, put_decimal.ensures.0, put_decimal.auto.out, pre.1))
           (omega (
             arith,
             decimal_long args.number fits.number.fits,
@@ -132,7 +131,7 @@ returns c =
             put_decimal.auto.out,
             put_bytes.ensures.0,
             put_bytes.auto.out,
-            pre.2,
+            pre.1,
           ))
           (omega (
             arith,
@@ -143,7 +142,7 @@ returns c =
             put_bytes.auto.out,
             put_answer.ensures.room,
             put_answer.auto.out,
-            pre.2,
+            pre.1,
           ))
           (omega (
             arith,
@@ -156,7 +155,7 @@ returns c =
             put_answer.auto.out,
             put_bytes2.ensures.0,
             put_bytes2.auto.out,
-            pre.2,
+            pre.1,
           ))
           (omega (
             arith,
@@ -172,7 +171,7 @@ returns c =
             decimal_long steps_of.result steps_of.type_inv,
             put_decimal2.ensures.0,
             put_decimal2.auto.out,
-            pre.2,
+            pre.1,
           ))
           (wrote args.out.now args.at (decimal args.number) put_decimal.new.out put_decimal.result put_decimal.ensures)
           (wrote put_decimal.new.out put_decimal.result (comma) put_bytes.new.out put_bytes.result put_bytes.ensures) put_answer.ensures.wrote
@@ -194,6 +193,6 @@ returns c =
         put_decimal2.ensures.0,
         put_decimal2.auto.out,
         put_bytes3.ensures.0,
-        pre.2,
+        pre.1,
       );
     }
