@@ -36,7 +36,7 @@ pub enum Origin {
     Outer,
 }
 
-// "in the order of the arms of `differentiate`", by a node's kind and operator.
+// "in the order of the arms of `differentiate`", by a node's kind and operator, the numbers that stand in its bytes.
 fn arm_number(kind: usize, operator: usize) -> u8
     ensures { result ≡ coded_arm kind operator }
 {

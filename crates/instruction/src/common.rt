@@ -22,7 +22,8 @@ fn quotient(x: f64, y: f64) -> f64
     if y != 0.0 { x / y } else { f64::NAN }
 }
 
-// What an instruction with the fields a and b stores, if it is finite; a NaN for one that is not common.
+// What an instruction with the fields a and b stores, if it is finite; a NaN for one that is not common. No Option of
+// it: the one test whether the value is finite tells both.
 // The registers are read in each arm: read before the match, they cost a constant or an input eight machine instructions more.
 fn value(op: usize, a: usize, b: usize, inputs: &[f64], regs: &[f64]) -> f64
     requires { (a < 4294967296) × (b < 4294967296) }

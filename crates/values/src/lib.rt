@@ -1,6 +1,6 @@
 #![tactic(auto)]
 // A line of values, read as its bytes come: "each value is 16 lower-case hexadecimal digits, the bits of an f64, joined by
-// commas". The memory is a slice for the values and four numbers, however long the line is.
+// commas". The memory is a slice for the values and three numbers, however long the line is.
 pub mod words;
 
 ghost use Rattle.std.specs.Prelude.{◌≡◌, ◌+◌, ◌<◌, ◌≤◌, true, List, [], ◌∷◌, length, from_bits, slice_index, slice_set, Float};

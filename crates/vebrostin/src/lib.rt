@@ -1,6 +1,7 @@
 #![tactic(auto)]
 // The library: compile, derive, run and resume over numbers and slices. The crate vebrostin_c gives each to C and Rust under its C name.
-// No caller owes anything but slices that are there.
+// No caller owes anything but slices that are there. Their parameters are C's, and a state is sixteen numbers at places that C
+// knows; the functions behind them take the same.
 ghost use Rattle.std.specs.Prelude.{◌≡◌, true, false, ◌||◌, [], ◌∷◌, ◌++◌, ◌+◌, ◌<◌, ◌≤◌, drop, get_or, length, ltb, set, IfSome};
 ghost use Rattle.std.proofs.Math.Option.{none, some};
 ghost use Rattle.refusals.specs.Refusals as refusals;

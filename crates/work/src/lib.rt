@@ -67,14 +67,14 @@ impl Kept {
     }
 }
 
-// What the host is asked: a function by its number, of an argument; Power, of base and exponent.
+// What the host is asked: a function by its number, of an argument, as a state over the C interface may hold any; Power, of base and exponent.
 #[derive(Clone, Copy)]
 pub enum Question {
     Elementary(u8, f64),
     Power(f64, f64),
 }
 
-// "The answer of a run carries its number in the case": a value; not a number; a question.
+// What a node's work comes to: a value; not a number; a question.
 #[derive(Clone, Copy)]
 pub enum Outcome {
     Value(f64),
@@ -100,7 +100,8 @@ pub fn truth_value(b: bool) -> f64
     if b { 1.0 } else { 0.0 }
 }
 
-// The work of an opcode on its first three arguments, which stay three parameters, as each definition has them; the run itself holds the values of a longer Min or Max.
+// The work of an opcode on its first three arguments, which stay three parameters, as each definition has them; the run itself
+// holds the values of a longer Min or Max.
 pub fn work(opcode: usize, x: f64, y: f64, z: f64, kept: Kept) -> Outcome
     ensures { result ≡ shown (advance (work_of opcode x y z) (kept_values kept)) }
 {

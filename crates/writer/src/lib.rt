@@ -31,7 +31,7 @@ fn put<const N: usize>(p: &mut [u8], at: usize, x: u64)
     p[at..at + N].copy_from_slice(&x.to_le_bytes()[..N]);
 }
 
-// Writes a number in 2 bytes from a place on, the lowest byte first.
+// Writes a number in 2 bytes from a place on, the lowest byte first. Each width has its name, as with the numbers read.
 pub fn put_half(p: &mut [u8], at: usize, x: usize)
     requires { at + 2 ≤ length p.old }
     ensures { p.new ≡ over p.old at (little_endian 2 x) }
