@@ -1,8 +1,11 @@
 #![tactic(auto)]
 // What the programs share that replay recorded cases: the numbers of a record, slices beside it, and the count of cases.
-ghost use Rattle.std.specs.Prelude.{◌≡◌, ◌↔◌, ◌∷◌, replicate, IsTrue, ℕ, ◌+◌, ◌%◌, ◌^◌, ◌<◌, ◌≤◌, cond, length, take as first, drop as past, IfOk, IfSome, MatchOption, from_bits, to_bits};
+ghost use Rattle.std.specs.Prelude.{◌≡◌, ◌↔◌, All, ◌∷◌, replicate, IsTrue, ◌||◌, ℕ, ◌+◌, ◌*◌, ◌%◌, ◌^◌, ◌<◌, ◌≤◌, ltb, cond, length, take as first, drop as past, IfOk, IfErr, IfSome, MatchOption, from_bits, to_bits};
+ghost use Rattle.std.specs.declared.ops.ControlFlow.TheVariants.{Continue, Break};
 ghost use Rattle.std.specs.Float.{binary64};
+ghost use Rattle.std.proofs.Math.Option.{some};
 ghost use Rattle.formula.specs.Text.{byte_at, word_at, long_at};
+ghost use Rattle.cases.specs.Recorded.{cells_of, same_cells, IsCell, kind_of, hex_from, HoldsText};
 
 use floats::value::{bits_of, of_bits};
 use std::io;
@@ -108,7 +111,10 @@ impl<'a> Record<'a> {
     }
 
     // Reads as many cells as there is room for.
-    pub fn cells<T: Cell>(&mut self, out: &mut [T]) {
+    pub fn cells<T: Cell>(&mut self, out: &mut [T])
+        ensures values { out.new ≡ cells_of T.value_of (length out.new) self.old.rest.now }
+        ensures rest { self.new.rest.now ≡ past (8 * length out.new) self.old.rest.now }
+    {
         for place in out.iter_mut() {
             *place = self.cell();
         }
@@ -149,6 +155,7 @@ pub struct Call {
 
 impl Call {
     pub fn read(from: &mut Record) -> Call
+        ensures kind { result.kind ≡ kind_of (long_at from.old.rest.now 0) (from_bits binary64 (long_at (past 8 (past 8 (past 8 from.old.rest.now))) 0)) }
         ensures room { result.room ≡ long_at (past 8 from.old.rest.now) 0 }
         ensures budget { result.budget ≡ long_at (past 8 (past 8 from.old.rest.now)) 0 }
     {
@@ -166,16 +173,27 @@ impl Call {
 }
 
 // Whether the cells of some bytes are these numbers, bit for bit.
-pub fn same<T: Cell>(recorded: &[u8], numbers: &[T]) -> bool {
+pub fn same<T: Cell>(recorded: &[u8], numbers: &[T]) -> bool
+    ensures { result ≡ same_cells T.cell_of numbers.now recorded.now }
+{
     let mut record = Record::new(recorded);
-    numbers
-        .iter()
-        .all(|number| number.to_cell() == record.cell::<u64>())
+    for number in numbers {
+        if number.to_cell() != record.cell::<u64>() {
+            return false;
+        }
+    }
+    true
 }
 
 // The number that hexadecimal digits write, the last 16 of them.
-pub fn hex(digits: &[u8]) -> Option<u64> {
-    digits.iter().try_fold(0u64, |value, byte| Some(value << 4 | names::digit(*byte)?))
+pub fn hex(digits: &[u8]) -> Option<u64>
+    ensures { result ≡ hex_from (some 0) digits.now }
+{
+    let mut value: u64 = 0;
+    for byte in digits {
+        value = value.wrapping_mul(16).wrapping_add(names::digit(*byte)?);
+    }
+    Some(value)
 }
 
 // Reads standard input to the start of a buffer until that is full, the input ends or a read fails, and says how many bytes it read.
@@ -208,13 +226,17 @@ pub fn take(mut stdin: Stdin, room: &mut [u8], n: usize) -> Option<&[u8]>
 }
 
 // The next cell of standard input; none where it ends before.
-pub fn take_cell<T: Cell>(stdin: Stdin) -> Option<T> {
+pub fn take_cell<T: Cell>(stdin: Stdin) -> Option<T>
+    ensures { IfSome result (IsCell T.value_of) }
+{
     let mut room = [0; 8];
     Some(Record::new(take(stdin, &mut room, 8)?).cell())
 }
 
 // Reads as many cells of standard input as there is room for.
-pub fn take_cells<T: Cell>(stdin: Stdin, out: &mut [T]) -> Option<()> {
+pub fn take_cells<T: Cell>(stdin: Stdin, out: &mut [T]) -> Option<()>
+    ensures { IfSome result (λ done. All (IsCell T.value_of) out.new) }
+{
     for place in out.iter_mut() {
         *place = take_cell(stdin)?;
     }
@@ -227,14 +249,19 @@ pub fn take_cells<T: Cell>(stdin: Stdin, out: &mut [T]) -> Option<()> {
 pub const FILL: u8 = 170;
 
 // Whether a slice is a text with `rest` after it to its end.
-pub fn holds(slice: &[u8], text: &[u8], rest: u8) -> bool {
-    slice
-        .strip_prefix(text)
-        .is_some_and(|after| after.iter().all(|byte| *byte == rest))
+pub fn holds(slice: &[u8], text: &[u8], rest: u8) -> bool
+    ensures { IsTrue result ↔ HoldsText slice.now text.now rest }
+{
+    let Some(after) = slice.strip_prefix(text) else {
+        return false;
+    };
+    after.iter().all(|byte| *byte == rest)
 }
 
 // Whether a slice is as a call leaves it: a text and zeros, or zeros, or not written.
-pub fn is_left(slice: &[u8], text: &[u8], zero: bool) -> bool {
+pub fn is_left(slice: &[u8], text: &[u8], zero: bool) -> bool
+    ensures { IsTrue result ↔ HoldsText slice.now text.now (cond (zero || ltb 0 (length text.now)) 0 170) }
+{
     let written = zero || !text.is_empty();
     holds(slice, text, if written { 0 } else { FILL })
 }
@@ -266,6 +293,7 @@ impl Tally {
     // One case more, with so many calls; says which case came out otherwise.
     pub fn count(&mut self, stdout: Stdout, right: bool, calls: u64) -> io::Result<()>
         ensures cases { IfOk result (λ done. self.new.cases ≡ (self.old.cases + 1) % 2 ^ 64) }
+        ensures calls { IfOk result (λ done. self.new.calls ≡ (self.old.calls + calls) % 2 ^ 64) }
         ensures wrong { IfOk result (λ done. self.new.wrong ≡ cond right self.old.wrong ((self.old.wrong + 1) % 2 ^ 64)) }
     {
         if !right {
@@ -283,7 +311,12 @@ impl Tally {
         stdout: Stdout,
         right: bool,
         calls: u64,
-    ) -> io::Result<ControlFlow<()>> {
+    ) -> io::Result<ControlFlow<()>>
+        ensures cases { IfOk result (λ next. self.new.cases ≡ (self.old.cases + 1) % 2 ^ 64) }
+        ensures calls { IfOk result (λ next. self.new.calls ≡ (self.old.calls + calls) % 2 ^ 64) }
+        ensures wrong { IfOk result (λ next. self.new.wrong ≡ cond right self.old.wrong ((self.old.wrong + 1) % 2 ^ 64)) }
+        ensures next { IfOk result (λ next. next ≡ cond right (Continue tt) (Break tt)) }
+    {
         self.count(stdout, right, calls)?;
         Ok(if right {
             ControlFlow::Continue(())
@@ -292,7 +325,10 @@ impl Tally {
         })
     }
 
-    pub fn verdict(&self, stdout: Stdout) -> io::Result<()> {
+    // Where a case came out otherwise it writes nothing, so nothing can fail.
+    pub fn verdict(&self, stdout: Stdout) -> io::Result<()>
+        ensures { 0 < self.now.wrong → result ≡ Ok tt }
+    {
         if self.wrong == 0 {
             println!(stdout; "ok")?;
         }
@@ -300,13 +336,15 @@ impl Tally {
     }
 }
 
-// Reads a head that fills the room lent for it and hands it on to `case`, again and again, until the input ends or `case` breaks off.
+// Reads a head that fills the room lent for it and hands it on to `case`, again and again, until the input ends or `case` breaks off. An error is one
+// that `case` gave for such a head.
 pub fn each_head<F: FnMut(&[u8]) -> io::Result<ControlFlow<()>>>(
     stdin: Stdin,
     room: &mut [u8],
     mut case: F,
 ) -> io::Result<()>
     requires { F.IsAlwaysCallable case }
+    ensures { IfErr result (λ error. (state : F) × ((head : _) × ((next : F) × ((length head.now ≡ length room.new) × F.step state head (Err error) next)))) }
 {
     let length = room.len();
     for _ in 0..MOST {
