@@ -4,7 +4,7 @@ ghost use Rattle.std.specs.Prelude.{◌≡◌, ◌↔◌, All, ◌∷◌, replic
 ghost use Rattle.std.specs.declared.ops.ControlFlow.TheVariants.{Continue, Break};
 ghost use Rattle.std.specs.Float.{binary64};
 ghost use Rattle.std.proofs.Math.Option.{some};
-ghost use Rattle.formula.specs.Text.{byte_at, word_at, long_at};
+ghost use Rattle.formula.specs.Text.{byte_at, half_at, word_at, long_at};
 ghost use Rattle.cases.specs.Recorded.{cells_of, same_cells, IsCell, kind_of, hex_from, HoldsText};
 
 use floats::value::{bits_of, of_bits};
@@ -89,6 +89,16 @@ impl<'a> Record<'a> {
         let byte = reader::byte(self.rest, 0);
         self.skip(1);
         byte
+    }
+
+    // A number of 2 bytes, the least first.
+    pub fn half(&mut self) -> usize
+        ensures value { (result ≡ half_at self.old.rest.now 0) × (result < 65536) }
+        ensures rest { self.new.rest.now ≡ past 2 self.old.rest.now }
+    {
+        let half = reader::half(self.rest, 0);
+        self.skip(2);
+        half
     }
 
     // A number of 4 bytes, the least first.
@@ -211,7 +221,8 @@ pub fn read_full(mut stdin: Stdin, room: &mut [u8]) -> usize
     done
 }
 
-// Reads n bytes of standard input; none where the input ends before or they don't fit.
+// Reads n bytes of standard input; none where the input ends before or they don't fit. Which bytes no clause says, here and in what reads by this:
+// std knows none of what standard input has before it is read (its `remaining` is None).
 pub fn take(mut stdin: Stdin, room: &mut [u8], n: usize) -> Option<&[u8]>
     ensures { IfSome result (λ bytes. length bytes.now ≡ n) }
 {
@@ -225,7 +236,7 @@ pub fn take(mut stdin: Stdin, room: &mut [u8], n: usize) -> Option<&[u8]>
     Some(part)
 }
 
-// The next cell of standard input; none where it ends before.
+// The next cell of standard input; none where it ends before. That it is one of 8 bytes is all that can be said, as of what `take` reads.
 pub fn take_cell<T: Cell>(stdin: Stdin) -> Option<T>
     ensures { IfSome result (IsCell T.value_of) }
 {
@@ -270,10 +281,10 @@ pub fn is_left(slice: &[u8], text: &[u8], zero: bool) -> bool
 pub const HELD: u64 = 7;
 
 // Whether a node stands in a report's first place, and the other places are as they were.
-pub fn is_reported(report: &[u64; 8], node: u64) -> bool
+pub fn is_reported(report: &[u64], node: u64) -> bool
     ensures { IsTrue result ↔ report.now ≡ node ∷ replicate 7 7 }
 {
-    *report == [node, HELD, HELD, HELD, HELD, HELD, HELD, HELD]
+    report == [node, HELD, HELD, HELD, HELD, HELD, HELD, HELD].as_slice()
 }
 
 // ---- the count
@@ -336,8 +347,21 @@ impl Tally {
     }
 }
 
+// A case that is read of a head of its own and replayed from what stands after it. No clauses: that a case is as recorded speaks of what standard input
+// gives, of which std knows nothing before it is read, and the other two only hand on what the record says.
+pub trait Replayed: Copy {
+    fn read(head: &[u8]) -> Self;
+
+    // Whether it is as recorded; none where its record ends early, or asks for more room than there is.
+    fn is_right(self, stdin: Stdin) -> Option<bool>;
+
+    // How many calls it has.
+    fn calls(self) -> u64;
+}
+
 // Reads a head that fills the room lent for it and hands it on to `case`, again and again, until the input ends or `case` breaks off. An error is one
 // that `case` gave for such a head.
+#[tactic(auto, using(std::proofs::lemmas::Result::err_from_is_err_and))]
 pub fn each_head<F: FnMut(&[u8]) -> io::Result<ControlFlow<()>>>(
     stdin: Stdin,
     room: &mut [u8],
@@ -356,6 +380,19 @@ pub fn each_head<F: FnMut(&[u8]) -> io::Result<ControlFlow<()>>>(
         }
     }
     Ok(())
+}
+
+// Replays the cases of standard input up to the first that came out otherwise, counts them and says whether all are as recorded. No clause: neither of
+// what standard input gives nor of what is printed can one speak.
+pub fn replay_all<C: Replayed>(stdin: Stdin, stdout: Stdout, head: &mut [u8]) -> io::Result<()> {
+    let mut tally = Tally::default();
+    each_head(stdin, head, |head| {
+        let case = C::read(head);
+        let right = case.is_right(stdin).unwrap_or(false);
+        tally.count_while_right(stdout, right, case.calls())
+    })?;
+    println!(stdout; "{} cases, {} calls", tally.cases, tally.calls)?;
+    tally.verdict(stdout)
 }
 
 // Counts the cases of a record that begins with their number; `case` says of the next one whether it is as recorded.

@@ -42,6 +42,7 @@ use Rattle.tally.specs.declared.Counts.{Counts}
 use Rattle.compile.specs.Outcome.{Fits, answer_to, fault_place, slice_after}
 use Rattle.compile.specs.Entry.{answer}
 use Rattle.compile.specs.Preparation.{preparation, prepared_as, size_answer}
+use Rattle.compile.proofs.Whole as whole
 use Rattle.compile.proofs.Faults.{Near, near}
 
 -- ---- the counts of a whole formula
@@ -51,6 +52,14 @@ pub whole_counts : (b : List ℕ) (d : ℕ) (n : Counts)
     → (n.code ≡ instruction_count (term (tree_in d b 0))) × (n.paths ≡ path_count (term (tree_in d b 0))) × (n.entries ≡ entry_count (term (tree_in d b 0)))
 unfolding kids
 whole_counts b d n h = (omega (arith, h.0), omega (arith, h.1), omega (arith, h.2))
+
+-- the slice has room for what was counted
+pub counted_room : {b : List ℕ} {d m : ℕ} (p : List ℕ) (n : Counts) → Fits b d (length p) m
+    → (n.code ≡ instruction_counts (terms (kids b d 1 0))) × (n.paths ≡ path_counts (terms (kids b d 1 0))) × (n.entries ≡ entry_counts (terms (kids b d 1 0)))
+    → (32 + 24 * n.code + 12 * n.paths + 4 * n.entries ≤ length p) × (1 ≤ n.paths)
+counted_room {b} {d} {m} p n F h =
+    let counted = whole_counts b d n h in
+    (whole.all_room b d m p [] false n F counted, whole.some_record b d m p [] false n F counted)
 
 -- ---- what compile came to
 

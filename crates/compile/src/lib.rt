@@ -21,7 +21,7 @@ ghost use Rattle.compile.specs.Preparation.{Formed, preparation, size_answer};
 ghost use Rattle.compile.specs.Outcome.{Fits, answer_to, fault_place, lowered_to, slice_after};
 
 use layout::{
-    CODE_AT, ENTRIES_AT, ENTRY_SIZE, HEADER_SIZE, INPUTS_AT, KIND_AT, PATHS_AT, RECORD_SIZE,
+    CODE_AT, ENTRIES_AT, ENTRY_SIZE, HEADER_SIZE, INPUTS_AT, KIND_AT, MAGIC, PATHS_AT, RECORD_SIZE,
     REGISTERS_AT, RESULT_AT, SLOT_SIZE,
 };
 use lower::{Cursor, Layout, Site, Source, put_record};
@@ -29,7 +29,7 @@ use names::{Kind, Names, read_names};
 use paths::{write_path, write_root};
 use reader::{NODE_SIZE, is_small, receive};
 use refusals::Refusal;
-use tally::{Counts, count};
+use tally::count;
 use writer::{put_word, zero_from};
 
 // "240 bytes for each 16 bytes of formula, a last part counted as 16"
@@ -37,7 +37,18 @@ pub const NODE_ROOM: usize = 240;
 
 const BYTE_ROOM: usize = NODE_ROOM / NODE_SIZE;
 
+// The most nodes and levels that a formula may have.
+const MOST_NODES: usize = 256;
+
+const MOST_LEVELS: usize = 32;
+
+// How many bytes a small formula has at most, and any.
+const SMALL: usize = 512;
+
+const LARGEST: usize = MOST_NODES * NODE_SIZE;
+
 // The header of a program.
+// Not program's `Header`: that has the five numbers that a check goes on with, these are the seven that are written after the magic.
 #[derive(Clone, Copy)]
 struct Header {
     code: usize,
@@ -55,7 +66,7 @@ impl Header {
         requires { 32 ≤ length p.old }
         ensures { p.new ≡ over p.old 0 (little_endian 4 magic ++ little_endian 4 self.code ++ little_endian 4 self.registers ++ little_endian 4 self.value ++ little_endian 4 self.inputs ++ little_endian 4 self.kind ++ little_endian 4 self.paths ++ little_endian 4 self.entries) }
     {
-        put_word(p, 0, 0x3152_4256);
+        put_word(p, 0, MAGIC);
         put_word(p, CODE_AT, self.code);
         put_word(p, REGISTERS_AT, self.registers);
         put_word(p, RESULT_AT, self.value);
@@ -73,66 +84,20 @@ fn kind_of(boolean: bool) -> usize
     usize::from(boolean)
 }
 
-// Writes the program of a formula with so many instructions, path records and entries, or clears it and writes the place of
-// the first fault.
-fn write_counted(
-    b: &[u8],
-    p: &mut [u8],
-    path: &mut [u8],
-    kinds: &[Kind],
-    generated: bool,
-    d: usize,
-    counts: Counts,
-) -> Result<(), Refusal>
-    requires fits { Fits b.now d (length p.old) (length path.old) }
-    requires counts { (counts.code ≡ instruction_count (term (tree_in d b.now 0))) × (counts.paths ≡ path_count (term (tree_in d b.now 0))) × (counts.entries ≡ entry_count (term (tree_in d b.now 0))) }
-    requires room { (32 + 24 * counts.code + 12 * counts.paths + 4 * counts.entries ≤ length p.old) × (1 ≤ counts.paths) }
-    ensures { (result ≡ answer_to (fault (context_of kinds.now generated) (term (tree_in d b.now 0)) root)) × (p.new ≡ slice_after (context_of kinds.now generated) (tree_in d b.now 0) (fault (context_of kinds.now generated) (term (tree_in d b.now 0)) root) p.old) × (path.new ≡ placed (fault_place (fault (context_of kinds.now generated) (term (tree_in d b.now 0)) root)) path.old) }
-{
-    let table = HEADER_SIZE + SLOT_SIZE * counts.code;
-    let lists = table + RECORD_SIZE * counts.paths;
-    put_record(p, table, 0, 0, 4);
-    let source = Source {
-        bytes: b,
-        kinds,
-        layout: Layout {
-            paths: table,
-            lists,
-            generated,
-        },
-    };
-    let site = Site { path: 0, length: 4 };
-    let mut next = Cursor {
-        node: 0,
-        reg: 0,
-        code: 0,
-        path: 1,
-        entry: 0,
-    };
-    match source.node(p, site, d, &mut next) {
-        Ok(v) => {
-            let header = Header {
-                code: counts.code,
-                registers: next.reg,
-                value: v.a,
-                inputs: kinds.len(),
-                kind: kind_of(v.boolean),
-                paths: counts.paths,
-                entries: counts.entries,
-            };
-            header.put(p);
-            zero_from(p, lists + ENTRY_SIZE * counts.entries);
-            Ok(())
-        }
-        Err(fault) => {
-            write_path(p, table, fault.path, path);
-            zero_from(p, 0);
-            Err(fault.refusal)
-        }
-    }
-}
+// The place of the whole formula, whose path's record is the first.
+const ROOT: Site = Site { path: 0, length: 4 };
+
+// What is next free after that record.
+const START: Cursor = Cursor {
+    node: 0,
+    reg: 0,
+    code: 0,
+    path: 1,
+    entry: 0,
+};
 
 // Writes the program of a formula of at most d levels, or clears it and writes the place of the first fault.
+// `generated` and `d` stay two: the clause has a context and a tree of d levels.
 pub fn write(
     b: &[u8],
     p: &mut [u8],
@@ -144,7 +109,41 @@ pub fn write(
     requires { Fits b.now d (length p.old) (length path.old) }
     ensures { (result ≡ answer_to (fault (context_of kinds.now generated) (term (tree_in d b.now 0)) root)) × (p.new ≡ slice_after (context_of kinds.now generated) (tree_in d b.now 0) (fault (context_of kinds.now generated) (term (tree_in d b.now 0)) root) p.old) × (path.new ≡ placed (fault_place (fault (context_of kinds.now generated) (term (tree_in d b.now 0)) root)) path.old) }
 {
-    write_counted(b, p, path, kinds, generated, d, count(b, d))
+    let counts = count(b, d);
+    let table = HEADER_SIZE + SLOT_SIZE * counts.code;
+    let layout = Layout {
+        paths: table,
+        lists: table + RECORD_SIZE * counts.paths,
+        generated,
+    };
+    let source = Source {
+        bytes: b,
+        kinds,
+        layout,
+    };
+    put_record(p, table, 0, 0, ROOT.length);
+    let mut next = START;
+    match source.node(p, ROOT, d, &mut next) {
+        Ok(v) => {
+            let header = Header {
+                code: counts.code,
+                registers: next.reg,
+                value: v.a,
+                inputs: kinds.len(),
+                kind: kind_of(v.boolean),
+                paths: counts.paths,
+                entries: counts.entries,
+            };
+            header.put(p);
+            zero_from(p, layout.lists + ENTRY_SIZE * counts.entries);
+            Ok(())
+        }
+        Err(fault) => {
+            write_path(p, table, fault.path, path);
+            zero_from(p, 0);
+            Err(fault.refusal)
+        }
+    }
 }
 
 // What is known before the formula is gone into: "in order: 1, path slice or program slice too short; 2, formula bytes not as above
@@ -167,7 +166,7 @@ pub fn within(formula: &[u8], path: &mut [u8]) -> Result<(), Refusal>
     requires { (4 ≤ length path.old) × (is_some (formula_of formula.now) ≡ true) }
     ensures { (result ≡ size_answer (limited 256 32 (formula_of formula.now))) × (path.new ≡ cond (limited 256 32 (formula_of formula.now)) path.old (placed (some root) path.old)) }
 {
-    if is_small(formula, 256, 32) {
+    if is_small(formula, MOST_NODES, MOST_LEVELS) {
         return Ok(());
     }
     write_root(path);
@@ -186,14 +185,8 @@ pub fn compile(
 {
     let table = prepare(formula, names, path.len(), program.len())?;
     within(formula, path)?;
-    write(
-        formula,
-        program,
-        path,
-        &table.kinds[..table.count],
-        false,
-        32,
-    )
+    let kinds = &table.kinds[..table.count];
+    write(formula, program, path, kinds, false, MOST_LEVELS)
 }
 
 // ---- a formula lowered for its own sake
@@ -215,7 +208,7 @@ fn lower_into(
         path,
         kinds,
         false,
-        32,
+        MOST_LEVELS,
     )?;
     Ok(own[KIND_AT] == 1)
 }
@@ -226,10 +219,10 @@ pub fn lower_own(formula: &[u8], kinds: &[Kind], path: &mut [u8]) -> Result<bool
     requires { (8192 ≤ length path.old) × ((f : Formula) × (ss : List Symbol) × Formed formula.now kinds.now f ss) }
     ensures { (f : Formula) (ss : List Symbol) → Formed formula.now kinds.now f ss → (result ≡ lowered_to f (fault (own_context ss) (term f) root)) × (path.new ≡ placed (fault_place (fault (own_context ss) (term f) root)) path.old) }
 {
-    if formula.len() <= 512 {
-        let mut small = [0; 7680];
+    if formula.len() <= SMALL {
+        let mut small = [0; BYTE_ROOM * SMALL];
         return lower_into(formula, kinds, path, &mut small);
     }
-    let mut own = [0; 61440];
+    let mut own = [0; BYTE_ROOM * LARGEST];
     lower_into(formula, kinds, path, &mut own)
 }

@@ -79,6 +79,8 @@ fn is_right(record: &mut Record) -> bool {
     compiled(record, &mut path, &mut program).unwrap_or(false)
 }
 
+// One function over this main and that of legs_cases would promise nothing: of what is read and printed no clause can speak; the loop over the cases
+// is `cases::all_cases`.
 fn main(rt: HostRuntime) -> io::Result<()> {
     let stdout = rt.stdout();
     let mut room = [0; 327680];

@@ -81,5 +81,5 @@ module _ (inputs : List Float) (b path : List ℕ) (regs : List Float) (reply : 
 
   pub demand : (calls : List Code.Call) → reply ≡ (play_at inputs b path calls regs).reply → Demand inputs b (length path) calls regs reply
   unfolding play_at
-  demand [] e C t s q same fins enough = owed (length path) 0 [] C t s q same fins enough e
+  demand [] e C t s q same fins enough = owed 0 0 [] C t s q same fins enough e
   demand (c ∷ cs) e C t s q same fins enough = owed (min c.room (length path)) c.budget (map (call_of (length path)) cs) C t s q same fins enough e

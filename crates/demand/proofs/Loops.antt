@@ -4,11 +4,14 @@ use mathlib.Core.List.{List, [], ◌∷◌, ◌++◌, map}
 use Prim.Native.Nat.{ℕ, ◌+◌, ◌-◌, ◌≤◌, ◌<◌}
 use native.Mathlib.Omega.{arith}
 use lib.ListN.{drop, get_or, length, length-append, length-drop, take}
-use lib.Seq.{drop-cons, drop-length, length-take-le, take-length}
-use native.Mathlib.Numerals.{add-one}
-use Rattle.std.proofs.lemmas.List.{append-nil, drop_all, take_all}
+use lib.Seq.{drop-cons, length-take-le}
+use native.Mathlib.Numerals.{add-one, unary_clauses}
+use Rattle.std.proofs.lemmas.List.{drop_all, take_all}
 use lib.Ieee.{Float}
-use Rattle.std.proofs.Common.{min}
+use Rattle.std.proofs.Common.{min, Bor, Option, None, Some}
+use Rattle.std.specs.Option.{IsSome, UnwrapsOrElse, unwrap_or}
+use Rattle.std.specs.List.{PartBy, slice_get}
+use mathlib.Core.Option.{none}
 use Rattle.formula.specs.Path.{placed}
 use Rattle.machine.specs.Machine as Machine
 use Rattle.machine.specs.Machine.{place_of}
@@ -16,7 +19,7 @@ use Rattle.layout.specs.Decode.{program_at}
 use Rattle.run.specs.Views.{answer_of, reply_of, state_of, supplied_of}
 use Rattle.run.specs.Calls.{resume_at, run_at}
 use Rattle.run.specs.declared.Reply.{Reply}
-use Rattle.demand.specs.Listed.{Played, call_of, noted, play_at, playing}
+use Rattle.demand.specs.Listed.{Played, call_of, first_call, later_calls, noted, play_at, playing}
 use Rattle.demand.specs.declared.calls.Call.{Call}
 
 -- a reply of the code, with registers and path slice after it
@@ -32,29 +35,25 @@ seen_is b room r regs path before m e f =
 pub again_long : (path part : List ℕ) (room : ℕ) → room ≤ length path → length part ≡ length (take room path) → length (part ++ drop room path) ≡ length path
 again_long path part room h e = omega (arith, length-append part (drop room path), length-drop room path, length-take-le room path h)
 
--- the first call, and those after it
-pub first_and_rest : (calls : List Call) (d : Call) → 1 ≤ length calls → calls ≡ get_or calls 0 d ∷ take (length calls - 1) (drop 1 calls)
-first_and_rest calls d h =
-    let e : take (length calls - 1) (drop 1 calls) ≡ drop 1 calls = take_all (length calls - 1) (drop 1 calls) (omega (arith, length-drop 1 calls)) in
-    drop-cons calls 0 d h ∙ ap (λ (cs : List Call). get_or calls 0 d ∷ cs) (sym e)
+-- the first call, or one with no room and no budget where there is none
+pub first_is : (calls : List Call) (n : ℕ) (o : Option Call) (P : Call → Type 0) (c : Call) → o ≡ slice_get calls 0 → UnwrapsOrElse o P c → ((d : Call) → P d → (d.room ≡ 0) × (d.budget ≡ 0))
+    → first_call n calls ≡ record { room = min c.room n; budget = c.budget; given = none }
+first_is [] n None P c e u h = let d = h c u in rw (d.0, d.1) (simp unary_clauses refl)
+first_is [] n (Some x) P c e u h = absurd cc
+first_is (d ∷ ds) n None P c e u h = absurd cc
+first_is (d ∷ ds) n (Some x) P c e u h = let same : c ≡ d = cc in rw same refl
+
+-- the calls after it
+pub rest_is : (calls : List Call) (n : ℕ) (o : Option (Bor (List Call))) (r s : Bor (List Call)) → r ≡ unwrap_or o s → s.now ≡ []
+    → PartBy (λ (x : Bor (List Call)). x.now) calls 1 (length calls) o
+    → later_calls n calls ≡ map (call_of n) r.now
+rest_is [] n None r s e f h = rw (e, f) refl
+rest_is [] n (Some x) r s e f h = absurd (omega (arith, h.0.0))
+rest_is (c ∷ cs) n None r s e f h = let some : IsSome {T = Bor (List Call)} None = h.1 (omega arith, omega arith) in absurd cc
+rest_is (c ∷ cs) n (Some x) r s e f h = ap (map (call_of n)) (sym (ap (λ (b : Bor (List Call)). b.now) e ∙ h.0.2 ∙ take_all (length (c ∷ cs) - 1) cs (omega arith)))
 
 pub next_call : (rest : List Call) (d : Call) (i : ℕ) → i < length rest → drop i rest ≡ get_or rest i d ∷ drop (i + 1) rest
 next_call rest d i h = drop-cons rest i d h ∙ ap (λ (k : ℕ). get_or rest i d ∷ drop k rest) (sym (add-one i))
-
--- a list without a call
-pub no_calls : (calls : List Call) → length calls < 1 → calls ≡ []
-no_calls [] h = refl
-no_calls (c ∷ cs) h = absurd (omega arith)
-
--- the whole path slice
-pub whole_lent : (path part : List ℕ) (f : List ℕ → List ℕ) → part ≡ f path → part ≡ f (take (length path) path) ++ drop (length path) path
-whole_lent path part f e = rw (take-length path, drop-length path, append-nil (f path)) e
-
-pub none_played : (inputs : List Float) (b path path' : List ℕ) (regs regs' : List Float) (r : Reply) → reply_of b r regs' ≡ run_at inputs b (length path) 0 regs
-    → path' ≡ placed (place_of (answer_of b r.answer)) path → seen b r regs' path' ≡ play_at inputs b path [] regs
-unfolding play_at run_at
-none_played inputs b path path' regs regs' r e f =
-    seen_is b (length path) r regs' path' path _ e (whole_lent path path' (λ q. placed (place_of (answer_of b r.answer)) q) f)
 
 module _ (inputs : List Float) (b : List ℕ) (n : ℕ) (rest : List Call) where
   unfoldable pub left_at : Played → ℕ → Played
@@ -62,12 +61,13 @@ module _ (inputs : List Float) (b : List ℕ) (n : ℕ) (rest : List Call) where
 
   pub left_start : (first : Call) (regs regs' : List Float) (path part : List ℕ) (r : Reply) (room : ℕ) → n ≡ length path → room ≡ min first.room n → room ≤ length path
       → reply_of b r regs' ≡ run_at inputs b (length (take room path)) first.budget regs → part ≡ placed (place_of (answer_of b r.answer)) (take room path)
-      → (calls : List Call) → calls ≡ first ∷ rest → left_at (seen b r regs' (part ++ drop room path)) 0 ≡ play_at inputs b path calls regs
+      → (calls : List Call) → first_call n calls ≡ record { room = min first.room n; budget = first.budget; given = none } → later_calls n calls ≡ map (call_of n) rest
+      → left_at (seen b r regs' (part ++ drop room path)) 0 ≡ play_at inputs b path calls regs
   unfolding left_at play_at run_at
-  left_start first regs regs' path part r room en er h e f calls k =
+  left_start first regs regs' path part r room en er h e f calls k l =
       ap (λ x. playing inputs (program_at b) x (map (call_of n) rest))
       (seen_is b room r regs' (part ++ drop room path) path _ (e ∙ ap (λ (l : ℕ). run_at inputs b l first.budget regs) (length-take-le room path h)) (ap (λ (x : List ℕ). x ++ drop room path) f))
-      ∙ rw (er, en, k)
+      ∙ rw (er, ← en, k, l)
 
   pub left_step : (c : Call) (r r' : Reply) (regs regs' : List Float) (path part : List ℕ) (i room : ℕ) → drop i rest ≡ c ∷ drop (i + 1) rest → room ≡ min c.room n → room ≤ length path
       → reply_of b r' regs' ≡ resume_at inputs b (length (take room path)) c.budget (supplied_of c.supplied) (state_of r.state) regs

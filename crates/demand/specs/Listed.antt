@@ -14,9 +14,9 @@ use Rattle.demand.specs.declared.calls.Call.{Call}
 abbrev pub call_of : ℕ → Call → Machine.Call
 call_of n c = record { room = min c.room n; budget = c.budget; given = supplied_of c.supplied }
 
--- the run; of a list without a call, one with the whole path slice and budget 0
+-- the run; of a list without a call, one with no room and no budget
 abbrev pub first_call : ℕ → List Call → Machine.Call
-first_call n [] = record { room = n; budget = 0; given = none }
+first_call n [] = record { room = 0; budget = 0; given = none }
 first_call n (c ∷ cs) = record { room = min c.room n; budget = c.budget; given = none }
 
 -- the resumes after it

@@ -22,7 +22,9 @@ pub enum Wanted<S> {
     Derivative(S),
 }
 
-// Writes the program of the formula or of its derivative.
+// Writes the program of the formula or of its derivative. Formula, names and what is wanted stay three parameters, here and in what calls this: as
+// a struct each clause would name its fields, and a struct of the slices would have to say besides that it still lends the same ones.
+#[tactic(auto, using(crate::proofs::Owing::compiled_answer))]
 fn write_program(
     formula: &[u8],
     names: &[u8],
@@ -49,6 +51,7 @@ fn write_program(
 
 // Compiles or derives, and plays a list of calls: a run, then resumes. The reply to the last call, or the refusal of compile or
 // derive.
+#[tactic(auto, using(std::proofs::lemmas::Result::err_from_is_err_and, crate::proofs::Owing::played, crate::proofs::Owing::turned_away, crate::proofs::Numbers::told))]
 pub fn make_and_play(
     formula: &[u8],
     names: &[u8],

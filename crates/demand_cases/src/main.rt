@@ -8,7 +8,7 @@
 // for each call 18 numbers, its answer, the cells after it and the length of the path's text, then that text and the registers after it.
 // A refusal of compile or derive stands there as the answer of one call.
 use cases::{
-    FILL, HELD, Record, Tally, holds, is_left, is_reported, same, take, take_cell, take_cells,
+    FILL, HELD, Record, Replayed, holds, is_left, is_reported, same, take, take_cell, take_cells,
 };
 use demand::Wanted;
 use demand::calls::Call;
@@ -39,7 +39,7 @@ struct Head {
     node: Option<usize>,
 }
 
-impl Head {
+impl Replayed for Head {
     fn read(head: &[u8]) -> Head {
         let mut record = Record::new(head);
         Head {
@@ -57,15 +57,53 @@ impl Head {
             node: record.cell::<usize>().checked_sub(1),
         }
     }
+
+    fn is_right(self, stdin: Stdin) -> Option<bool> {
+        let mut formula = [0; 8192];
+        let mut names = [0; 8192];
+        let mut tree = [0; 8192];
+        let mut list = [0; 4096];
+        let mut program = [0; 65536];
+        let mut registers = [0.0; 256];
+        let mut path = [0; 8200];
+        let formula = take(stdin, &mut formula, self.formula)?;
+        let names = take(stdin, &mut names, self.names)?;
+        let mut slices = Slices {
+            tree: tree.get_mut(..self.tree)?,
+            list: list.get_mut(..self.tree / 2)?,
+            program: program.get_mut(..self.program)?,
+            registers: registers.get_mut(..self.registers)?,
+            path: path.get_mut(..self.path)?,
+        };
+        let mut inputs = [0.0; 256];
+        let inputs = inputs.get_mut(..self.inputs)?;
+        take_cells(stdin, inputs)?;
+        let mut calls = [Call::default(); 16];
+        let calls = calls.get_mut(..self.calls)?;
+        read_calls(stdin, calls)?;
+        let case = Case {
+            head: self,
+            formula,
+            names,
+            inputs,
+            calls,
+        };
+        are_beginnings(stdin, &case, &mut slices)
+    }
+
+    fn calls(self) -> u64 {
+        self.calls as u64
+    }
 }
 
-// What every list of a case is played on.
+// A list of calls, and what it is played on.
 #[derive(Clone, Copy)]
 struct Case<'a> {
     head: Head,
     formula: &'a [u8],
     names: &'a [u8],
     inputs: &'a [f64],
+    calls: &'a [Call],
 }
 
 // What a list writes.
@@ -86,6 +124,7 @@ fn refill(slices: &mut Slices, held: f64) {
     slices.path.fill(FILL);
 }
 
+// A program's own, not a `From` of demand's: an Option of a number is how the record has it, and no host has one.
 fn wanted<S>(symbol: Option<S>) -> Wanted<S> {
     match symbol {
         Some(symbol) => Wanted::Derivative(symbol),
@@ -153,7 +192,7 @@ fn is_played(last: &Last, head: &Head, played: Result<Reply, Refusal>) -> bool {
     }
 }
 
-fn as_played(last: &Last, case: &Case, calls: &[Call], slices: &mut Slices) -> bool {
+fn as_played(last: &Last, case: &Case, slices: &mut Slices) -> bool {
     let head = case.head;
     refill(slices, head.held);
     let played = demand::make_and_play(
@@ -166,14 +205,14 @@ fn as_played(last: &Last, case: &Case, calls: &[Call], slices: &mut Slices) -> b
         case.inputs,
         slices.registers,
         slices.path,
-        calls,
+        case.calls,
     );
     is_played(last, &head, played) && is_after(last, head.refusal, slices)
 }
 
 // ---- by the library's functions
 
-fn as_hosted(last: &Last, case: &Case, calls: &[Call], slices: &mut Slices) -> bool {
+fn as_hosted(last: &Last, case: &Case, slices: &mut Slices) -> bool {
     let head = case.head;
     refill(slices, head.held);
     let mut cells = [0u64; 16];
@@ -188,7 +227,7 @@ fn as_hosted(last: &Last, case: &Case, calls: &[Call], slices: &mut Slices) -> b
         case.inputs,
         slices.registers,
         slices.path,
-        calls,
+        case.calls,
         &mut cells,
         &mut report,
     );
@@ -201,7 +240,7 @@ fn as_hosted(last: &Last, case: &Case, calls: &[Call], slices: &mut Slices) -> b
 // ---- lists
 
 // Whether a list whose last call's record comes next is as recorded, played both ways.
-fn is_beginning(stdin: Stdin, case: &Case, calls: &[Call], slices: &mut Slices) -> Option<bool> {
+fn is_beginning(stdin: Stdin, case: &Case, slices: &mut Slices) -> Option<bool> {
     let mut text = [0; 2048];
     let mut registers = [0; 2048];
     let answer = take_cell(stdin)?;
@@ -216,13 +255,17 @@ fn is_beginning(stdin: Stdin, case: &Case, calls: &[Call], slices: &mut Slices) 
         text,
         registers: take(stdin, &mut registers, length)?,
     };
-    Some(as_played(&last, case, calls, slices) && as_hosted(&last, case, calls, slices))
+    Some(as_played(&last, case, slices) && as_hosted(&last, case, slices))
 }
 
 // Whether every beginning of the list is as recorded.
-fn are_beginnings(stdin: Stdin, case: &Case, calls: &[Call], slices: &mut Slices) -> Option<bool> {
-    for k in 0..calls.len() {
-        if !is_beginning(stdin, case, &calls[0..k + 1], slices)? {
+fn are_beginnings(stdin: Stdin, case: &Case, slices: &mut Slices) -> Option<bool> {
+    for k in 0..case.calls.len() {
+        let beginning = Case {
+            calls: &case.calls[0..k + 1],
+            ..*case
+        };
+        if !is_beginning(stdin, &beginning, slices)? {
             return Some(false);
         }
     }
@@ -246,63 +289,6 @@ fn read_calls(stdin: Stdin, calls: &mut [Call]) -> Option<()> {
     Some(())
 }
 
-// The lists of a case, on inputs and calls that are read into the room for them.
-fn is_listed(
-    stdin: Stdin,
-    head: Head,
-    formula: &[u8],
-    names: &[u8],
-    slices: &mut Slices,
-) -> Option<bool> {
-    let mut inputs = [0.0; 256];
-    let mut calls = [Call {
-        room: 0,
-        budget: 0,
-        supplied: None,
-    }; 16];
-    let inputs = inputs.get_mut(..head.inputs)?;
-    let calls = calls.get_mut(..head.calls)?;
-    take_cells(stdin, inputs)?;
-    read_calls(stdin, calls)?;
-    let case = Case {
-        head,
-        formula,
-        names,
-        inputs,
-    };
-    are_beginnings(stdin, &case, calls, slices)
-}
-
-// Whether a case is as recorded; none where its record ends early, or asks for longer slices than there are.
-fn is_right(stdin: Stdin, head: Head) -> Option<bool> {
-    let mut formula = [0; 8192];
-    let mut names = [0; 8192];
-    let mut tree = [0; 8192];
-    let mut list = [0; 4096];
-    let mut program = [0; 65536];
-    let mut registers = [0.0; 256];
-    let mut path = [0; 8200];
-    let formula = take(stdin, &mut formula, head.formula)?;
-    let names = take(stdin, &mut names, head.names)?;
-    let mut slices = Slices {
-        tree: tree.get_mut(..head.tree)?,
-        list: list.get_mut(..head.tree / 2)?,
-        program: program.get_mut(..head.program)?,
-        registers: registers.get_mut(..head.registers)?,
-        path: path.get_mut(..head.path)?,
-    };
-    is_listed(stdin, head, formula, names, &mut slices)
-}
-
 fn main(rt: HostRuntime) -> io::Result<()> {
-    let stdin = rt.stdin();
-    let stdout = rt.stdout();
-    let mut tally = Tally::default();
-    cases::each_head(stdin, &mut [0; 96], |head| {
-        let head = Head::read(head);
-        let right = is_right(stdin, head).unwrap_or(false);
-        tally.count_while_right(stdout, right, head.calls as u64)
-    })?;
-    println!(stdout; "{} cases, {} calls", tally.cases, tally.calls)?;
-    tally.verdict(stdout)
+    cases::replay_all::<Head>(rt.stdin(), rt.stdout(), &mut [0; 96])
 }

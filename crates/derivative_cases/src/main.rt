@@ -6,22 +6,19 @@
 // list of the second tree's records. The formulas have every arm of `derivative.rs` with literals and symbols at each place,
 // lists worked out by hand, and random ones of reference/generate.py; tools/derivative/make_cases.py made the records. One
 // is not the reference's, which runs out of memory: Multiply(0, Abs nested 30 times).
-ghost use Rattle.std.specs.Prelude.{◌≡◌, ◌≤◌, length};
-ghost use Rattle.differentiate.specs.Written.{step};
+ghost use Rattle.std.specs.Prelude.{◌≤◌, length};
 
 use cases::{Record, Tally, take};
-use differentiate::{Form, Nodes, RECORD_SIZE, Records, write_derivative};
-use reader::{NODE_SIZE, half, is_formula, is_small};
+use differentiate::{Form, Nodes, ORIGIN_SIZE, Records, write_derivative};
+use reader::{NODE_SIZE, is_formula, is_small};
 use refusals::Refusal;
 use std::io;
 use std::io::Stdin;
 use survey::{By, Row, survey_formula};
 
 // Where the bytes of a tree's nodes, or of their records, end: "8 at `root` from the rules, 4 at `root` if the finished tree is
-// too large", and 1 where the slice is too short for its nodes, or for their records, each of so many bytes.
-fn derive<F: Form>(f: &[u8], by: By, size: usize, out: &mut [u8]) -> Result<usize, Refusal>
-    requires { size ≡ step F.records }
-{
+// too large", and 1 where the slice is too short for its nodes, or for their records.
+fn derive<F: Form>(f: &[u8], by: By, out: &mut [u8]) -> Result<usize, Refusal> {
     if !is_formula(f) || !is_small(f, 256, 32) {
         return Err(Refusal::WrongField(0));
     }
@@ -34,25 +31,18 @@ fn derive<F: Form>(f: &[u8], by: By, size: usize, out: &mut [u8]) -> Result<usiz
     if whole.nodes > 16384 || whole.levels > 128 {
         return Err(Refusal::ExpressionLimit);
     }
-    if out.len() / size < whole.nodes {
+    if out.len() / F::SIZE < whole.nodes {
         return Err(Refusal::SliceTooShort);
     }
     Ok(write_derivative::<F>(f, 32, by, &rows, out))
 }
 
 // Whether the answer is the one recorded; the slice is just long enough.
-fn gives<F: Form>(
-    f: &[u8],
-    by: By,
-    size: usize,
-    recorded: u8,
-    wanted: &[u8],
-    room: &mut [u8],
-) -> bool
-    requires { (size ≡ step F.records) × (length wanted.now ≤ length room.old) }
+fn gives<F: Form>(f: &[u8], by: By, recorded: u8, wanted: &[u8], room: &mut [u8]) -> bool
+    requires { length wanted.now ≤ length room.old }
 {
     let out = &mut room[..wanted.len()];
-    match derive::<F>(f, by, size, out) {
+    match derive::<F>(f, by, out) {
         Ok(n) => recorded == 0 && n == wanted.len() && *out == *wanted,
         Err(refusal) => refusal.number() == recorded,
     }
@@ -66,21 +56,23 @@ fn is_right(stdin: Stdin, head: &[u8]) -> Option<bool> {
         symbol: usize::from(record.byte()),
         state: record.byte() == 1,
     };
-    let nodes = half(head, 4);
-    let size = half(head, 6);
+    // a zero
+    record.byte();
+    let nodes = record.half();
+    let size = record.half();
     let mut formula = [0; 4096];
     let mut tree = [0; 16384];
     let mut list = [0; 8192];
     let mut out = [255; 16384];
     let f = take(stdin, &mut formula, NODE_SIZE * nodes)?;
     let tree = take(stdin, &mut tree, NODE_SIZE * size)?;
-    let list = take(stdin, &mut list, RECORD_SIZE * size)?;
+    let list = take(stdin, &mut list, ORIGIN_SIZE * size)?;
     if tree.len() > 16384 || list.len() > 8192 {
         return None;
     }
-    let first = gives::<Nodes>(f, by, NODE_SIZE, recorded, tree, &mut out);
+    let first = gives::<Nodes>(f, by, recorded, tree, &mut out);
     out.fill(255);
-    let second = gives::<Records>(f, by, RECORD_SIZE, recorded, list, &mut out);
+    let second = gives::<Records>(f, by, recorded, list, &mut out);
     Some(first && second)
 }
 

@@ -1,7 +1,7 @@
 #![tactic(auto)]
 // The derivative of a formula by one of its symbols, as a tree, with a record of each node, and as a program; reference
 // `derivative_prepared`.
-ghost use Rattle.std.specs.Prelude.{◌≡◌, true, false, List, ◌*◌, ◌≤◌, length, Ok, Err};
+ghost use Rattle.std.specs.Prelude.{◌≡◌, true, false, List, ℕ, ◌*◌, ◌≤◌, ◌<◌, get_or, length, Ok, Err};
 ghost use Rattle.std.proofs.Math.Option.{some};
 ghost use Rattle.formula.specs.Text.{zeros};
 ghost use Rattle.formula.specs.Formula.{Formula, size};
@@ -20,7 +20,7 @@ ghost use Rattle.compile.specs.Preparation.{Formed};
 ghost use Rattle.derive.specs.Outcome.{Derivable, Derives, Leaves, lengths};
 
 use compile::{NODE_ROOM, lower_own, prepare, within, write};
-use differentiate::{Nodes, RECORD_SIZE, Records, write_derivative};
+use differentiate::{Nodes, ORIGIN_SIZE, Records, write_derivative};
 use names::Kind;
 use paths::write_root;
 use reader::NODE_SIZE;
@@ -28,8 +28,16 @@ use refusals::Refusal;
 use survey::{By, Row, survey_formula};
 use writer::zero_from;
 
-// Path, tree, list and program slice stay parameters beside each other: of a struct that lends them each clause would have to say
-// besides that they are the same slices still.
+// Path, tree, list and program slice stay parameters beside each other: of a struct that lends them each clause would have to say besides that they are the same
+// slices still. The path's length stays a condition: of an array of 8,192 in its place each clause would have to say besides that what is behind it is kept.
+
+// A formula, of whose elements it is known that they are bytes, and the kinds of its symbols.
+#[derive(Clone, Copy)]
+struct Given<'a> {
+    formula: &'a [u8],
+    kinds: &'a [Kind],
+    ghost bytes: { (i : ℕ) → get_or formula.now i 0 < 256 },
+}
 
 // "the later ones leave it all zero": the tree slice, and the list slice with it.
 fn clear(tree: &mut [u8], list: &mut [u8])
@@ -56,8 +64,7 @@ fn refuse_at_root(
 
 // Writes the derivative tree, the records of its nodes, then the program of that tree in generated mode; says how many nodes.
 fn write_all(
-    formula: &[u8],
-    kinds: &[Kind],
+    given: &Given,
     by: By,
     rows: &[Row],
     path: &mut [u8],
@@ -65,14 +72,14 @@ fn write_all(
     list: &mut [u8],
     program: &mut [u8],
 ) -> Result<usize, Refusal>
-    requires { (8192 ≤ length path.old) × Job false by.symbol by.state formula.now rows.now 32 tree.old × Job true by.symbol by.state formula.now rows.now 32 list.old × ((f : Formula) × (ss : List Symbol) × (d : Formula) × Derives formula.now kinds.now by.symbol by.state (length program.old) f ss d) }
-    ensures { (f : Formula) (ss : List Symbol) (d : Formula) → Derives formula.now kinds.now by.symbol by.state (length program.old) f ss d → (result ≡ Ok (size d)) × (path.new ≡ path.old) × (tree.new ≡ filled (encode d) tree.old) × (list.new ≡ filled (list_bytes (derivative_records by.symbol (by_state ss by.symbol) f)) list.old) × (program.new ≡ filled (image (generated_context ss) d) program.old) }
+    requires { (8192 ≤ length path.old) × Job false by.symbol by.state given.now.formula.now rows.now 32 tree.old × Job true by.symbol by.state given.now.formula.now rows.now 32 list.old × ((f : Formula) × (ss : List Symbol) × (d : Formula) × Derives given.now.formula.now given.now.kinds.now by.symbol by.state (length program.old) f ss d) }
+    ensures { (f : Formula) (ss : List Symbol) (d : Formula) → Derives given.now.formula.now given.now.kinds.now by.symbol by.state (length program.old) f ss d → (result ≡ Ok (size d)) × (path.new ≡ path.old) × (tree.new ≡ filled (encode d) tree.old) × (list.new ≡ filled (list_bytes (derivative_records by.symbol (by_state ss by.symbol) f)) list.old) × (program.new ≡ filled (image (generated_context ss) d) program.old) }
 {
-    let n = write_derivative::<Nodes>(formula, 32, by, rows, tree);
+    let n = write_derivative::<Nodes>(given.formula, 32, by, rows, tree);
     zero_from(tree, n);
-    let m = write_derivative::<Records>(formula, 32, by, rows, list);
+    let m = write_derivative::<Records>(given.formula, 32, by, rows, list);
     zero_from(list, m);
-    write(&tree[..n], program, path, kinds, true, 128)?;
+    write(&tree[..n], program, path, given.kinds, true, 128)?;
     Ok(n / NODE_SIZE)
 }
 
@@ -80,25 +87,24 @@ fn write_all(
 fn too_short(nodes: usize, tree: usize, list: usize, program: usize) -> bool
     ensures { result ≡ too_short (record { tree = tree; list = list; program = program }) nodes }
 {
-    tree / NODE_SIZE < nodes || list / RECORD_SIZE < nodes || program / NODE_ROOM < nodes
+    tree / NODE_SIZE < nodes || list / ORIGIN_SIZE < nodes || program / NODE_ROOM < nodes
 }
 
 // Of a formula that compiles to a Number, with as many rows as it has nodes or more: "8 at `root` from the rules, 4 at `root` if
 // the finished tree is too large, 1 if the tree slice, then the program slice, is too short for it", or the list slice.
 fn derive_number<const ROWS: usize>(
-    formula: &[u8],
-    kinds: &[Kind],
+    given: &Given,
     by: By,
     path: &mut [u8],
     tree: &mut [u8],
     list: &mut [u8],
     program: &mut [u8],
 ) -> Result<usize, Refusal>
-    requires { (length formula.now ≤ 16 * ROWS) × (ROWS ≤ 256) × (8192 ≤ length path.old) × ((f : Formula) × (ss : List Symbol) × Derivable formula.now kinds.now by.symbol by.state f ss) }
-    ensures { (f : Formula) (ss : List Symbol) → Derivable formula.now kinds.now by.symbol by.state f ss → Leaves (fitted (lengths tree.old list.old program.old) ss (derivative_records by.symbol (by_state ss by.symbol) f) (derivative by.symbol (by_state ss by.symbol) f)) result path.old path.new tree.old tree.new list.old list.new program.old program.new }
+    requires { (length given.now.formula.now ≤ 16 * ROWS) × (ROWS ≤ 256) × (8192 ≤ length path.old) × ((f : Formula) × (ss : List Symbol) × Derivable given.now.formula.now given.now.kinds.now by.symbol by.state f ss) }
+    ensures { (f : Formula) (ss : List Symbol) → Derivable given.now.formula.now given.now.kinds.now by.symbol by.state f ss → Leaves (fitted (lengths tree.old list.old program.old) ss (derivative_records by.symbol (by_state ss by.symbol) f) (derivative by.symbol (by_state ss by.symbol) f)) result path.old path.new tree.old tree.new list.old list.new program.old program.new }
 {
     let mut rows = [Row::EMPTY; ROWS];
-    let found = survey_formula(formula, 32, by, &mut rows);
+    let found = survey_formula(given.formula, 32, by, &mut rows);
     let Some(diff) = found.diff else {
         return refuse_at_root(Refusal::Unsupported, path, tree, list);
     };
@@ -110,38 +116,37 @@ fn derive_number<const ROWS: usize>(
         clear(tree, list);
         return Err(Refusal::SliceTooShort);
     }
-    write_all(formula, kinds, by, &rows, path, tree, list, program)
+    write_all(given, by, &rows, path, tree, list, program)
 }
 
 // Of a formula within the limits: compile's faults, "then 7 at `root` if it is Boolean (added), 6 at `root` for a symbol number
 // not in the table". A small formula has a small table, as all of it is cleared.
 fn derive_formula(
-    formula: &[u8],
-    kinds: &[Kind],
+    given: &Given,
     symbol: usize,
     path: &mut [u8],
     tree: &mut [u8],
     list: &mut [u8],
     program: &mut [u8],
 ) -> Result<usize, Refusal>
-    requires { (8192 ≤ length path.old) × ((f : Formula) × (ss : List Symbol) × Formed formula.now kinds.now f ss) }
-    ensures { (f : Formula) (ss : List Symbol) → Formed formula.now kinds.now f ss → Leaves (continued (lengths tree.old list.old program.old) symbol (lowered_or f ss (fault (own_context ss) (term f) root))) result path.old path.new tree.old tree.new list.old list.new program.old program.new }
+    requires { (8192 ≤ length path.old) × ((f : Formula) × (ss : List Symbol) × Formed given.now.formula.now given.now.kinds.now f ss) }
+    ensures { (f : Formula) (ss : List Symbol) → Formed given.now.formula.now given.now.kinds.now f ss → Leaves (continued (lengths tree.old list.old program.old) symbol (lowered_or f ss (fault (own_context ss) (term f) root))) result path.old path.new tree.old tree.new list.old list.new program.old program.new }
 {
-    let boolean = lower_own(formula, kinds, path)?;
+    let boolean = lower_own(given.formula, given.kinds, path)?;
     if boolean {
         return refuse_at_root(Refusal::WrongType, path, tree, list);
     }
-    if symbol >= kinds.len() {
+    if symbol >= given.kinds.len() {
         return refuse_at_root(Refusal::UnknownSymbol, path, tree, list);
     }
     let by = By {
         symbol,
-        state: kinds[symbol] == Kind::State,
+        state: given.kinds[symbol] == Kind::State,
     };
-    if formula.len() <= 512 {
-        return derive_number::<32>(formula, kinds, by, path, tree, list, program);
+    if given.formula.len() <= 512 {
+        return derive_number::<32>(given, by, path, tree, list, program);
     }
-    derive_number::<256>(formula, kinds, by, path, tree, list, program)
+    derive_number::<256>(given, by, path, tree, list, program)
 }
 
 // "Derive (reference `derivative_prepared`). Compile's refusals for the formula itself come first". A tree of so many nodes, its
@@ -159,13 +164,9 @@ pub fn derive(
 {
     let table = prepare(formula, names, path.len(), program.len())?;
     within(formula, path)?;
-    derive_formula(
+    let given = Given {
         formula,
-        &table.kinds[..table.count],
-        symbol,
-        path,
-        tree,
-        list,
-        program,
-    )
+        kinds: &table.kinds[..table.count],
+    };
+    derive_formula(&given, symbol, path, tree, list, program)
 }

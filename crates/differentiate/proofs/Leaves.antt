@@ -1,30 +1,25 @@
 -- The bytes and the records of a node, of a literal and of a copy.
 use mathlib.Core.Path.{◌≡◌, refl, sym, ap, ◌∙◌}
-use mathlib.Core.Bool.{Bool, true, false, cond}
+use mathlib.Core.Bool.{Bool, true, false}
 use mathlib.Core.List.{List, [], ◌∷◌, append-nil}
-use Prim.Native.Nat.{ℕ, zero, suc, ◌+◌, ◌*◌, ◌/◌, ◌%◌, ◌≤◌, ◌<◌}
+use Prim.Native.Nat.{ℕ, ◌+◌, ◌*◌, ◌/◌, ◌%◌, ◌≤◌, ◌<◌}
 use native.Mathlib.Omega.{arith}
-use lib.Dec.{eqb}
-use borrow.Author.Tests.{eq-eqb, ne_eqb}
 use lib.ListN.{length, take, drop, replicate}
 use Rattle.formula.specs.Text.{byte_at, half_at, little_endian}
 use Rattle.writer.specs.Over.{over}
 use Rattle.formula.specs.Operator.{unary, binary, compare, call, Positive, Negative, Not, Add, Subtract, Multiply, Divide, Power, Modulo, Exp, Log, Log10, Sqrt, Sin, Cos, Tan, Tanh, Abs, Floor, Ceil, Min, Max, Hill, InverseGaussianDensity}
-use Rattle.formula.specs.Formula.{Head, number, truth, symbol, operation, junction, ifelse, conditional, malformed, Formula, node, last, size, well_formed}
+use Rattle.formula.specs.Formula.{Head, number, truth, symbol, operation, junction, ifelse, conditional, malformed, node, last, size, well_formed}
 use Rattle.formula.specs.Node.{Fields, fields_at, fields_of, encode, node_bytes, inner_fields, node_size}
-use Rattle.derivative.specs.Records.{Record, Recorded, erase, by_rule, copy, arm, recorded_literal, to_the_zeroth, record_bytes, record_size, list_bytes}
+use Rattle.derivative.specs.Records.{Record, Recorded, erase, by_rule, copy, arm, recorded_literal, record_bytes, record_size, list_bytes}
 use Rattle.derivative.specs.Provenance.{numbered}
 use Rattle.reader.proofs.Bytes.{Bytes}
 use Rattle.reader.proofs.Trees.{size_pos}
 use Rattle.reader.proofs.Encode.{copied_tree}
-use Rattle.derivative.specs.Differentiate.{second_literal}
-use Rattle.rules.specs.Notation.{or_zero, literal_code}
-use Rattle.survey.specs.Derived.{children_of}
 use Rattle.survey.specs.Table.{tree, Owned, IsChild, row_in}
 use Rattle.survey.specs.declared.Row.{Row}
 use Rattle.survey.proofs.Rows.{own_row}
 use Rattle.survey.proofs.Trees.{tree_ends, opened}
-use Rattle.differentiate.specs.Written.{start, step, bytes, coded_arm, arm_of, arm_literal, literal_part, copy_of}
+use Rattle.differentiate.specs.Written.{start, step, bytes, coded_arm, arm_of, arm_literal, copy_of}
 use Rattle.differentiate.proofs.Recorded.{record_length, bytes_length, numbered_length, copy_numbers, copy_nodes, copy_is, copy_none}
 pub use Rattle.reader.proofs.Encode.{node_length}
 
@@ -132,15 +127,3 @@ unfolding fields_at
 arm_coded f k w =
     let o = opened f k w in
     ap (λ (F : Fields). coded_arm F.kind F.operator) (sym o.back) ∙ coded_head o.head (half_at f (node_size * k + 2)) ∙ sym (ap arm_of o.is)
-
-pub arm_rest : (k o : ℕ) → (k ≡ 2 → ⊥) → (k ≡ 3 → ⊥) → (k ≡ 4 → ⊥) → (k ≡ 7 → ⊥) → (k ≡ 8 → ⊥) → 0 ≡ coded_arm k o
-arm_rest zero o h2 h3 h4 h7 h8 = refl
-arm_rest (suc zero) o h2 h3 h4 h7 h8 = refl
-arm_rest (suc (suc zero)) o h2 h3 h4 h7 h8 = absurd (h2 refl)
-arm_rest (suc (suc (suc zero))) o h2 h3 h4 h7 h8 = absurd (h3 refl)
-arm_rest (suc (suc (suc (suc zero)))) o h2 h3 h4 h7 h8 = absurd (h4 refl)
-arm_rest (suc (suc (suc (suc (suc zero))))) o h2 h3 h4 h7 h8 = refl
-arm_rest (suc (suc (suc (suc (suc (suc zero)))))) o h2 h3 h4 h7 h8 = refl
-arm_rest (suc (suc (suc (suc (suc (suc (suc zero))))))) o h2 h3 h4 h7 h8 = absurd (h7 refl)
-arm_rest (suc (suc (suc (suc (suc (suc (suc (suc zero)))))))) o h2 h3 h4 h7 h8 = absurd (h8 refl)
-arm_rest (suc (suc (suc (suc (suc (suc (suc (suc (suc k))))))))) o h2 h3 h4 h7 h8 = refl

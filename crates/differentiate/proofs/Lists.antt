@@ -1,11 +1,10 @@
 -- Bytes written at the start of a list, and behind one another.
 use mathlib.Core.Path.{◌≡◌, refl, sym, ap, ◌∙◌, subst}
-use mathlib.Core.List.{List, [], ◌∷◌, ◌++◌, append_assoc, append-nil}
-use Prim.Native.Nat.{ℕ, suc, ◌+◌, ◌-◌, ◌≤◌, ◌<◌}
+use mathlib.Core.List.{List, [], ◌++◌, append_assoc, append-nil}
+use Prim.Native.Nat.{ℕ, ◌+◌, ◌-◌, ◌≤◌}
 use native.Mathlib.Omega.{arith}
-use native.Mathlib.Numerals.{add-one}
-use lib.ListN.{length, take, drop, set, get_or, length-append, length-drop, drop_of_length-le}
-use lib.Seq.{take-suc, set_split, take_at, drop-append-add, drop-append_seam, drop-drop, length-take-le, take_all}
+use lib.ListN.{length, take, drop, length-append, length-drop, drop_of_length-le}
+use lib.Seq.{take_at, drop-append_seam, drop-drop, take_all}
 use borrow.Rule.Slice.PartMut.{mid_of, post_of, put_mid}
 use Rattle.writer.specs.Over.{over}
 use Rattle.differentiate.specs.Written.{Writes}
@@ -15,30 +14,6 @@ unfolding over
 written_over t out out' r n e =
     let z : 0 + length t ≡ length t = omega arith in
     record { count = n ∙ z; held = e ∙ ap (λ (k : ℕ). t ++ drop k out) z }
-
-pub copied : (b o : List ℕ) (i : ℕ) → i < length b → length b ≤ length o
-    → set (take i b ++ drop i o) i (get_or b i 0) ≡ take (i + 1) b ++ drop (i + 1) o
-copied b o i h l =
-    let P = take i b in
-    let p : length P ≡ i = length-take-le i b (omega arith) in
-    let n : i < length (P ++ drop i o) = simp (length-append, length-drop) (omega arith) in
-    let t : take i (P ++ drop i o) ≡ P = take_at P (drop i o) i p in
-    let d : drop (suc i) (P ++ drop i o) ≡ drop (i + 1) o =
-    ap (λ (k : ℕ). drop k (P ++ drop i o)) (sym (add-one i))
-    ∙ subst (λ (k : ℕ). drop (k + 1) (P ++ drop i o) ≡ drop 1 (drop i o)) p (drop-append-add P (drop i o) 1)
-    ∙ drop-drop 1 i o in
-    set_split (P ++ drop i o) i (get_or b i 0) n
-    ∙ ap (λ (x : List ℕ). x ++ (get_or b i 0 ∷ drop (suc i) (P ++ drop i o))) t
-    ∙ ap (λ (x : List ℕ). P ++ (get_or b i 0 ∷ x)) d
-    ∙ sym (append_assoc P (get_or b i 0 ∷ []) (drop (i + 1) o))
-    ∙ ap (λ (x : List ℕ). x ++ drop (i + 1) o) (sym (ap (λ (k : ℕ). take k b) (add-one i) ∙ take-suc b i 0 h))
-
-pub copied_all : (b o x : List ℕ) (i : ℕ) → i ≡ length b → x ≡ take i b ++ drop i o → Writes b o x i
-copied_all b o x i h e =
-    record {
-      count = h;
-      held = e ∙ ap (λ (k : ℕ). take k b ++ drop k o) h ∙ ap (λ (y : List ℕ). y ++ drop (length b) o) (take_all (length b) b (omega arith));
-    }
 
 pub as_text : (x y o o' : List ℕ) (r : ℕ) → x ≡ y → Writes x o o' r → Writes y o o' r
 as_text x y o o' r e w = subst (λ (z : List ℕ). Writes z o o' r) e w
@@ -96,3 +71,45 @@ module _ {t o o1 : List ℕ} {n : ℕ} (w : Writes t o o1 n) (u : List ℕ) (h :
 
   pub behind_writes : {ys : List ℕ} {m : ℕ} → Writes u (mid_of n (length o1 - n) o1) ys m → Writes (t ++ u) o (put_mid n (length o1 - n) o1 ys) (n + m)
   behind_writes {ys} {m} v = then_writes t o o1 n w (front t u o h) u ys m v
+
+-- ---- one text after another in a loop: of a whole text all before the rest is written, in so many bytes
+
+pub record Begun (whole rest out out' : List ℕ) (n : ℕ) : Type 0 where
+  pub done : List ℕ
+  pub text : done ++ rest ≡ whole
+  pub writes : Writes done out out' n
+  pub inside : n ≤ length out'
+
+pub begun_none : (whole out : List ℕ) → Begun whole whole out out 0
+begun_none whole out = record { done = []; text = refl; writes = writes_none out; inside = omega arith }
+
+pub begun_head : (t rest out out' : List ℕ) (n : ℕ) → length (t ++ rest) ≤ length out → Writes t out out' n → Begun (t ++ rest) rest out out' n
+begun_head t rest out out' n h w = record { done = t; text = refl; writes = w; inside = free_start t out out' n w (front t rest out h) }
+
+module _ {whole rest out out1 : List ℕ} {n : ℕ} (w : Begun whole rest out out1 n) (h : length whole ≤ length out) where
+  both : length (w.done ++ rest) ≤ length out
+  both = room_as _ _ _ w.text h
+
+  -- the next text and the rest behind it
+  module _ (t rest' : List ℕ) (e : t ++ rest' ≡ rest) where
+    nearer : length (w.done ++ t) ≤ length out
+    nearer = omega (arith, both, length-append w.done rest, length-append w.done t, length-append t rest', ap length e)
+
+    pub begun_room : length t ≤ length (mid_of n (length out1 - n) out1)
+    begun_room = behind_room w.writes t nearer
+
+    pub begun_next : {ys : List ℕ} {m : ℕ} → Writes t (mid_of n (length out1 - n) out1) ys m → Begun whole rest' out (put_mid n (length out1 - n) out1 ys) (n + m)
+    begun_next {ys} {m} v =
+        let written = behind_writes w.writes t nearer v in
+        record {
+          done = w.done ++ t;
+          text = append_assoc w.done t rest' ∙ ap (λ (x : List ℕ). w.done ++ x) e ∙ w.text;
+          writes = written;
+          inside = free_start (w.done ++ t) out (put_mid n (length out1 - n) out1 ys) (n + m) written nearer;
+        }
+
+  pub begun_last : {ys : List ℕ} {m : ℕ} → Writes rest (mid_of n (length out1 - n) out1) ys m → Writes whole out (put_mid n (length out1 - n) out1 ys) (n + m)
+  begun_last v = as_text _ _ _ _ _ w.text (behind_writes w.writes rest both v)
+
+pub begun_done : {whole rest out out' : List ℕ} {n : ℕ} → Begun whole rest out out' n → [] ≡ rest → Writes whole out out' n
+begun_done w e = as_text _ _ _ _ _ (sym (append-nil w.done) ∙ ap (λ (x : List ℕ). w.done ++ x) e ∙ w.text) w.writes

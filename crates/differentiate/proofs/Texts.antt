@@ -22,8 +22,9 @@ use Rattle.derivative.proofs.Homomorphism.{get_d_map}
 use Rattle.reader.proofs.Heads.{head_fields}
 use Rattle.reader.proofs.Trees.{size_pos}
 use Rattle.rules.specs.Notation.{end_at, code_at, parts, literal_code, literal_rule, extremum}
+use Rattle.rules.specs.declared.RulePart.{RulePart}
 use Rattle.survey.specs.Derived.{parts_of, rule_for, children_of, derived_of, zero_literal, head_of_tree, or_else}
-use Rattle.survey.specs.Table.{tree, reading, number_of, row_in, IsChild, Ready}
+use Rattle.survey.specs.Table.{tree, reading, number_of, row_in, IsChild}
 use Rattle.survey.specs.declared.Row.{Row}
 use Rattle.survey.specs.Worked.{worked}
 use Rattle.survey.specs.declared.Attributes as Declared
@@ -117,16 +118,19 @@ module _ (m : Bool) (s : ℕ) (b : Bool) (k : ℕ) (t : Formula) where
     pub text_unless_yes : c / 16 ≡ 6 → attribute_algebra.is_zero (attributes_of (derived_of s b t (c % 16))) ≡ true → arm_literal m k t 0 ≡ text
     text_unless_yes p y = unless_by true p y
 
-    pub text_unless_no : c / 16 ≡ 6 → attribute_algebra.is_zero (attributes_of (derived_of s b t (c % 16))) ≡ false → bytes m (part s b k t (d - 1) q (i + 1)) ≡ text
-    text_unless_no p y = unless_by false p y
+    -- the first part after the code
+    module _ (first : RulePart) (is : first ≡ record { rule = q; start = i + 1; levels = d - 1 }) where
+      pub text_unless_no : c / 16 ≡ 6 → attribute_algebra.is_zero (attributes_of (derived_of s b t (c % 16))) ≡ false
+          → bytes m (part s b k t first.levels first.rule first.start) ≡ text
+      text_unless_no p y = ap (λ (x : RulePart). bytes m (part s b k t x.levels x.rule x.start)) is ∙ unless_by false p y
 
-    pub text_sum : c / 16 ≡ 9 → sum_bytes m s b k t (d - 1) q (i + 1) ≡ text
-    unfolding sum_bytes part
-    text_sum p = text_by d q i _ (rule_kind t d q i c 9 nz lt e p)
+      pub text_sum : c / 16 ≡ 9 → sum_bytes m s b k t first.levels first.rule first.start ≡ text
+      unfolding sum_bytes part
+      text_sum p = ap (λ (x : RulePart). sum_bytes m s b k t x.levels x.rule x.start) is ∙ text_by d q i _ (rule_kind t d q i c 9 nz lt e p)
 
-    pub text_product : c / 16 ≡ 10 → product_bytes m s b k t (d - 1) q (i + 1) ≡ text
-    unfolding product_bytes part
-    text_product p = text_by d q i _ (rule_kind t d q i c 10 nz lt e p)
+      pub text_product : c / 16 ≡ 10 → product_bytes m s b k t first.levels first.rule first.start ≡ text
+      unfolding product_bytes part
+      text_product p = ap (λ (x : RulePart). product_bytes m s b k t x.levels x.rule x.start) is ∙ text_by d q i _ (rule_kind t d q i c 10 nz lt e p)
 
     pub text_node : Writing (c / 16) → (left : ℕ) → left ≡ parts (c / 16) (c % 16)
         → arm_node m k t (c / 16) (c % 16) left ++ parts_bytes m s b k t (d - 1) q left (i + 1) ≡ text
@@ -141,13 +145,14 @@ module _ (m : Bool) (s : ℕ) (b : Bool) (k : ℕ) (t : Formula) where
         ∙ ap (λ (x : ℕ). start m (record_of (arm_of t) k) (node_bytes (fields_of h.head x)) ++ bytes_all m ts) (sym (instances_count (d - 1) q n (i + 1)))
         ∙ text_by d q i (make h.head (rules_for t (d - 1) q n (i + 1))) (rule_node t d q i c nz lt e w h)
 
-    pub text_head : (kind op children left : ℕ) → kind ≡ c / 16 → op ≡ c % 16 → children ≡ parts (c / 16) (c % 16) → left ≡ parts (c / 16) (c % 16) → Writing (c / 16)
-        → arm_node m k t kind op children ++ parts_bytes m s b k t (d - 1) q left (i + 1) ≡ text
-    text_head kind op children left ek eo ec el w =
-        ap (λ (x : ℕ). arm_node m k t x op children ++ parts_bytes m s b k t (d - 1) q left (i + 1)) ek
-        ∙ ap (λ (x : ℕ). arm_node m k t (c / 16) x children ++ parts_bytes m s b k t (d - 1) q left (i + 1)) eo
-        ∙ ap (λ (x : ℕ). arm_node m k t (c / 16) (c % 16) x ++ parts_bytes m s b k t (d - 1) q left (i + 1)) (ec ∙ sym el)
-        ∙ text_node w left el
+    pub text_head : (first : RulePart) → first ≡ record { rule = q; start = i + 1; levels = d - 1 }
+        → (kind op children : ℕ) → kind ≡ c / 16 → op ≡ c % 16 → children ≡ parts (c / 16) (c % 16) → Writing (c / 16)
+        → arm_node m k t kind op children ++ parts_bytes m s b k t first.levels first.rule children first.start ≡ text
+    text_head first is kind op children ek eo ec w =
+        ap (λ (x : RulePart). arm_node m k t kind op children ++ parts_bytes m s b k t x.levels x.rule children x.start) is
+        ∙ ap (λ (x : ℕ). arm_node m k t x op children ++ parts_bytes m s b k t (d - 1) q children (i + 1)) ek
+        ∙ ap (λ (x : ℕ). arm_node m k t (c / 16) x children ++ parts_bytes m s b k t (d - 1) q children (i + 1)) eo
+        ∙ text_node w children ec
 
   -- ---- parts one after another
 
@@ -181,18 +186,18 @@ module _ (m : Bool) (s : ℕ) (b : Bool) (k : ℕ) (t : Formula) where
       → (arms k t).is_one (part s b k t d q i) ≡ v
   one_test d q i r a v e p h = sym (ap (λ (x : Attributes). attribute_algebra.is_one x) (p ∙ worked_part d q i)) ∙ sym e ∙ h
 
-  module _ (d q i j : ℕ) (e : j ≡ end_at d q i) where
+  module _ (d q i : ℕ) (next : RulePart) (e : next ≡ record { rule = q; start = end_at d q i; levels = d }) where
     abbrev X : Recorded
     X = part s b k t d q i
 
     abbrev Y : Recorded
     Y = part s b k t d q (end_at d q i)
 
-    at_end : (v : Bool) (p : Recorded → Bool) → p (part s b k t d q j) ≡ v → p Y ≡ v
-    at_end v p h = sym (ap (λ (x : ℕ). p (part s b k t d q x)) e) ∙ h
+    at_end : (v : Bool) (p : Recorded → Bool) → p (part s b k t next.levels next.rule next.start) ≡ v → p Y ≡ v
+    at_end v p h = sym (ap (λ (x : RulePart). p (part s b k t x.levels x.rule x.start)) e) ∙ h
 
-    second : bytes m (part s b k t d q j) ≡ bytes m Y
-    second = ap (λ (x : ℕ). bytes m (part s b k t d q x)) e
+    second : bytes m (part s b k t next.levels next.rule next.start) ≡ bytes m Y
+    second = ap (λ (x : RulePart). bytes m (part s b k t x.levels x.rule x.start)) e
 
     abbrev sums : Bool → Bool → Recorded
     sums x y = cond x Y (cond y X ((arms k t).node (operation (binary Add)) (X ∷ Y ∷ [])))
@@ -201,13 +206,13 @@ module _ (m : Bool) (s : ℕ) (b : Bool) (k : ℕ) (t : Formula) where
     unfolding sum_bytes
     sum_by x y p r = sym (ap (λ (v : Bool). bytes m (sums v ((arms k t).is_zero Y))) p ∙ ap (λ (v : Bool). bytes m (sums x v)) r)
 
-    pub sum_left : (arms k t).is_zero X ≡ true → bytes m (part s b k t d q j) ≡ sum_bytes m s b k t d q i
+    pub sum_left : (arms k t).is_zero X ≡ true → bytes m (part s b k t next.levels next.rule next.start) ≡ sum_bytes m s b k t d q i
     sum_left p = second ∙ sum_by true ((arms k t).is_zero Y) p refl
 
-    pub sum_right : (arms k t).is_zero X ≡ false → (arms k t).is_zero (part s b k t d q j) ≡ true → bytes m X ≡ sum_bytes m s b k t d q i
+    pub sum_right : (arms k t).is_zero X ≡ false → (arms k t).is_zero (part s b k t next.levels next.rule next.start) ≡ true → bytes m X ≡ sum_bytes m s b k t d q i
     sum_right p r = sum_by false true p (at_end true (λ y. (arms k t).is_zero y) r)
 
-    pub sum_kept : (arms k t).is_zero X ≡ false → (arms k t).is_zero (part s b k t d q j) ≡ false → arm_node m k t 4 0 2 ++ parts_bytes m s b k t d q 2 i ≡ sum_bytes m s b k t d q i
+    pub sum_kept : (arms k t).is_zero X ≡ false → (arms k t).is_zero (part s b k t next.levels next.rule next.start) ≡ false → arm_node m k t 4 0 2 ++ parts_bytes m s b k t d q 2 i ≡ sum_bytes m s b k t d q i
     unfolding parts_bytes bytes part
     sum_kept p r = sum_by false false p (at_end false (λ y. (arms k t).is_zero y) r)
 
@@ -227,17 +232,17 @@ module _ (m : Bool) (s : ℕ) (b : Bool) (k : ℕ) (t : Formula) where
     product_left p = product_by true ((arms k t).is_zero Y) ((arms k t).is_one X) ((arms k t).is_one Y) p refl refl refl
 
     module _ (p : (arms k t).is_zero X ≡ false) where
-      pub product_right : (arms k t).is_zero (part s b k t d q j) ≡ true → bytes m (recorded_literal beside_zero k 0) ≡ product_bytes m s b k t d q i
+      pub product_right : (arms k t).is_zero (part s b k t next.levels next.rule next.start) ≡ true → bytes m (recorded_literal beside_zero k 0) ≡ product_bytes m s b k t d q i
       product_right r = product_by false true ((arms k t).is_one X) ((arms k t).is_one Y) p (at_end true (λ y. (arms k t).is_zero y) r) refl refl
 
-      module _ (r : (arms k t).is_zero (part s b k t d q j) ≡ false) where
-        pub one_left : (arms k t).is_one X ≡ true → bytes m (part s b k t d q j) ≡ product_bytes m s b k t d q i
+      module _ (r : (arms k t).is_zero (part s b k t next.levels next.rule next.start) ≡ false) where
+        pub one_left : (arms k t).is_one X ≡ true → bytes m (part s b k t next.levels next.rule next.start) ≡ product_bytes m s b k t d q i
         one_left u = second ∙ product_by false false true ((arms k t).is_one Y) p (at_end false (λ y. (arms k t).is_zero y) r) u refl
 
-        pub one_right : (arms k t).is_one X ≡ false → (arms k t).is_one (part s b k t d q j) ≡ true → bytes m X ≡ product_bytes m s b k t d q i
+        pub one_right : (arms k t).is_one X ≡ false → (arms k t).is_one (part s b k t next.levels next.rule next.start) ≡ true → bytes m X ≡ product_bytes m s b k t d q i
         one_right u w = product_by false false false true p (at_end false (λ y. (arms k t).is_zero y) r) u (at_end true (λ y. (arms k t).is_one y) w)
 
-        pub product_kept : (arms k t).is_one X ≡ false → (arms k t).is_one (part s b k t d q j) ≡ false → arm_node m k t 4 2 2 ++ parts_bytes m s b k t d q 2 i ≡ product_bytes m s b k t d q i
+        pub product_kept : (arms k t).is_one X ≡ false → (arms k t).is_one (part s b k t next.levels next.rule next.start) ≡ false → arm_node m k t 4 2 2 ++ parts_bytes m s b k t d q 2 i ≡ product_bytes m s b k t d q i
         unfolding parts_bytes bytes part
         product_kept u w = product_by false false false false p (at_end false (λ y. (arms k t).is_zero y) r) u (at_end false (λ y. (arms k t).is_one y) w)
 

@@ -3,7 +3,7 @@
 // the start of the slice that it is lent, and lends what is free behind them to the writer of the next part. What is
 // simplified away is known from the survey, so nothing is written that the tree does not keep. The same writers write the
 // nodes' records, where these are asked for: what is written of a node is a type parameter.
-ghost use Rattle.std.specs.Prelude.{◌≡◌, Bool, true, false, ◌++◌, ◌+◌, ◌*◌, ◌-◌, ◌<◌, ◌≤◌, length};
+ghost use Rattle.std.specs.Prelude.{◌≡◌, refl, ℕ, Bool, true, false, ◌++◌, ◌+◌, ◌*◌, ◌-◌, ◌<◌, ◌≤◌, length};
 ghost use Rattle.std.proofs.Math.Option.{some};
 ghost use Rattle.formula.specs.Formula.{Formula, size, well_formed};
 ghost use Rattle.formula.specs.Node.{encode, inner_fields, node_bytes, node_size};
@@ -15,13 +15,13 @@ ghost use Rattle.survey.specs.Table.{tree};
 ghost use Rattle.writer.specs.Over.{over};
 ghost use Rattle.differentiate.specs.Written.{Writes, Task, bytes, start, step, coded_arm, arm_of, rule_by, literal_part, arm_node, recorded, recorded_of, copy_of, part as part_of, parts_bytes, extremum_bytes, extremum_tree, tie_bytes, sum_bytes, product_bytes, primal_bytes, asked, Job};
 
-use reader::{NODE_SIZE, byte};
+use reader::{BINARY, CALL, CONDITIONAL, NODE_SIZE, SYMBOL, UNARY, byte};
 use rules::{Code, Head, Literal, RulePart};
 use survey::{By, Node, Part, Row};
 use writer::{put_bytes, put_long, put_word};
 
 // The bytes of a record: "rule number and the node of the formula it came from, 4 bytes each".
-pub const RECORD_SIZE: usize = 8;
+pub const ORIGIN_SIZE: usize = 8;
 // The number in the records of a copy.
 const COPIED: usize = 0;
 
@@ -36,19 +36,21 @@ pub enum Origin {
     Outer,
 }
 
-// "in the order of the arms of `differentiate`", by a node's kind and operator, the numbers that stand in its bytes.
-fn arm_number(kind: usize, operator: usize) -> u8
+// "in the order of the arms of `differentiate`", by a node's kind and operator, the numbers that stand in its bytes. A string
+// has the arms of a kind's operators in their order, as the definition's table: a match over 24 names would say the same longer.
+fn arm_number(kind: u8, operator: u8) -> u8
     ensures { result ≡ coded_arm kind operator }
 {
+    let operator = usize::from(operator);
     match kind {
-        2 => 1,
-        3 => byte(b"\x02\x03", operator),
-        4 => byte(b"\x04\x05\x06\x07\x08\x09", operator),
-        7 => byte(
+        SYMBOL => 1,
+        UNARY => byte(b"\x02\x03", operator),
+        BINARY => byte(b"\x04\x05\x06\x07\x08\x09", operator),
+        CALL => byte(
             b"\x10\x11\x12\x13\x14\x15\x16\x17\x0d\x00\x00\x0c\x0c\x0f\x0b\x0e",
             operator,
         ),
-        8 => 10,
+        CONDITIONAL => 10,
         _ => 0,
     }
 }
@@ -58,9 +60,7 @@ fn arm_of(node: &Node) -> usize
     ensures { result ≡ arm_of (tree node.now.formula.now node.now.number) }
 {
     let at = NODE_SIZE * node.number;
-    let kind = usize::from(byte(node.formula, at));
-    let operator = usize::from(byte(node.formula, at + 1));
-    usize::from(arm_number(kind, operator))
+    usize::from(arm_number(byte(node.formula, at), byte(node.formula, at + 1)))
 }
 
 impl Origin {
@@ -84,6 +84,11 @@ impl Origin {
 pub trait Form {
     ghost records: { Bool };
 
+    ghost SIZE: { ℕ };
+
+    // The bytes of one.
+    const SIZE: usize;
+
     // A literal that comes from a node.
     fn put_literal(bits: u64, origin: Origin, node: &Node, out: &mut [u8]) -> usize
         requires { step records ≤ length out.old }
@@ -98,6 +103,8 @@ pub trait Form {
     fn put_copy(node: &Node, out: &mut [u8]) -> usize
         requires { length (bytes records (copy_from node.now.number (tree node.now.formula.now node.now.number))) ≤ length out.old }
         ensures { Writes (bytes records (copy_from node.now.number (tree node.now.formula.now node.now.number))) out.old out.new result };
+
+    ghost sized: { SIZE ≡ step records };
 }
 
 // Copies node k and all below it, so many nodes.
@@ -115,6 +122,12 @@ pub struct Nodes {}
 impl Form for Nodes {
     ghost records = { false };
 
+    ghost SIZE = { node_size };
+
+    const SIZE: usize = NODE_SIZE;
+
+    ghost sized = { refl };
+
     fn put_literal(bits: u64, origin: Origin, node: &Node, out: &mut [u8]) -> usize {
         let mut literal = [0u8; NODE_SIZE];
         put_long(&mut literal, 8, bits);
@@ -130,12 +143,12 @@ impl Form for Nodes {
     }
 
     fn put_copy(node: &Node, out: &mut [u8]) -> usize {
-        put_nodes(node.formula, node.number, node.rows[node.number].nodes, out)
+        put_nodes(node.formula, node.number, node.row().nodes, out)
     }
 }
 
 // Writes a record from a place on.
-fn put_record(rule: usize, number: usize, at: usize, out: &mut [u8])
+fn put_origin(rule: usize, number: usize, at: usize, out: &mut [u8])
     requires { at + record_size ≤ length out.old }
     ensures { out.new ≡ over out.old at (record_bytes (by_rule rule number)) }
 {
@@ -148,23 +161,29 @@ pub struct Records {}
 impl Form for Records {
     ghost records = { true };
 
+    ghost SIZE = { record_size };
+
+    const SIZE: usize = ORIGIN_SIZE;
+
+    ghost sized = { refl };
+
     fn put_literal(bits: u64, origin: Origin, node: &Node, out: &mut [u8]) -> usize {
-        put_record(origin.rule(node), node.number, 0, out);
-        RECORD_SIZE
+        put_origin(origin.rule(node), node.number, 0, out);
+        ORIGIN_SIZE
     }
 
     fn put_head(head: Head, origin: Origin, node: &Node, out: &mut [u8]) -> usize {
-        put_record(origin.rule(node), node.number, 0, out);
-        RECORD_SIZE
+        put_origin(origin.rule(node), node.number, 0, out);
+        ORIGIN_SIZE
     }
 
     // Each record of a copy has its own node's number.
     fn put_copy(node: &Node, out: &mut [u8]) -> usize {
-        let count = node.rows[node.number].nodes;
+        let count = node.row().nodes;
         for i in 0..count {
-            put_record(COPIED, node.number + i, RECORD_SIZE * i, out);
+            put_origin(COPIED, node.number + i, ORIGIN_SIZE * i, out);
         }
-        RECORD_SIZE * count
+        ORIGIN_SIZE * count
     }
 }
 
@@ -210,7 +229,7 @@ pub fn differentiate<F: Form>(part: &Part, depth: usize, out: &mut [u8]) -> usiz
     requires { Task part.now.by.symbol part.now.by.state part.now.node.formula.now part.now.node.rows.now part.now.node.number depth (bytes F.records (recorded part.now.by.symbol part.now.by.state part.now.node.number (tree part.now.node.formula.now part.now.node.number))) out.old }
     ensures { Writes (bytes F.records (recorded part.now.by.symbol part.now.by.state part.now.node.number (tree part.now.node.formula.now part.now.node.number))) out.old out.new result }
 {
-    let has = part.node.rows[part.node.number].has;
+    let has = part.node.row().has;
     if !has {
         return F::put_literal(0, Origin::WithoutSymbol, &part.node, out);
     }
@@ -235,7 +254,7 @@ fn write_diff<F: Form>(part: &Part, i: usize, depth: usize, out: &mut [u8]) -> u
     }
 }
 
-// What a part of a rule gives.
+// What a part of a rule gives. Here and below depth stays beside the part: it is the measure and counts the formula's levels, a RulePart counts its own.
 #[cycle(writing)]
 fn write_rule<F: Form>(part: &Part, here: RulePart, depth: usize, out: &mut [u8]) -> usize
     requires { Task part.now.by.symbol part.now.by.state part.now.node.formula.now part.now.node.rows.now part.now.node.number depth (bytes F.records (part_of part.now.by.symbol part.now.by.state part.now.node.number (tree part.now.node.formula.now part.now.node.number) here.levels here.rule here.start)) out.old }
@@ -245,18 +264,13 @@ fn write_rule<F: Form>(part: &Part, here: RulePart, depth: usize, out: &mut [u8]
     if here.levels == 0 || here.start >= 128 {
         return F::put_literal(0, Origin::Arm, node, out);
     }
-    let first = RulePart {
-        start: here.start + 1,
-        levels: here.levels - 1,
-        ..here
-    };
-    let code = here.code();
-    match code {
+    let first = here.first();
+    match here.code() {
         Code::Nothing => F::put_literal(0, Origin::Arm, node, out),
         Code::Child(i) => put_child::<F>(node, i, out),
         Code::Derivative(i) => write_diff::<F>(part, i, depth, out),
         Code::Whole => F::put_copy(node, out),
-        Code::Node(head) => write_node::<F>(part, head, first, code.parts(), depth, out),
+        Code::Node(head) => write_node::<F>(part, head, first, depth, out),
         Code::Unless(i) => {
             if part.diff_attributes(i).is_zero() {
                 return F::put_literal(0, Origin::Arm, node, out);
@@ -276,17 +290,14 @@ fn write_sum<F: Form>(part: &Part, first: RulePart, depth: usize, out: &mut [u8]
     requires { Task part.now.by.symbol part.now.by.state part.now.node.formula.now part.now.node.rows.now part.now.node.number depth (sum_bytes F.records part.now.by.symbol part.now.by.state part.now.node.number (tree part.now.node.formula.now part.now.node.number) first.levels first.rule first.start) out.old }
     ensures { Writes (sum_bytes F.records part.now.by.symbol part.now.by.state part.now.node.number (tree part.now.node.formula.now part.now.node.number) first.levels first.rule first.start) out.old out.new result }
 {
-    let second = RulePart {
-        start: first.end(),
-        ..first
-    };
+    let second = first.next();
     if part.rule_attributes(first).is_zero() {
         return write_rule::<F>(part, second, depth, out);
     }
     if part.rule_attributes(second).is_zero() {
         return write_rule::<F>(part, first, depth, out);
     }
-    write_node::<F>(part, Head::ADD, first, 2, depth, out)
+    write_node::<F>(part, Head::ADD, first, depth, out)
 }
 
 // Two parts, multiplied: "a literal zero or one beside Multiply".
@@ -295,10 +306,7 @@ fn write_product<F: Form>(part: &Part, first: RulePart, depth: usize, out: &mut 
     requires { Task part.now.by.symbol part.now.by.state part.now.node.formula.now part.now.node.rows.now part.now.node.number depth (product_bytes F.records part.now.by.symbol part.now.by.state part.now.node.number (tree part.now.node.formula.now part.now.node.number) first.levels first.rule first.start) out.old }
     ensures { Writes (product_bytes F.records part.now.by.symbol part.now.by.state part.now.node.number (tree part.now.node.formula.now part.now.node.number) first.levels first.rule first.start) out.old out.new result }
 {
-    let second = RulePart {
-        start: first.end(),
-        ..first
-    };
+    let second = first.next();
     let a = part.rule_attributes(first);
     let b = part.rule_attributes(second);
     if a.is_zero() || b.is_zero() {
@@ -310,50 +318,34 @@ fn write_product<F: Form>(part: &Part, first: RulePart, depth: usize, out: &mut 
     if b.is_one() {
         return write_rule::<F>(part, first, depth, out);
     }
-    write_node::<F>(part, Head::MULTIPLY, first, 2, depth, out)
+    write_node::<F>(part, Head::MULTIPLY, first, depth, out)
 }
 
-// A node, and its parts behind it.
+// A node, and its parts behind it. Not inlined: `write_rule`, which calls itself, would save more registers at each call.
+#[inline(never)]
 #[cycle(writing)]
 fn write_node<F: Form>(
     part: &Part,
     head: Head,
     first: RulePart,
-    parts: usize,
     depth: usize,
     out: &mut [u8],
 ) -> usize
-    requires { (parts ≤ 3) × Task part.now.by.symbol part.now.by.state part.now.node.formula.now part.now.node.rows.now part.now.node.number depth (arm_node F.records part.now.node.number (tree part.now.node.formula.now part.now.node.number) head.kind head.operator head.children ++ parts_bytes F.records part.now.by.symbol part.now.by.state part.now.node.number (tree part.now.node.formula.now part.now.node.number) first.levels first.rule parts first.start) out.old }
-    ensures { Writes (arm_node F.records part.now.node.number (tree part.now.node.formula.now part.now.node.number) head.kind head.operator head.children ++ parts_bytes F.records part.now.by.symbol part.now.by.state part.now.node.number (tree part.now.node.formula.now part.now.node.number) first.levels first.rule parts first.start) out.old out.new result }
+    requires { Task part.now.by.symbol part.now.by.state part.now.node.formula.now part.now.node.rows.now part.now.node.number depth (arm_node F.records part.now.node.number (tree part.now.node.formula.now part.now.node.number) head.kind head.operator head.children ++ parts_bytes F.records part.now.by.symbol part.now.by.state part.now.node.number (tree part.now.node.formula.now part.now.node.number) first.levels first.rule head.children first.start) out.old }
+    ensures { Writes (arm_node F.records part.now.node.number (tree part.now.node.formula.now part.now.node.number) head.kind head.operator head.children ++ parts_bytes F.records part.now.by.symbol part.now.by.state part.now.node.number (tree part.now.node.formula.now part.now.node.number) first.levels first.rule head.children first.start) out.old out.new result }
 {
-    let n = F::put_head(head, Origin::Arm, &part.node, out);
-    n + write_rules::<F>(part, first, parts, depth, &mut out[n..])
-}
-
-// So many parts one after another.
-#[cycle(writing)]
-fn write_rules<F: Form>(
-    part: &Part,
-    here: RulePart,
-    left: usize,
-    depth: usize,
-    out: &mut [u8],
-) -> usize
-    requires { (left ≤ 3) × Task part.now.by.symbol part.now.by.state part.now.node.formula.now part.now.node.rows.now part.now.node.number depth (parts_bytes F.records part.now.by.symbol part.now.by.state part.now.node.number (tree part.now.node.formula.now part.now.node.number) here.levels here.rule left here.start) out.old }
-    ensures { Writes (parts_bytes F.records part.now.by.symbol part.now.by.state part.now.node.number (tree part.now.node.formula.now part.now.node.number) here.levels here.rule left here.start) out.old out.new result }
-{
-    if left == 0 {
-        return 0;
+    let mut n = F::put_head(head, Origin::Arm, &part.node, out);
+    let mut start = first.start;
+    for _part in 0..head.children {
+        let here = RulePart { start, ..first };
+        n += write_rule::<F>(part, here, depth, &mut out[n..]);
+        start = here.end();
     }
-    let next = RulePart {
-        start: here.end(),
-        ..here
-    };
-    let n = write_rule::<F>(part, here, depth, out);
-    n + write_rules::<F>(part, next, left - 1, depth, &mut out[n..])
+    n
 }
 
-// Min and Max: "Compare against the primal extremum in source order."
+// Min and Max: "Compare against the primal extremum in source order." The derivative of the first child that equals it, with
+// conditionals for all but the last.
 #[cycle(writing)]
 fn write_extremum<F: Form>(part: &Part, depth: usize, out: &mut [u8]) -> usize
     requires { Task part.now.by.symbol part.now.by.state part.now.node.formula.now part.now.node.rows.now part.now.node.number depth (bytes F.records (extremum_tree part.now.by.symbol part.now.by.state part.now.node.number (tree part.now.node.formula.now part.now.node.number))) out.old }
@@ -363,21 +355,13 @@ fn write_extremum<F: Form>(part: &Part, depth: usize, out: &mut [u8]) -> usize
     if children == 0 {
         return F::put_literal(0, Origin::Arm, &part.node, out);
     }
-    write_ties::<F>(part, 0, children - 1, depth, out)
-}
-
-// From child i on, with so many left after it: the derivative of the first that equals the extremum.
-#[cycle(writing)]
-fn write_ties<F: Form>(part: &Part, i: usize, left: usize, depth: usize, out: &mut [u8]) -> usize
-    requires { (i + left < 65536) × Task part.now.by.symbol part.now.by.state part.now.node.formula.now part.now.node.rows.now part.now.node.number depth (extremum_bytes F.records part.now.by.symbol part.now.by.state part.now.node.number (tree part.now.node.formula.now part.now.node.number) i left) out.old }
-    ensures { Writes (extremum_bytes F.records part.now.by.symbol part.now.by.state part.now.node.number (tree part.now.node.formula.now part.now.node.number) i left) out.old out.new result }
-{
-    if left == 0 {
-        return write_diff::<F>(part, i, depth, out);
+    let last = children - 1;
+    let mut n = 0;
+    for i in 0..last {
+        n += put_tie::<F>(&part.node, i, &mut out[n..]);
+        n += write_diff::<F>(part, i, depth, &mut out[n..]);
     }
-    let n = put_tie::<F>(&part.node, i, out);
-    let m = n + write_diff::<F>(part, i, depth, &mut out[n..]);
-    m + write_ties::<F>(part, i + 1, left - 1, depth, &mut out[m..])
+    n + write_diff::<F>(part, last, depth, &mut out[n..])
 }
 
 // 0 × formula, up to the derivative.
@@ -392,7 +376,7 @@ fn put_primal<F: Form>(whole: &Node, out: &mut [u8]) -> usize
 }
 
 // "0 × formula + derivative, by the rules of `derivative.rs`": the nodes of the tree that the definition gives, or their
-// records, behind them the slice as it was.
+// records, behind them the slice as it was. The four stay apart, as at `survey`, which writes the rows first.
 pub fn write_derivative<F: Form>(
     f: &[u8],
     depth: usize,

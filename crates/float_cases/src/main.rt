@@ -58,7 +58,8 @@ fn is_right(record: &[u8]) -> Option<bool> {
     Some(outcome(letter, values) == recorded)
 }
 
-// Replays the records; one that comes out otherwise is written out.
+// Replays the records; one that comes out otherwise is written out. Not `cases::replay_all`, which breaks off at such a case and counts calls: here the
+// text that is printed would be lent too, and a flag say whether to go on.
 fn main(rt: HostRuntime) -> io::Result<()> {
     let stdout = rt.stdout();
     let mut tally = Tally::default();

@@ -6,3 +6,4 @@ mod Bits
 mod RootSteps
 mod Remainders
 pub mod Values
+pub mod Truncate

@@ -1,18 +1,35 @@
 -- What the methods of the library give, as the definitions have it.
-use Rattle.std.proofs.Common.{◌≡◌, ℕ, suc, ◌+◌, ◌-◌, ◌*◌, ◌/◌, ◌%◌, ◌<◌, Bool, true, false, cond, eqb, refl, ap, ◌∙◌, mod-lt, div-add-mod', suc-mul, eqb-true, arith}
-use borrow.Author.Tests.{eqb-false}
+use Rattle.std.proofs.Common.{◌≡◌, ℕ, suc, ◌+◌, ◌-◌, ◌*◌, ◌/◌, ◌%◌, ◌<◌, Bool, true, false, cond, not, eqb, refl, ap, ◌∙◌, mod-lt, div-add-mod', suc-mul, eqb-true, arith}
+use native.Mathlib.Nat.{mul-pos}
+use borrow.Author.Tests.{eqb-false, le-ltb}
 use Rattle.std.proofs.lemmas.Nat.{div-mul-add}
 use Rattle.std.specs.Float as Float
-use lib.Ieee.{Float, nan, inf, fin, Format, up, down, round}
+use lib.IntN.{ℤ}
+use lib.Ieee.{Float, nan, inf, fin, Format, binary64, le, sub, sum, of_bits, up, down, round}
+use lib.Ieee.Scale.{round_same}
 use lib.Ieee.Fits.{down_pos}
-use Rattle.arithmetic.specs.Value.{absolute, finite}
+use Rattle.arithmetic.specs.Value.{0f, absolute, finite}
 use Rattle.arithmetic.specs.Round.{ceil, ceil_div, floor}
 
-pub finite_is : (x : Float) → Float.float_is_finite x ≡ finite x
-unfolding Float.float_is_finite
+-- x - x is 0, or a NaN
+round_zero : (c : ℕ) → 0 < c → round binary64 false 0 c ≡ 0f
+round_zero c h = round_same binary64 false 0 c 0 1 h (omega arith) (omega arith) ∙ (unfold round in refl)
+
+none_left : (s : Bool) (a c : ℕ) → 0 < c → sum binary64 s a (not s) a c ≡ 0f
+unfolding sum
+none_left true a c h = let z : a - a ≡ 0 = omega arith in rw (le-ltb a a (omega arith), z) (round_zero c h)
+none_left false a c h = let z : a - a ≡ 0 = omega arith in rw (le-ltb a a (omega arith), z) (round_zero c h)
+
+from_itself : (s : Bool) (m : ℕ) (e : ℤ) → sub binary64 (fin s m e) (fin s m e) ≡ 0f
+unfolding sub
+from_itself s m e = none_left s (m * up e * down e) (down e * down e) (mul-pos (down_pos e) (down_pos e))
+
+pub finite_is : (x : Float) → le (of_bits binary64 0) (sub binary64 x x) ≡ finite x
+unfolding sub le of_bits
 finite_is nan = refl
-finite_is (inf s) = refl
-finite_is (fin s m e) = refl
+finite_is (inf true) = refl
+finite_is (inf false) = refl
+finite_is (fin s m e) = ap (le 0f) (from_itself s m e)
 
 pub absolute_is : (x : Float) → Float.float_with_sign false x ≡ absolute x
 unfolding Float.float_with_sign absolute

@@ -34,7 +34,7 @@ pub fn hold<const MOST: bool>(earlier: f64, next: f64) -> f64
     }
 }
 
-// Both by name, for Min and for Max of two.
+// Both by name, as the clauses of their callers speak of `below` and `above`.
 pub fn hold_below(earlier: f64, next: f64) -> f64
     ensures { result ≡ held below earlier next }
 {

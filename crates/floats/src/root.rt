@@ -1,5 +1,5 @@
 // "Sqrt is the nearest f64 to the exact root, proved over whole numbers; of -0 it is -0, and below zero Domain."
-ghost use Rattle.std.specs.Prelude.{◌≡◌, ◌+◌, ◌*◌, ◌/◌, ◌^◌, ◌<◌, ◌≤◌, from_bits};
+ghost use Rattle.std.specs.Prelude.{◌≡◌, ◌*◌, ◌/◌, ◌^◌, ◌<◌, ◌≤◌, from_bits};
 ghost use Rattle.std.specs.Float.{binary64};
 ghost use Rattle.arithmetic.specs.Root.{sqrt};
 ghost use Rattle.rounding.specs.Square.{Root};
@@ -12,14 +12,14 @@ use crate::value::{bits_of, of_bits};
 const DIGITS_27: u64 = 0x800_0000;
 
 // A number near m's root: a first guess at 1 / root from the bits, and three steps of Newton's.
-// Nothing rests on how near it is but the time that `whole_root` takes.
+// Nothing rests on how near it is but the time that `whole_root` takes. The bound on m stays in clauses: as a type's, m would be wrapped at each call.
 fn near_root(m: u64) -> u64
     requires { m < 2 ^ 54 }
     ensures { result < 2 ^ 27 }
 {
     let x = ((m / 4) as f64) * 4.0;
     let half = x * 0.5;
-    let y = of_bits(std::num::wrapping_sub_u64(0x5fe6_eb50_c7b5_37a9, bits_of(x) / 2));
+    let y = of_bits(0x5fe6_eb50_c7b5_37a9u64.wrapping_sub(bits_of(x) / 2));
     let y = y * (1.5 - half * y * y);
     let y = y * (1.5 - half * y * y);
     let y = y * (1.5 - half * y * y);
@@ -74,6 +74,7 @@ fn normalised(b: u64) -> Scaled
 }
 
 // The digits for an even exponent: the same, or twice them.
+#[tactic(auto, using(crate::proofs::RootSteps::even_scaled, crate::proofs::RootSteps::odd_scaled))]
 fn evened(digits: u64, exp: u64) -> u64
     requires { (2 ^ 52 ≤ digits) × (digits < 2 ^ 53) }
     ensures { (2 ^ 52 ≤ result) × (result < 2 ^ 54) × (result * 4 ^ (exp / 2) ≡ digits * 2 ^ exp) }

@@ -1,5 +1,5 @@
 // A finite value without its sign, over whole numbers.
-ghost use Rattle.std.specs.Prelude.{◌≡◌, ◌+◌, ◌-◌, ◌*◌, ◌/◌, ◌^◌, ◌<◌, ◌≤◌};
+ghost use Rattle.std.specs.Prelude.{◌≡◌, ◌-◌, ◌/◌, ◌^◌, ◌<◌, ◌≤◌};
 ghost use Rattle.floats.specs.Fields.{magnitude, infinity_bits, units};
 
 // 2^52, the weight of a significand's leading digit.

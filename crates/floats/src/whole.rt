@@ -6,12 +6,14 @@ ghost use Rattle.arithmetic.specs.Round.{floor, ceil};
 
 use crate::value::is_finite;
 
+#[tactic(auto, using(crate::proofs::Library::floor_is))]
 pub fn floor(x: f64) -> f64
     ensures { result ≡ floor binary64 x }
 {
     x.floor()
 }
 
+#[tactic(auto, using(crate::proofs::Library::ceil_is))]
 pub fn ceil(x: f64) -> f64
     ensures { result ≡ ceil binary64 x }
 {

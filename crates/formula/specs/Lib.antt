@@ -2,6 +2,7 @@
 pub mod Text
 pub mod Operator
 pub mod Formula
+pub mod Optional
 pub mod Node
 pub mod Transfer
 pub mod Names

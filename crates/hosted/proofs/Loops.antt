@@ -2,13 +2,13 @@
 use mathlib.Core.Path.{◌≡◌, refl, ap, ap₂, sym, ◌∙◌, subst}
 use mathlib.Core.Bool.{true, false, ◌||◌}
 use mathlib.Core.List.{List, [], ◌∷◌, ◌++◌, map}
-use mathlib.Core.Option.{Option}
+use mathlib.Core.Option.{Option, none}
 use Prim.Native.Nat.{ℕ, ◌+◌, ◌≤◌}
 use lib.ListN.{drop, get_or, length, take, take-append-drop}
 use lib.Dec.{ltb}
-use lib.Seq.{drop-length, length-take-le, take-length}
+use lib.Seq.{length-take-le}
 use Rattle.std.proofs.Common.{min}
-use Rattle.std.proofs.lemmas.List.{append-nil, drop_all}
+use Rattle.std.proofs.lemmas.List.{drop_all}
 use lib.Ieee.{Float, binary64}
 use Rattle.refusals.specs.Numbers.{slice_too_short}
 use Rattle.formula.specs.Path.{placed}
@@ -41,14 +41,15 @@ module _ (inputs : List Float) (b : List ℕ) (n : ℕ) (rest : List Code.Call) 
   hosted_at x i = hosting inputs b x (map (call_of n) (drop i rest))
 
   pub hosted_start : (first : Code.Call) (regs regs' : List Float) (cells cells' path part report report' : List ℕ) (number room : ℕ) (calls : List Code.Call)
-      → n ≡ length path → room ≡ min first.room n → calls ≡ first ∷ rest
+      → n ≡ length path → room ≡ min first.room n
+      → first_call n calls ≡ record { room = min first.room n; budget = first.budget; given = none } → later_calls n calls ≡ map (call_of n) rest
       → Leaves (run_outcome inputs b first.budget regs cells (take room path) report) number cells' regs' part report'
       → hosted_at (left number cells' regs' (part ++ drop room path) report') 0 ≡ host_at inputs b cells path report calls regs
   unfolding hosted_at host_at
-  hosted_start first regs regs' cells cells' path part report report' number room calls en er k h =
+  hosted_start first regs regs' cells cells' path part report report' number room calls en er k l h =
       ap (λ x. hosting inputs b x (map (call_of n) rest))
       (left_is (run_outcome inputs b first.budget regs cells (take room path) report) number cells' regs' part path report' room h)
-      ∙ rw (er, en, k)
+      ∙ rw (er, ← en, k, l)
 
   pub hosted_step : (c : Code.Call) (regs regs' : List Float) (cells cells' path part report report' : List ℕ) (number number' i room : ℕ)
       → drop i rest ≡ c ∷ drop (i + 1) rest → room ≡ min c.room n
@@ -149,27 +150,6 @@ pub record Ended (inputs : List Float) (b : List ℕ) (calls : List Code.Call) (
   pub outcome : Leaves (host_at inputs b cells path report calls regs) number cells' regs' path' report'
   pub reply : short cells report ≡ false → Follows (play_at inputs b path calls regs) number cells' regs' path'
 
--- of a list without a call
-pub none_ended : (inputs : List Float) (b : List ℕ) (regs regs' : List Float) (cells cells' path path' report report' : List ℕ) (number : ℕ)
-    → Leaves (run_outcome inputs b 0 regs cells path report) number cells' regs' path' report' → Carries cells' report' (run_at inputs b (length path) 0 regs)
-    → length cells' ≡ length cells → length report' ≡ length report → Ended inputs b [] regs cells path report number cells' regs' path' report'
-unfolding host_at play_at run_at
-none_ended inputs b regs regs' cells cells' path path' report report' number L K ec et =
-    let n = length path in
-    let whole : take n path ≡ path = take-length path in
-    let back : path' ++ drop n path ≡ path' = rw (drop-length path) (append-nil path') in
-    let L' : Leaves (run_outcome inputs b 0 regs cells (take n path) report) number cells' regs' path' report' = rw whole L in
-    let K' : Carries cells' report' (run_at inputs b (length (take n path)) 0 regs) = rw whole K in
-    record {
-      outcome = subst (λ (q : List ℕ). Leaves (lent n (run_outcome inputs b 0 regs cells (take n path) report) path) number cells' regs' q report') back
-          (subst (λ (o : Outcome). Leaves o number cells' regs' (path' ++ drop n path) report')
-          (left_is (run_outcome inputs b 0 regs cells (take n path) report) number cells' regs' path' path report' n L') (refl, refl, refl, refl, refl));
-      reply = λ enough.
-          let f = run_follows inputs b 0 regs regs' cells cells' path path' report report' number n enough ec et L' K' in
-          subst (λ (k : ℕ). Follows (noted n (run_at inputs b k 0 regs) path) number cells' regs' path') (ap length whole)
-          (subst (λ (q : List ℕ). Follows (noted n (run_at inputs b (length (take n path)) 0 regs) path) number cells' regs' q) back f);
-    }
-
 -- ---- the machine's list
 
 module _ (inputs : List Float) (b : List ℕ) (n : ℕ) (rest : List Code.Call) where
@@ -180,14 +160,15 @@ module _ (inputs : List Float) (b : List ℕ) (n : ℕ) (rest : List Code.Call) 
     pub shown : Follows reached number cells regs path
 
   pub following_start : (first : Code.Call) (regs regs' : List Float) (cells cells' path part : List ℕ) (number room : ℕ) (calls : List Code.Call)
-      → n ≡ length path → room ≡ min first.room n → room ≤ length path → calls ≡ first ∷ rest
+      → n ≡ length path → room ≡ min first.room n → room ≤ length path
+      → first_call n calls ≡ record { room = min first.room n; budget = first.budget; given = none } → later_calls n calls ≡ map (call_of n) rest
       → Follows (noted room (run_at inputs b (length (take room path)) first.budget regs) path) number cells' regs' (part ++ drop room path)
       → Following (play_at inputs b path calls regs) number cells' regs' (part ++ drop room path) 0
   unfolding play_at run_at
-  following_start first regs regs' cells cells' path part number room calls en er l k f =
+  following_start first regs regs' cells cells' path part number room calls en er l k m f =
       record {
         reached = noted room (run_at inputs b (length (take room path)) first.budget regs) path;
-        leads = rw (length-take-le room path l, er, en, k);
+        leads = rw (length-take-le room path l, er, ← en, k, m);
         shown = f;
       }
 
@@ -260,15 +241,16 @@ module _ (inputs : List Float) (b : List ℕ) (n : ℕ) (rest : List Code.Call) 
 
   -- the whole list, from the run's outcome and the invariant after the last call
   pub inv_end : (first : Code.Call) (calls : List Code.Call) (regs regs₁ regs' : List Float) (cells cells₁ cells' path part path' report report₁ report' : List ℕ) (number₁ number room i : ℕ)
-      → n ≡ length path → room ≡ min first.room n → room ≤ length path → calls ≡ first ∷ rest
+      → n ≡ length path → room ≡ min first.room n → room ≤ length path
+      → first_call n calls ≡ record { room = min first.room n; budget = first.budget; given = none } → later_calls n calls ≡ map (call_of n) rest
       → Leaves (run_outcome inputs b first.budget regs cells (take room path) report) number₁ cells₁ regs₁ part report₁
       → Carries cells₁ report₁ (run_at inputs b (length (take room path)) first.budget regs) → length cells₁ ≡ length cells → length report₁ ≡ length report
       → length rest ≤ i → Inv number₁ cells₁ regs₁ (part ++ drop room path) report₁ number cells' regs' path' report' i
       → Ended inputs b calls regs cells path report number cells' regs' path' report'
-  inv_end first calls regs regs₁ regs' cells cells₁ cells' path part path' report report₁ report' number₁ number room i en er l k L K ec et done I =
+  inv_end first calls regs regs₁ regs' cells cells₁ cells' path part path' report report₁ report' number₁ number room i en er l k m L K ec et done I =
       let e : left number cells' regs' path' report' ≡ host_at inputs b cells path report calls regs =
       sym (hosted_end inputs b n rest (left number cells' regs' path' report') i done) ∙ I.hosts
-      ∙ hosted_start inputs b n rest first regs regs₁ cells cells₁ path part report report₁ number₁ room calls en er k L in
+      ∙ hosted_start inputs b n rest first regs regs₁ cells cells₁ path part report report₁ number₁ room calls en er k m L in
       record {
         outcome = subst (λ (o : Outcome). Leaves o number cells' regs' path' report') e (refl, refl, refl, refl, refl);
         reply =
@@ -276,6 +258,6 @@ module _ (inputs : List Float) (b : List ℕ) (n : ℕ) (rest : List Code.Call) 
             let last = play_at inputs b path calls regs in
             following_end last number cells' regs' path' i done
             (I.plays (same_short cells cells₁ report report₁ ec et ∙ enough) last
-            (following_start first regs regs₁ cells cells₁ path part number₁ room calls en er l k
+            (following_start first regs regs₁ cells cells₁ path part number₁ room calls en er l k m
             (run_follows inputs b first.budget regs regs₁ cells cells₁ path part report report₁ number₁ room enough ec et L K)));
       }

@@ -20,6 +20,7 @@ use vebrostin::{
 
 // 0 and the program of the formula or of its derivative, or the refusal: a number, as the C interface has it, like cells and
 // report, which are slices.
+#[tactic(auto, using(crate::proofs::Owing::formula_done, crate::proofs::Owing::derivative_done))]
 fn write_program(
     formula: &[u8],
     names: &[u8],
@@ -63,8 +64,10 @@ fn go_on(
     }
 }
 
-// The number of the last call of a list, which begins with a run: without a call in it, one with the whole path slice and
-// budget 0. Each call is lent the first bytes of the path slice, and the cells as the last call left them.
+// The number of the last call of a list, which begins with a run: without a call in it, one with no room and no budget, which is refused with 1. Each
+// call is lent the first bytes of the path slice, and the cells as the last call left them. `demand::calls::play` walks over its calls by itself; there it
+// is said why.
+#[tactic(auto, using(demand::proofs::Loops::again_long, crate::proofs::Loops::inv_start))]
 fn call_all(
     program: &[u8],
     inputs: &[f64],
@@ -78,37 +81,35 @@ fn call_all(
     ensures reply { short cells.old report.old ≡ false → Follows (play_at inputs.now program.now path.old calls.now registers.old) result cells.new registers.new path.new }
 {
     let whole = path.len();
-    match calls {
-        [] => vebrostin_run(program, inputs, registers, path, 0, cells, report),
-        [first, rest @ ..] => {
-            let room = first.room.min(whole);
-            let mut number = vebrostin_run(
-                program,
-                inputs,
-                registers,
-                &mut path[..room],
-                first.budget,
-                cells,
-                report,
-            );
-            for call in rest {
-                let room = call.room.min(whole);
-                number = go_on(
-                    program,
-                    inputs,
-                    registers,
-                    &mut path[..room],
-                    *call,
-                    cells,
-                    report,
-                );
-            }
-            number
-        }
+    let first = calls.first().copied().unwrap_or_default();
+    let room = first.room.min(whole);
+    let mut number = vebrostin_run(
+        program,
+        inputs,
+        registers,
+        &mut path[..room],
+        first.budget,
+        cells,
+        report,
+    );
+    let rest = calls.get(1..).unwrap_or(&[]);
+    for call in rest {
+        let room = call.room.min(whole);
+        number = go_on(
+            program,
+            inputs,
+            registers,
+            &mut path[..room],
+            *call,
+            cells,
+            report,
+        );
     }
+    number
 }
 
 // Compiles or derives, and makes a list of calls: `vebrostin_run`, then `vebrostin_resume` or, with a value, `vebrostin_answer`.
+#[tactic(auto, using(crate::proofs::Owing::turned_away, crate::proofs::Owing::called))]
 pub fn make_and_call(
     formula: &[u8],
     names: &[u8],

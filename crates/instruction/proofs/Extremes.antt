@@ -58,7 +58,7 @@ module _ (over : Float → Float → Bool) (b : List ℕ) (at count : ℕ) (regs
   pub left_start : (x : Float) → 0 < count → x ≡ get_or regs (word_at b at) 0f → Left x 1
   left_start x h ex a e = extreme_start over b count a regs x (λ z. omega arith) (ex ∙ ap (λ (k : ℕ). get_or regs (word_at b k) 0f) e)
 
-  left_step : (e x y : Float) (i : ℕ) → Left e i → i < count → x ≡ get_or regs (word_at b (at + 4 * i)) 0f → y ≡ held over e x → Left y (i + 1)
+  pub left_step : (e x y : Float) (i : ℕ) → Left e i → i < count → x ≡ get_or regs (word_at b (at + 4 * i)) 0f → y ≡ held over e x → Left y (i + 1)
   left_step e x y i l h ex ey a f =
       l a f ∙ extreme_step over b count a regs e x i h (ex ∙ ap (λ (k : ℕ). get_or regs (word_at b k) 0f) (place_after a i f)) ∙ ap (λ (z : Float). extreme_left over b count a regs z (i + 1)) (sym ey)
 

@@ -118,3 +118,9 @@ module _ (inputs : List Float) (b : List ℕ) (n : ℕ) (kept regs : List Float)
   pub passed_is : (op t : ℕ) (v : Float) → op ≡ byte_at b (slot_at n) → op ≡ 3 → v ≡ get_or regs (word_at b (slot_at n + 8)) 0f → is_zero v ≡ false → t ≡ suc n
       → Jump t ≡ effect_at inputs b n kept regs
   passed_is op t v eo z e ex et = branch op t v false eo z e ex et
+
+-- ---- by name, for the code
+
+pub ruleset effects = (constant_is, copy_is, jump_is, load_is, operation_is)
+
+pub ruleset operations = (extremum_effect, no_effect, operands_effect)

@@ -1,13 +1,18 @@
 -- Instructions that are done at once: the value that each opcode stores, and what comes of it.
 use Rattle.std.proofs.Common.{Some}
 use mathlib.Core.Path.{◌≡◌, refl, ap, ap₂, sym, ◌∙◌}
-use mathlib.Core.Bool.{Bool, true, false, cond, true≢false}
+use mathlib.Core.Bool.{Bool, true, false, cond, not, ◌&&◌, ◌||◌, beq, true≢false}
 use mathlib.Core.List.{List}
-use Prim.Native.Nat.{ℕ, ◌+◌, ◌*◌, ◌≤◌, ◌<◌}
+use Prim.Native.Nat.{ℕ, zero, suc, ◌+◌, ◌*◌, ◌≤◌, ◌<◌}
 use native.Mathlib.Numerals.{add-one}
 use native.Mathlib.Omega.{arith}
+use Prim.Native.Nat.compare
+use native.Mathlib.Nat.{le_of_eq, lt_irrefl, lt_of_lt_of_le, mul-pos, zero-lt-suc, zero-mul}
+use Rattle.std.proofs.lemmas.Bool.{ne_eqb}
+use lib.Ieee.Fits.{up_pos}
+use lib.Dec.{eqb}
 use lib.ListN.{get_or, set}
-use lib.Ieee.{Float, binary64, div, lt, nan, ne, of_bits}
+use lib.Ieee.{Float, binary64, div, fin, inf, lt, nan, ne, of_bits, up, down}
 use Rattle.arithmetic.specs.Value.{0f, finite, is_zero}
 use Rattle.arithmetic.specs.Modulo.{modulo}
 use Rattle.formula.specs.Text.{byte_at, half_at, long_at, word_at}
@@ -24,6 +29,20 @@ use Rattle.instruction.specs.declared.Effect.{Effect}
 use Rattle.instruction.specs.declared.Effect.TheVariants.{Jump, Work}
 use Rattle.instruction.proofs.Done.{jump_done, value_done}
 use Rattle.instruction.proofs.Opcodes.{jump_is, extremum_effect, operands_effect, operation_is, passed_is, taken_is}
+
+-- what a zero divides into is not finite
+no_zero : (x y : Float) → finite (div binary64 x y) ≡ true → ne y 0f ≡ true
+unfolding ne div
+no_zero x nan e = refl
+no_zero x (inf t) e = refl
+no_zero x (fin t (suc n) d) e =
+    ap (λ (c : Bool). not (c && (beq t false || eqb (suc n * up d * 1) 0)))
+    (ne_eqb (suc n * up d * 1) (0 * 1 * down d)
+    (λ f. lt_irrefl 0 (lt_of_lt_of_le (mul-pos (mul-pos (zero-lt-suc n) (up_pos d)) (zero-lt-suc 0)) (le_of_eq (f ∙ zero-mul (down d))))))
+no_zero nan (fin t zero d) e = absurd (true≢false (sym e))
+no_zero (inf s) (fin t zero d) e = absurd (true≢false (sym e))
+no_zero (fin s zero k) (fin t zero d) e = absurd (true≢false (sym e))
+no_zero (fin s (suc m) k) (fin t zero d) e = absurd (true≢false (sym e ∙ rw (compare.suc-zero m) refl))
 
 -- ---- by the opcode
 
@@ -52,14 +71,14 @@ module _ (op x y : ℕ) (inputs regs : List Float) where
       λ g b count z n kept.
       ap (λ (a : Float). Work (Value a)) (e ∙ ap₂ f eu ew) ∙ ap Work (given _ kept) ∙ h b count z n kept ∙ ap (λ (k : ℕ). fields_effect k b count z n kept) (sym eo)
 
-  divided : (t : Bool) (u w v : Float) (kept : List Float) → ne w 0f ≡ t → v ≡ cond t (div binary64 u w) nan → finite v ≡ true → Work (Value v) ≡ Work (shown (advance (divide_work binary64 u w) kept))
-  divided true u w v kept e f g = rw (e, f) (ap Work (given _ kept))
-  divided false u w v kept e f g = absurd (true≢false (sym g ∙ ap finite f))
+  divided : (t : Bool) (u w v : Float) (kept : List Float) → ne w 0f ≡ t → t ≡ true → v ≡ div binary64 u w → Work (Value v) ≡ Work (shown (advance (divide_work binary64 u w) kept))
+  divided true u w v kept e f g = rw (e, g) (ap Work (given _ kept))
+  divided false u w v kept e f g = absurd (true≢false (sym f))
 
-  pub quotient_stores : (u w v : Float) → op ≡ 11 → u ≡ get_or regs x 0f → w ≡ get_or regs y 0f → v ≡ cond (ne w 0f) (div binary64 u w) nan → Stores op x y inputs regs v
+  pub quotient_stores : (u w v : Float) → op ≡ 11 → u ≡ get_or regs x 0f → w ≡ get_or regs y 0f → v ≡ div binary64 u w → Stores op x y inputs regs v
   quotient_stores u w v o eu ew e =
       λ g b count z n kept.
-      divided (ne w 0f) u w v kept refl e g
+      divided (ne w 0f) u w v kept refl (no_zero u w (sym (ap finite e) ∙ g)) e
       ∙ ap₂ (λ (a c : Float). Work (shown (advance (divide_work binary64 a c) kept))) eu ew ∙ ap (λ (k : ℕ). fields_effect k b count z n kept) (sym o)
 
 -- ---- operations that take longer

@@ -1,26 +1,18 @@
 // The common instructions, done at once: constant, load, copy, the jumps, the operators but Power and Modulo, comparisons.
 ghost use Rattle.std.specs.Prelude.{◌≡◌, cond, ◌+◌, ◌<◌, ◌≤◌, length};
 ghost use Rattle.std.specs.Float.{binary64, nan};
-ghost use Rattle.std.specs.Float.Ieee.{div, ne};
 ghost use Rattle.arithmetic.specs.Value.{0f};
-ghost use Rattle.formula.specs.Text.{word_at};
 ghost use Rattle.layout.specs.Decode.{slot_at, slot_size};
 ghost use Rattle.instruction.specs.Common.{Stores, Went};
 
-use crate::{A, B, BRANCH, C, CONSTANT, COPY, DESTINATION, JUMP, LOAD, store, value_at};
-use layout::{HEADER_SIZE, SLOT_SIZE};
-use reader::known_word;
-use work::opcode::{
-    ADD, DIVIDE, EQ, GE, GT, LE, LT, MULTIPLY, NE, NEGATIVE, NOT, POSITIVE, SUBTRACT,
+use crate::{store, value_at};
+use layout::opcode::{
+    ADD, BRANCH, CONSTANT, COPY, DIVIDE, EQ, GE, GT, JUMP, LE, LOAD, LT, MULTIPLY, NE, NEGATIVE,
+    NOT, POSITIVE, SUBTRACT,
 };
+use layout::{A_AT, B_AT, C_AT, DESTINATION_AT, HEADER_SIZE, SLOT_SIZE};
+use reader::known_word;
 use work::truth_value;
-
-// "Division by a zero of either sign .. [is] Domain": a NaN.
-fn quotient(x: f64, y: f64) -> f64
-    ensures { result ≡ cond (ne y 0f) (div binary64 x y) nan }
-{
-    if y != 0.0 { x / y } else { f64::NAN }
-}
 
 // What an instruction with the fields a and b stores, if it is finite; a NaN for one that is not common. No Option of
 // it: the one test whether the value is finite tells both.
@@ -39,7 +31,8 @@ fn value(op: usize, a: usize, b: usize, inputs: &[f64], regs: &[f64]) -> f64
         ADD => value_at(regs, a) + value_at(regs, b),
         SUBTRACT => value_at(regs, a) - value_at(regs, b),
         MULTIPLY => value_at(regs, a) * value_at(regs, b),
-        DIVIDE => quotient(value_at(regs, a), value_at(regs, b)),
+        // "Division by a zero of either sign .. [is] Domain": by a zero it gives no finite value.
+        DIVIDE => value_at(regs, a) / value_at(regs, b),
         LT => truth_value(value_at(regs, a) < value_at(regs, b)),
         LE => truth_value(value_at(regs, a) <= value_at(regs, b)),
         GT => truth_value(value_at(regs, a) > value_at(regs, b)),
@@ -58,18 +51,18 @@ pub fn step(p: &[u8], n: usize, inputs: &[f64], regs: &mut [f64]) -> Option<usiz
 {
     let at = HEADER_SIZE + SLOT_SIZE * n;
     let op = usize::from(p[at]);
-    let a = known_word(p, at + A);
-    let b = known_word(p, at + B);
+    let a = known_word(p, at + A_AT);
+    let b = known_word(p, at + B_AT);
     match op {
-        BRANCH if value_at(regs, a) == 0.0 => Some(known_word(p, at + C)),
+        BRANCH if value_at(regs, a) == 0.0 => Some(known_word(p, at + C_AT)),
         BRANCH => Some(n + 1),
-        JUMP => Some(known_word(p, at + C)),
+        JUMP => Some(known_word(p, at + C_AT)),
         _ => {
             let v = value(op, a, b, inputs, regs);
             if !floats::value::is_finite(v) {
                 return None;
             }
-            store(regs, known_word(p, at + DESTINATION), v);
+            store(regs, known_word(p, at + DESTINATION_AT), v);
             Some(n + 1)
         }
     }

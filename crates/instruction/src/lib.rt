@@ -4,7 +4,7 @@
 pub mod common;
 pub mod longer;
 
-ghost use Rattle.std.specs.Prelude.{◌≡◌, true, ℕ, ◌+◌, ◌*◌, ◌<◌, ◌≤◌, IfSome, get_or, length, set};
+ghost use Rattle.std.specs.Prelude.{◌≡◌, ℕ, ◌+◌, ◌*◌, ◌<◌, ◌≤◌, get_or, length, set};
 ghost use Rattle.arithmetic.specs.Value.{0f};
 ghost use Rattle.arithmetic.specs.Extremum.{extremum};
 ghost use Rattle.formula.specs.Text.{word_at};
@@ -16,9 +16,12 @@ ghost use Rattle.instruction.specs.Effects.{effect_at, extremum_at, operation_at
 ghost use Rattle.instruction.specs.Progressing.{Progressed, machine_effect};
 
 use floats::extremum::{hold, is_beyond};
-use layout::{CODE_AT, ENTRY_SIZE, HEADER_SIZE, PATHS_AT, RECORD_SIZE, SLOT_SIZE};
+use layout::opcode::{BRANCH, CONSTANT, COPY, DENSITY, JUMP, LOAD, MAX, MIN, POSITIVE};
+use layout::{
+    A_AT, B_AT, C_AT, CODE_AT, COUNT_AT, DESTINATION_AT, ENTRY_SIZE, HEADER_SIZE, PATH_AT,
+    PATHS_AT, RECORD_SIZE, SLOT_SIZE,
+};
 use reader::{byte, half, known_word, long, word};
-use work::opcode::{MAX, MIN};
 use work::{Kept, Outcome, Question};
 
 // What an instruction does: a node's work, or a jump.
@@ -36,39 +39,16 @@ pub enum Progress {
     Question(Question),
 }
 
-// The opcodes of instructions that are no operations; work::opcode has the others.
-const CONSTANT: usize = 0;
-
-const LOAD: usize = 1;
-
-const COPY: usize = 2;
-
-const BRANCH: usize = 3;
-
-const JUMP: usize = 4;
-
-// Where the fields of an instruction stand in its slot, after its opcode.
-const COUNT: usize = 2;
-
-const DESTINATION: usize = 4;
-
-const A: usize = 8;
-
-const B: usize = 12;
-
-const C: usize = 16;
-
-const PATH: usize = 20;
-
 pub fn value_at(xs: &[f64], i: usize) -> f64
     ensures { result ≡ get_or xs.now i 0f }
 {
-    if i < xs.len() { xs[i] } else { 0.0 }
+    xs.get(i).copied().unwrap_or(0.0)
 }
 
 pub fn store(xs: &mut [f64], i: usize, v: f64)
     ensures { xs.new ≡ set xs.old i v }
 {
+    // No `get_mut`: it says nothing of what the slice ends as, so the clause stays open by it.
     if i < xs.len() {
         xs[i] = v;
     }
@@ -81,7 +61,7 @@ fn register(p: &[u8], at: usize, regs: &[f64]) -> f64
     value_at(regs, word(p, at))
 }
 
-// The same where the number is known to be there: no test is made.
+// The same where the number is known to be there: no test is made, as with `reader::known_word`.
 fn known_register(p: &[u8], at: usize, regs: &[f64]) -> f64
     requires { at + 4 ≤ length p.now }
     ensures { result ≡ get_or regs.now (word_at p.now at) 0f }
@@ -89,19 +69,7 @@ fn known_register(p: &[u8], at: usize, regs: &[f64]) -> f64
     value_at(regs, known_word(p, at))
 }
 
-fn entry(p: &[u8], at: usize, regs: &[f64], there: bool) -> f64
-    requires { there ≡ true → at + 4 ≤ length p.now }
-    ensures { result ≡ get_or regs.now (word_at p.now at) 0f }
-{
-    if there {
-        known_register(p, at, regs)
-    } else {
-        register(p, at, regs)
-    }
-}
-
 // Max of the registers of a list whose `count` entries begin at a byte and are there, or Min where `MOST` is false; zeros are equal.
-// `MOST` is a const parameter: one loop with a test of it at run time is slow.
 fn plain_extremum<const MOST: bool>(p: &[u8], at: usize, count: usize, regs: &[f64]) -> f64
     requires { (0 < count) × (at + 4 * count ≤ length p.now) }
     ensures { (a : ℕ) → at ≡ entry_at p.now a → result ≡ extremum (strictly MOST) (read_all regs.now (entries_from p.now count a)) }
@@ -116,28 +84,8 @@ fn plain_extremum<const MOST: bool>(p: &[u8], at: usize, count: usize, regs: &[f
     extreme
 }
 
-// The same of a list that may not be there. A zero is no answer, as -0 is not told from +0.
-fn strict<const MOST: bool>(
-    p: &[u8],
-    at: usize,
-    count: usize,
-    regs: &[f64],
-    there: bool,
-) -> Option<f64>
-    requires { (0 < count) × (there ≡ true → at + 4 * count ≤ length p.now) }
-    ensures { (a : ℕ) → at ≡ entry_at p.now a → IfSome result (λ v. v ≡ extremum_at MOST p.now count a regs.now) }
-{
-    if there {
-        let x = plain_extremum::<MOST>(p, at, count, regs);
-        if x != 0.0 {
-            return Some(x);
-        }
-    }
-    None
-}
-
 // Max or Min of the registers of a list in the program: `count` entries from the entry `a` on.
-// Only a zero needs the loop here, which tells -0 from +0.
+// Only a zero, where -0 has to be told from +0, or a list that is not all there needs the loop here.
 fn extremum<const MOST: bool>(p: &[u8], count: usize, a: usize, regs: &[f64]) -> f64
     requires { (count < 65536) × (a < 4294967296) }
     ensures { result ≡ extremum_at MOST p.now count a regs.now }
@@ -146,43 +94,48 @@ fn extremum<const MOST: bool>(p: &[u8], count: usize, a: usize, regs: &[f64]) ->
         return f64::NAN;
     }
     let first = HEADER_SIZE + SLOT_SIZE * word(p, CODE_AT) + RECORD_SIZE * word(p, PATHS_AT);
-    let there = first + ENTRY_SIZE * (a + count) <= p.len();
-    if let Some(x) = strict::<MOST>(p, first + ENTRY_SIZE * a, count, regs, there) {
-        return x;
+    let at = first + ENTRY_SIZE * a;
+    if at + ENTRY_SIZE * count <= p.len() {
+        let x = plain_extremum::<MOST>(p, at, count, regs);
+        if x != 0.0 {
+            return x;
+        }
     }
-    let mut extreme = entry(p, first + ENTRY_SIZE * a, regs, there);
+    let mut extreme = register(p, at, regs);
     for i in 1..count {
-        let next = entry(p, first + ENTRY_SIZE * (a + i), regs, there);
+        let next = register(p, at + ENTRY_SIZE * i, regs);
         extreme = hold::<MOST>(extreme, next);
     }
     extreme
 }
 
 // An operation, opcodes 5 on; an opcode past the last is a jump to 0, which no program has.
+#[tactic(auto, using(crate::proofs::Opcodes::operations))]
 fn operation(op: usize, p: &[u8], at: usize, regs: &[f64], kept: Kept) -> Effect
     requires { (4 < op) × (at < 1099511627776) }
     ensures { result ≡ operation_at p.now at op (kept_values kept) regs.now }
 {
     match op {
         MIN => {
-            let least = extremum::<false>(p, half(p, at + COUNT), word(p, at + A), regs);
+            let least = extremum::<false>(p, half(p, at + COUNT_AT), word(p, at + A_AT), regs);
             Effect::Work(Outcome::Value(least))
         }
         MAX => {
-            let most = extremum::<true>(p, half(p, at + COUNT), word(p, at + A), regs);
+            let most = extremum::<true>(p, half(p, at + COUNT_AT), word(p, at + A_AT), regs);
             Effect::Work(Outcome::Value(most))
         }
-        35.. => Effect::Jump(0),
-        _ => {
-            let x = register(p, at + A, regs);
-            let y = register(p, at + B, regs);
-            let z = register(p, at + C, regs);
+        POSITIVE..=DENSITY => {
+            let x = register(p, at + A_AT, regs);
+            let y = register(p, at + B_AT, regs);
+            let z = register(p, at + C_AT, regs);
             Effect::Work(work::work(op, x, y, z, kept))
         }
+        _ => Effect::Jump(0),
     }
 }
 
 // What the instruction n does; no register is changed yet.
+#[tactic(auto, using(crate::proofs::Opcodes::effects))]
 pub fn effect_at(p: &[u8], n: usize, inputs: &[f64], regs: &[f64], kept: Kept) -> Effect
     requires { n < 4294967296 }
     ensures { result ≡ effect_at inputs.now p.now n (kept_values kept) regs.now }
@@ -190,18 +143,18 @@ pub fn effect_at(p: &[u8], n: usize, inputs: &[f64], regs: &[f64], kept: Kept) -
     let at = HEADER_SIZE + SLOT_SIZE * n;
     let op = usize::from(byte(p, at));
     match op {
-        CONSTANT => Effect::Work(Outcome::Value(floats::value::of_bits(long(p, at + A)))),
-        LOAD => Effect::Work(Outcome::Value(value_at(inputs, word(p, at + A)))),
-        COPY => Effect::Work(Outcome::Value(register(p, at + A, regs))),
+        CONSTANT => Effect::Work(Outcome::Value(floats::value::of_bits(long(p, at + A_AT)))),
+        LOAD => Effect::Work(Outcome::Value(value_at(inputs, word(p, at + A_AT)))),
+        COPY => Effect::Work(Outcome::Value(register(p, at + A_AT, regs))),
         BRANCH => {
-            let condition = register(p, at + A, regs);
+            let condition = register(p, at + A_AT, regs);
             if condition == 0.0 {
-                Effect::Jump(word(p, at + C))
+                Effect::Jump(word(p, at + C_AT))
             } else {
                 Effect::Jump(n + 1)
             }
         }
-        JUMP => Effect::Jump(word(p, at + C)),
+        JUMP => Effect::Jump(word(p, at + C_AT)),
         _ => operation(op, p, at, regs, kept),
     }
 }
@@ -215,11 +168,11 @@ pub fn step(p: &[u8], n: usize, inputs: &[f64], regs: &mut [f64], kept: Kept) ->
     match effect_at(p, n, inputs, regs, kept) {
         Effect::Jump(to) => Progress::Next(to),
         Effect::Work(Outcome::Value(v)) if floats::value::is_finite(v) => {
-            store(regs, word(p, at + DESTINATION), v);
+            store(regs, word(p, at + DESTINATION_AT), v);
             Progress::Next(n + 1)
         }
-        Effect::Work(Outcome::Value(_)) => Progress::Domain(word(p, at + PATH)),
-        Effect::Work(Outcome::Undefined) => Progress::Domain(word(p, at + PATH)),
+        Effect::Work(Outcome::Value(_)) => Progress::Domain(word(p, at + PATH_AT)),
+        Effect::Work(Outcome::Undefined) => Progress::Domain(word(p, at + PATH_AT)),
         Effect::Work(Outcome::Question(q)) => Progress::Question(q),
     }
 }

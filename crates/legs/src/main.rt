@@ -21,6 +21,7 @@ fn read_once(from: &mut impl Read, buf: &mut [u8]) -> Option<usize>
 }
 
 // A file's bytes, as many as the slice holds, or none where it can't be read. The loop goes on by what came, so no `for` counts it.
+// It is not `cases::read_full`, which gives what came before a read that failed: a file that can't be read is told from a short one here.
 fn read_all(from: &mut impl Read, buf: &mut [u8]) -> Option<usize>
     ensures { IfSome result (λ n. n ≤ length buf.old) }
 {
@@ -52,12 +53,11 @@ enum Stop {
     TooLong,
 }
 
-// Writes the first bytes of the output.
-fn print(mut stdout: Stdout, out: &[u8], n: usize) -> Result<(), Stop>
-    requires { n ≤ length out.now }
+// Writes a part of the output.
+fn print(mut stdout: Stdout, out: &[u8]) -> Result<(), Stop>
     ensures { IfErr result (λ stop. stop ≡ Stop.Closed) }
 {
-    stdout.write_all(&out[..n]).map_err(|_| Stop::Closed)
+    stdout.write_all(out).map_err(|_| Stop::Closed)
 }
 
 // Hands a block of input on, part by part, and prints what came of each. All of it is used, unless a write fails. The loop goes
@@ -67,18 +67,18 @@ fn feed(
     formula: &[u8],
     input: &[u8],
     start: Stage,
+    names: &mut [u8],
     memory: &mut Memory,
 ) -> Result<Stage, Stop>
-    requires { Feedable formula.now (held memory.old) start memory.old.out.now }
-    ensures feeds { Feeds formula.now (held memory.old) start input.now (held memory.new) result }
+    requires { Feedable formula.now (held names.old memory.old) start memory.old.out.now }
+    ensures feeds { Feeds formula.now (held names.old memory.old) start input.now (held names.new memory.new) result }
     ensures slices { SameSlices memory.old memory.new }
 {
     let mut stage = start;
     let mut at = 0;
     while at < input.len() {
-        let advanced = lines::advance(formula, &input[at..], stage, memory);
-        let out = &mut *memory.out;
-        print(stdout, out, advanced.length)?;
+        let advanced = lines::advance(formula, &input[at..], stage, names, memory);
+        print(stdout, memory.written(advanced.length))?;
         at += advanced.used;
         stage = advanced.stage;
     }
@@ -93,10 +93,11 @@ fn feed_all(
     formula: &[u8],
     block: &mut [u8],
     start: Stage,
+    names: &mut [u8],
     memory: &mut Memory,
 ) -> Result<Stage, Stop>
-    requires { FeedableAll formula.now block.old (held memory.old) start memory.old.out.now }
-    ensures feeds { FeedsAll formula.now (held memory.old) start (held memory.new) result }
+    requires { FeedableAll formula.now block.old (held names.old memory.old) start memory.old.out.now }
+    ensures feeds { FeedsAll formula.now (held names.old memory.old) start (held names.new memory.new) result }
     ensures slices { SameSlices memory.old memory.new }
 {
     let mut stage = start;
@@ -108,7 +109,7 @@ fn feed_all(
         if n == 0 {
             return Ok(stage);
         }
-        stage = feed(stdout, formula, &block[..n], stage, memory)?;
+        stage = feed(stdout, formula, &block[..n], stage, names, memory)?;
     }
     Err(Stop::TooLong)
 }
@@ -119,18 +120,18 @@ fn list(
     stdout: Stdout,
     file: Option<&[u8]>,
     block: &mut [u8],
+    names: &mut [u8],
     memory: &mut Memory,
 ) -> Result<(), Stop>
-    requires { Lent block.old (held memory.old) memory.old.out.now }
+    requires { Lent block.old (held names.old memory.old) memory.old.out.now }
 {
     let formula = file.unwrap_or(b"");
     let out = &mut *memory.out;
     let begun = lines::start(file, out);
-    print(stdout, out, begun.length)?;
-    let last = feed_all(stdin, stdout, formula, block, begun.stage, memory)?;
-    let length = lines::finish(formula, last, memory);
-    let out = &mut *memory.out;
-    print(stdout, out, length)
+    print(stdout, memory.written(begun.length))?;
+    let last = feed_all(stdin, stdout, formula, block, begun.stage, names, memory)?;
+    let length = lines::finish(formula, last, names, memory);
+    print(stdout, memory.written(length))
 }
 
 fn main(rt: HostRuntime) {
@@ -143,7 +144,6 @@ fn main(rt: HostRuntime) {
     let mut regs = [0.0; 1276];
     let mut out = [0u8; 65536];
     let mut memory = Memory {
-        names: &mut names,
         path: &mut path,
         program: &mut program,
         values: &mut values,
@@ -151,5 +151,12 @@ fn main(rt: HostRuntime) {
         out: &mut out,
     };
     let file = read_file(&rt, "formula.bin", &mut formula);
-    let _ = list(rt.stdin(), rt.stdout(), file, &mut block, &mut memory);
+    let _ = list(
+        rt.stdin(),
+        rt.stdout(),
+        file,
+        &mut block,
+        &mut names,
+        &mut memory,
+    );
 }

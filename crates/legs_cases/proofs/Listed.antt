@@ -5,7 +5,6 @@ use mathlib.Core.List.{List, [], ◌++◌, append_assoc}
 use Prim.Native.Nat.{ℕ, ◌+◌, ◌-◌, ◌≤◌}
 use native.Mathlib.Omega.{arith}
 use lib.ListN.{length, take, drop, length-append, take-append-drop}
-use lib.Seq.{length-take-le}
 use borrow.Rule.Slice.PartMut.{mid_of}
 use Rattle.listing.specs.Legs.{legs}
 use Rattle.writer.proofs.Over.{over_nil}
@@ -41,7 +40,7 @@ module _ (formula input : List ℕ) (m : Memory) (s : Stage) (out all : List ℕ
     (g : Gathering formula input m s out all from at m' s' out' all' len) where
   module _ (end : ℕ) (h : end ≤ length input) (r : Advanced) (m'' : Memory) (out'' all'' : List ℕ) (a : Advancing formula (mid_of at (end - at) input) m' s' out' r m'' out'')
       (same : SameLengths m' out' m'' out'') where
-    pub gathering_step : at ≤ end → length all'' ≡ length all' → (n : ℕ) → Copies all' len out'' r.length (Some n) all''
+    pub gathering_step : at ≤ end → length all'' ≡ length all' → (n : ℕ) → Copies all' len (take r.length out'') (Some n) all''
         → Gathering formula input m s out all from (at + r.used) m'' r.stage out'' all'' n
     gathering_step k l n z =
         let x = take r.length out'' in
@@ -57,14 +56,13 @@ module _ (formula input : List ℕ) (m : Memory) (s : Stage) (out all : List ℕ
         }
 
     -- what is owed does not fit
-    pub gathering_full : Copies all' len out'' r.length None all'' → FeedsAll formula m s input m'' all from None all''
+    pub gathering_full : Copies all' len (take r.length out'') None all'' → FeedsAll formula m s input m'' all from None all''
     gathering_full z f o =
         let x = take r.length out'' in
         let t = g.text in
         let b = feeding_advances formula input m s out at m' s' out' t g.fed end h r m'' out'' a f o in
         let more = b.0 (drop (at + r.used) input) in
         let w : f input ≡ t ++ (x ++ more) = ap f (sym (take-append-drop (at + r.used) input)) ∙ b.2 (drop (at + r.used) input) ∙ append_assoc t x more in
-        let lx : length x ≡ r.length = length-take-le r.length out'' (let i = a.room in let j = same.output in omega arith) in
         record {
           longer = let e = g.fits.wrote.ends in let y = z.1 in let v = g.whole in omega (arith, ap length w, length-append t (x ++ more), length-append x more);
           first = t;
@@ -79,15 +77,13 @@ module _ (formula input : List ℕ) (m : Memory) (s : Stage) (out all : List ℕ
 -- ---- the whole
 
 module _ (file : Math.Option (List ℕ)) (formula input : List ℕ) (m : Memory) (s : Stage) (all o₁ : List ℕ) (k₁ : ℕ) (a₁ : List ℕ) (bytes : BytesOf file formula) (roomy : Roomy m)
-    (b : Begins file s (take k₁ o₁))
-    (short : k₁ ≤ length o₁) where
+    (b : Begins file s (take k₁ o₁)) where
   -- the header does not fit
-  pub listed_none : Copies all 0 o₁ k₁ None a₁ → Lists file input all None a₁
+  pub listed_none : Copies all 0 (take k₁ o₁) None a₁ → Lists file input all None a₁
   listed_none z =
       let x = take k₁ o₁ in
       let y = b formula bytes m roomy in
       let more = y.0 input in
-      let l = length-take-le k₁ o₁ short in
       record {
         longer = let v = z.1 in omega (arith, ap length (y.2 input), length-append x more);
         first = [];
@@ -96,7 +92,7 @@ module _ (file : Math.Option (List ℕ)) (formula input : List ℕ) (m : Memory)
         wrote = record { ends = refl; stands = z.0 ∙ sym (over_nil all 0) };
       }
 
-  module _ (n₁ : ℕ) (c : Copies all 0 o₁ k₁ (Some n₁) a₁) (l₁ : length a₁ ≡ length all) where
+  module _ (n₁ : ℕ) (c : Copies all 0 (take k₁ o₁) (Some n₁) a₁) (l₁ : length a₁ ≡ length all) where
     -- what came of the input does not fit
     pub listed_some : (m' : Memory) (a₂ : List ℕ) → FeedsAll formula m s input m' a₁ n₁ None a₂ → Lists file input all None a₂
     listed_some m' a₂ f =
@@ -115,7 +111,7 @@ module _ (file : Math.Option (List ℕ)) (formula input : List ℕ) (m : Memory)
 
     -- what `finish` wrote comes last
     module _ (m' : Memory) (fd : Fed) (a₂ : List ℕ) (f : FeedsAll formula m s input m' a₁ n₁ (Some fd) a₂) (l₂ : length a₂ ≡ length a₁) (o₃ : List ℕ) (k₃ : ℕ)
-        (short₃ : k₃ ≤ length o₃) (e : Ends formula m' fd.stage (take k₃ o₃)) where
+        (e : Ends formula m' fd.stage (take k₃ o₃)) where
       so_far : Fits all 0 (take k₁ o₁ ++ f.0) a₂ fd.length
       so_far =
           record {
@@ -128,7 +124,7 @@ module _ (file : Math.Option (List ℕ)) (formula input : List ℕ) (m : Memory)
           whole_output file formula m m' s fd.stage input (take k₁ o₁) f.0 (take k₃ o₃) bytes roomy b f.1 e
           ∙ sym (append_assoc (take k₁ o₁) f.0 (take k₃ o₃))
 
-      pub listed_by : (r : Option ℕ) (a₃ : List ℕ) → Copies a₂ fd.length o₃ k₃ r a₃ → Lists file input all r a₃
+      pub listed_by : (r : Option ℕ) (a₃ : List ℕ) → Copies a₂ fd.length (take k₃ o₃) r a₃ → Lists file input all r a₃
       listed_by (Some n₃) a₃ d =
           subst (λ (xs : List ℕ). Fits all 0 xs a₃ n₃) (sym whole)
           (record {
@@ -136,7 +132,6 @@ module _ (file : Math.Option (List ℕ)) (formula input : List ℕ) (m : Memory)
             room = let v = d.room in omega arith;
           })
       listed_by None a₃ d =
-          let l = length-take-le k₃ o₃ short₃ in
           let q = so_far.wrote.ends in
           let v = d.1 in
           record {

@@ -1,5 +1,5 @@
 -- A whole listing, put together from what `start`, `advance` and `finish` wrote.
-use Rattle.std.specs.Prelude.{Option, Some, None, ◌≡◌, List, ◌++◌, ℕ, ◌+◌, ◌≤◌, ◌<◌, length, take}
+use Rattle.std.specs.Prelude.{Option, Some, None, ◌≡◌, List, ◌++◌, ℕ, ◌+◌, ◌≤◌, ◌<◌, length}
 use Rattle.std.proofs.Math.Option as Math
 use Rattle.listing.specs.Legs.{legs}
 use Rattle.lines.specs.declared.Stage.{Stage}
@@ -20,9 +20,9 @@ pub record TooLong (all : List ℕ) (from : ℕ) (text all' : List ℕ) : Type 0
   pub parts : text ≡ first ++ rest
   pub wrote : Wrote all from first all' (from + length first)
 
-abbrev pub Copies : List ℕ → ℕ → List ℕ → ℕ → Option ℕ → List ℕ → Type 0
-Copies all at out n (Some m) all' = Fits all at (take n out) all' m
-Copies all at out n None all' = (all' ≡ all) × (length all < at + n)
+abbrev pub Copies : List ℕ → ℕ → List ℕ → Option ℕ → List ℕ → Type 0
+Copies all at text (Some m) all' = Fits all at text all' m
+Copies all at text None all' = (all' ≡ all) × (length all < at + length text)
 
 -- what came of all of the input stands in the whole output from a place on; or what is owed for it is too long
 abbrev pub FeedsAll : List ℕ → Memory → Stage → List ℕ → Memory → List ℕ → ℕ → Option Fed → List ℕ → Type 0

@@ -14,15 +14,32 @@ use lines::{Memory, Stage};
 use std::io;
 use writer::put_bytes;
 
-// Adds the first bytes of the output to the whole, and says how long it is then; none where there is no room for them.
-fn add(all: &mut [u8], at: usize, out: &[u8], n: usize) -> Option<usize>
-    requires { (n ≤ length out.now) × (at ≤ length all.old) }
-    ensures { Copies all.old at out.now n result all.new }
+// Adds output to the whole, and says how long it is then; none where there is no room for it.
+fn add(all: &mut [u8], at: usize, out: &[u8]) -> Option<usize>
+    requires { at ≤ length all.old }
+    ensures { Copies all.old at out.now result all.new }
 {
-    if all.len() - at < n {
+    if all.len() - at < out.len() {
         return None;
     }
-    Some(put_bytes(all, at, &out[..n]))
+    Some(put_bytes(all, at, out))
+}
+
+// An input, and the length of the blocks in which it is handed on.
+#[derive(Clone, Copy)]
+struct Blocks<'a> {
+    input: &'a [u8],
+    length: usize,
+}
+
+impl<'a> Blocks<'a> {
+    // The end of the block that begins at a byte. A block has one byte at least.
+    fn end(self, at: usize) -> usize
+        requires { at < length self.input.now }
+        ensures { (at < result) × (result ≤ length self.entry.input.now) }
+    {
+        at + self.length.clamp(1, self.input.len() - at)
+    }
 }
 
 // The stage after all of the input, and the length of the whole output so far.
@@ -32,37 +49,29 @@ struct Fed {
     length: usize,
 }
 
-// The end of the block that begins at a byte. A block has one byte at least.
-fn block_end(at: usize, block: usize, length: usize) -> usize
-    requires { at < length }
-    ensures { (at < result) × (result ≤ length) }
-{
-    at + block.clamp(1, length - at)
-}
-
 // Hands the input on in blocks, each from the first byte that was not used, so no `for` counts them; none where the whole output
-// has no room for what came of it.
+// has no room for what came of it. That comes as slice and length: of a struct that lends the slice each clause would have to say
+// besides that it still lends the same one.
 fn feed(
     formula: &[u8],
-    input: &[u8],
-    block: usize,
+    blocks: Blocks,
     start: Stage,
+    names: &mut [u8],
     memory: &mut Memory,
     all: &mut [u8],
     from: usize,
 ) -> Option<Fed>
-    requires { Feedable formula.now (held memory.old) start memory.old.out.now × (from ≤ length all.old) }
-    ensures feeds { FeedsAll formula.now (held memory.old) start input.now (held memory.new) all.old from result all.new }
+    requires { Feedable formula.now (held names.old memory.old) start memory.old.out.now × (from ≤ length all.old) }
+    ensures feeds { FeedsAll formula.now (held names.old memory.old) start blocks.entry.input.now (held names.new memory.new) all.old from result all.new }
     ensures slices { SameSlices memory.old memory.new }
 {
     let mut stage = start;
     let mut at = 0;
     let mut length = from;
-    while at < input.len() {
-        let end = block_end(at, block, input.len());
-        let advanced = lines::advance(formula, &input[at..end], stage, memory);
-        let out = &mut *memory.out;
-        length = add(all, length, out, advanced.length)?;
+    while at < blocks.input.len() {
+        let end = blocks.end(at);
+        let advanced = lines::advance(formula, &blocks.input[at..end], stage, names, memory);
+        length = add(all, length, memory.written(advanced.length))?;
         at += advanced.used;
         stage = advanced.stage;
     }
@@ -72,28 +81,27 @@ fn feed(
 // Lists a whole input: what `start` gave, what `advance` gave for each block, and what `finish` gave, one after another.
 fn list_in(
     file: Option<&[u8]>,
-    input: &[u8],
-    block: usize,
+    blocks: Blocks,
+    names: &mut [u8],
     memory: &mut Memory,
     all: &mut [u8],
 ) -> Option<usize>
-    requires { Roomy (held memory.old) × (8353 ≤ length memory.old.out.now) }
-    ensures { Lists (file_of file.entry) input.now all.old result all.new }
+    requires { Roomy (held names.old memory.old) × (8353 ≤ length memory.old.out.now) }
+    ensures { Lists (file_of file.entry) blocks.entry.input.now all.old result all.new }
 {
     let formula = file.unwrap_or(b"");
     let out = &mut *memory.out;
     let begun = lines::start(file, out);
-    let first = add(all, 0, out, begun.length)?;
-    let fed = feed(formula, input, block, begun.stage, memory, all, first)?;
-    let length = lines::finish(formula, fed.stage, memory);
-    let out = &mut *memory.out;
-    add(all, fed.length, out, length)
+    let first = add(all, 0, memory.written(begun.length))?;
+    let fed = feed(formula, blocks, begun.stage, names, memory, all, first)?;
+    let length = lines::finish(formula, fed.stage, names, memory);
+    add(all, fed.length, memory.written(length))
 }
 
 // The same with memory of its own: what it gives is the definition's whole output, for any input and any length of block, just
 // where it fits.
-fn list(file: Option<&[u8]>, input: &[u8], block: usize, all: &mut [u8]) -> Option<usize>
-    ensures { Lists (file_of file.entry) input.now all.old result all.new }
+fn list(file: Option<&[u8]>, blocks: Blocks, all: &mut [u8]) -> Option<usize>
+    ensures { Lists (file_of file.entry) blocks.entry.input.now all.old result all.new }
 {
     let mut names = [0u8; 17152];
     let mut path = [0u8; 8192];
@@ -102,14 +110,13 @@ fn list(file: Option<&[u8]>, input: &[u8], block: usize, all: &mut [u8]) -> Opti
     let mut regs = [0.0; 1276];
     let mut out = [0u8; 16384];
     let mut memory = Memory {
-        names: &mut names,
         path: &mut path,
         program: &mut program,
         values: &mut values,
         regs: &mut regs,
         out: &mut out,
     };
-    list_in(file, input, block, &mut memory, all)
+    list_in(file, blocks, &mut names, &mut memory, all)
 }
 
 // ---- the record
@@ -117,7 +124,7 @@ fn list(file: Option<&[u8]>, input: &[u8], block: usize, all: &mut [u8]) -> Opti
 // Whether the output of the next case is as recorded, and none where the record ends before it.
 fn as_recorded(record: &mut Record) -> Option<bool> {
     let readable = record.word() == 1;
-    let block = record.word();
+    let length = record.word();
     let formula = record.word();
     let input = record.word();
     let output = record.word();
@@ -125,8 +132,9 @@ fn as_recorded(record: &mut Record) -> Option<bool> {
     let input = record.bytes(input)?;
     let output = record.bytes(output)?;
     let file = readable.then_some(formula);
+    let blocks = Blocks { input, length };
     let mut all = [0u8; 65536];
-    let n = list(file, input, block, &mut all)?;
+    let n = list(file, blocks, &mut all)?;
     Some(all.get(..n)? == output)
 }
 
@@ -134,6 +142,8 @@ fn is_same(record: &mut Record) -> bool {
     as_recorded(record).unwrap_or(false)
 }
 
+// One function over this main and that of compile_cases would promise nothing: of what is read and printed no clause can speak;
+// the loop over the cases is `cases::all_cases`.
 fn main(rt: HostRuntime) -> io::Result<()> {
     let stdout = rt.stdout();
     let mut room = [0; 327680];

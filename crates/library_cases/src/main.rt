@@ -7,7 +7,9 @@
 // names, path text, tree, list of records and program, and for its calls the inputs. A call has 38 numbers: 0 for a run, 1 for a
 // resume, 2 for one with a value, the path slice's length, budget, value, the state's cells before, the answer, the cells after,
 // the length of the path's text; then that text and the registers before and after.
-use cases::{Call, FILL, HELD, Kind, Record, Tally, is_left, is_reported, same, take, take_cells};
+use cases::{
+    Call, FILL, HELD, Kind, Record, Replayed, is_left, is_reported, same, take, take_cells,
+};
 use std::io;
 use std::io::Stdin;
 use vebrostin::{
@@ -37,7 +39,7 @@ struct Head {
     node: u64,
 }
 
-impl Head {
+impl Replayed for Head {
     fn read(head: &[u8]) -> Head {
         let mut record = Record::new(head);
         Head {
@@ -60,6 +62,31 @@ impl Head {
             calls: record.cell(),
             node: record.cell(),
         }
+    }
+
+    fn is_right(self, stdin: Stdin) -> Option<bool> {
+        let head = &self;
+        let mut formula = [0; 8192];
+        let mut names = [0; 8192];
+        let mut path = [0; 8200];
+        let mut tree = [0; 8192];
+        let mut list = [0; 4096];
+        let mut program = [0; 65536];
+        let formula = take(stdin, &mut formula, head.formula)?;
+        let names = take(stdin, &mut names, head.names)?;
+        let program = program.get_mut(..head.program)?;
+        let slices = Slices {
+            path: path.get_mut(..head.path)?,
+            tree: tree.get_mut(..head.tree)?,
+            list: list.get_mut(..head.list)?,
+            program,
+        };
+        let made = is_made(stdin, head, formula, names, slices)?;
+        Some(made && are_called(stdin, head, program, &mut path)?)
+    }
+
+    fn calls(self) -> u64 {
+        self.calls
     }
 }
 
@@ -236,38 +263,6 @@ fn are_called(stdin: Stdin, head: &Head, program: &[u8], path: &mut [u8]) -> Opt
     Some(true)
 }
 
-// ---- cases
-
-// Whether a case is as recorded; none where its record ends early, or asks for longer slices than there are.
-fn is_right(stdin: Stdin, head: &Head) -> Option<bool> {
-    let mut formula = [0; 8192];
-    let mut names = [0; 8192];
-    let mut path = [0; 8200];
-    let mut tree = [0; 8192];
-    let mut list = [0; 4096];
-    let mut program = [0; 65536];
-    let formula = take(stdin, &mut formula, head.formula)?;
-    let names = take(stdin, &mut names, head.names)?;
-    let program = program.get_mut(..head.program)?;
-    let slices = Slices {
-        path: path.get_mut(..head.path)?,
-        tree: tree.get_mut(..head.tree)?,
-        list: list.get_mut(..head.list)?,
-        program,
-    };
-    let made = is_made(stdin, head, formula, names, slices)?;
-    Some(made && are_called(stdin, head, program, &mut path)?)
-}
-
 fn main(rt: HostRuntime) -> io::Result<()> {
-    let stdin = rt.stdin();
-    let stdout = rt.stdout();
-    let mut tally = Tally::default();
-    cases::each_head(stdin, &mut [0; 144], |head| {
-        let head = Head::read(head);
-        let right = is_right(stdin, &head).unwrap_or(false);
-        tally.count_while_right(stdout, right, head.calls)
-    })?;
-    println!(stdout; "{} cases, {} calls", tally.cases, tally.calls)?;
-    tally.verdict(stdout)
+    cases::replay_all::<Head>(rt.stdin(), rt.stdout(), &mut [0; 144])
 }

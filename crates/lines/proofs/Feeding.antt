@@ -34,12 +34,11 @@ same_then m out m' out' m'' out'' a b =
 
 -- the slices of the code's memory
 pub slices_start : (m : Lent.Memory) → SameSlices m m
-slices_start m = record { names = (refl, refl); path = (refl, refl); program = (refl, refl); values = (refl, refl); regs = (refl, refl); out = (refl, refl) }
+slices_start m = record { path = (refl, refl); program = (refl, refl); values = (refl, refl); regs = (refl, refl); out = (refl, refl) }
 
 pub slices_then : (m m' m'' : Lent.Memory) → SameSlices m m' → SameSlices m' m'' → SameSlices m m''
 slices_then m m' m'' a b =
     record {
-      names = (b.names.0 ∙ a.names.0, b.names.1 ∙ a.names.1);
       path = (b.path.0 ∙ a.path.0, b.path.1 ∙ a.path.1);
       program = (b.program.0 ∙ a.program.0, b.program.1 ∙ a.program.1);
       values = (b.values.0 ∙ a.values.0, b.values.1 ∙ a.values.1);
@@ -47,8 +46,8 @@ slices_then m m' m'' a b =
       out = (b.out.0 ∙ a.out.0, b.out.1 ∙ a.out.1);
     }
 
-pub same_lengths : (m m' : Lent.Memory) → SameSlices m m' → SameLengths (held m) m.out.now (held m') m'.out.now
-same_lengths m m' a = record { names = a.names.1; path = a.path.1; program = a.program.1; values = a.values.1; regs = a.regs.1; output = a.out.1 }
+pub same_lengths : (names names' : List ℕ) (m m' : Lent.Memory) → length names' ≡ length names → SameSlices m m' → SameLengths (held names m) m.out.now (held names' m') m'.out.now
+same_lengths names names' m m' l a = record { names = l; path = a.path.1; program = a.program.1; values = a.values.1; regs = a.regs.1; output = a.out.1 }
 
 pub part_long : (at end : ℕ) (xs : List ℕ) → end ≤ length xs → length (mid_of at (end - at) xs) ≡ end - at
 part_long at end xs h = length-take-le (end - at) (drop at xs) (omega (arith, length-drop at xs))

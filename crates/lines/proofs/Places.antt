@@ -1,11 +1,13 @@
 -- The text of a refusal's place, with zeros after it.
-use Rattle.std.proofs.Common.{◌≡◌, ℕ, zero, ◌+◌, ◌-◌, ◌<◌, ◌≤◌, Bool, true, false, ltb, List, ◌++◌, length, get_or, take, sym, refl, ap, ◌∙◌, arith, length-append, take_at, get_or-append-add, ltb-false, ltb-true}
+use Rattle.std.proofs.Common.{◌≡◌, ℕ, zero, ◌+◌, ◌-◌, ◌<◌, ◌≤◌, Bool, true, false, ltb, List, ◌++◌, length, get_or, take, sym, refl, ap, ◌∙◌, arith, length-append, take_at, get_or-append-add, get_or-take, length-take, ltb-false, ltb-true}
 use mathlib.Core.Option.{Option, none, some}
 use lib.ListN.{length-replicate, get_or-replicate, get_or-append, get_or-eq_default}
 use Rattle.formula.specs.Text.{zeros}
 use Rattle.formula.specs.Path.{Path, placed, text}
 use Rattle.listing.specs.Legs.{place_text}
 use Rattle.names.specs.Lines.{free}
+use Rattle.std.specs.Prelude.{All, ◌≢◌, min}
+use Rattle.lines.specs.Owed.{TextLength}
 use Rattle.names.proofs.Splits.{free_at}
 use Rattle.listing.proofs.Fields.{plain_free, plain_place}
 
@@ -25,13 +27,6 @@ get_or_zeros m j = by_cases (ltb j m) refl
 abbrev pub NoZero : List ℕ → ℕ → Type 0
 NoZero path i = (j : ℕ) → j < i → get_or path j 0 ≡ 0 → ⊥
 
-pub no_zero_more : (path : List ℕ) (i : ℕ) → NoZero path i → (get_or path i 0 ≡ 0 → ⊥) → NoZero path (i + 1)
-no_zero_more path i h n j l e = by_cases (ltb j i) refl
-  where
-    by_cases : (t : Bool) → ltb j i ≡ t → ⊥
-    by_cases true q = h j (ltb-true j i q) e
-    by_cases false q = let k = ltb-false j i q in let z : j ≡ i = omega arith in n (ap (λ (x : ℕ). get_or path x 0) (sym z) ∙ e)
-
 -- the place of the first zero, or an end before which there is none
 pub text_end : (path : List ℕ) (i : ℕ) → NoZero path i → (t : List ℕ) (m : ℕ) → path ≡ t ++ zeros m → free 0 t ≡ true → (i < length t → get_or path i 0 ≡ 0) → i ≡ length t
 text_end path i h t m e f z = by_cases (ltb i (length t)) (ltb (length t) i) refl refl
@@ -47,6 +42,21 @@ text_end path i h t m e f z = by_cases (ltb i (length t)) (ltb (length t) i) ref
         (h (length t) l
         (ap (λ (xs : List ℕ). get_or xs (length t) 0) e ∙ ap (λ (k : ℕ). get_or (t ++ zeros m) k 0) (sym w) ∙ get_or-append-add t (zeros m) 0 0 ∙ get_or_zeros m 0))
     by_cases false false p q = let a = ltb-false i (length t) p in let b = ltb-false (length t) i q in omega arith
+
+-- the first zero of 8,192 bytes at most
+pub text_first : (path : List ℕ) (n r : ℕ) → n ≡ min (length path) 8192 → r ≤ length (take n path) → All (λ b. b ≢ 0) (take r (take n path))
+    → (r < length (take n path) → get_or (take n path) r 0 ≡ 0) → TextLength path r
+text_first path n r q within before found =
+    let l = length-take n path in
+    let m = length-take r (take n path) in (
+      omega arith,
+      omega arith,
+      λ t k e f s.
+          let u = ap length e ∙ length-append t (zeros k) in
+          text_end path r
+          (λ j h z. before j 0 (omega arith) (get_or-take r (take n path) j 0 h ∙ get_or-take n path j 0 (omega arith) ∙ z)) t k e f
+          (λ h. sym (get_or-take n path r 0 (omega arith)) ∙ found (omega arith)),
+    )
 
 -- ---- a slice of zeros, with a place written into it
 

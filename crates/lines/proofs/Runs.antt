@@ -1,14 +1,13 @@
 -- The run of a line's values, as `legs` has it.
-use Rattle.std.proofs.Common.{◌≡◌, ℕ, suc, ◌<◌, ◌≤◌, Bool, true, false, cond, not, ◌&&◌, eqb, ltb, leb, List, [], ◌∷◌, ◌++◌, length, take, replicate, sym, refl, ap, ◌∙◌, arith, ltb-false, ltb-true, le-ltb, lt-ltb, ne_eqb, drop, length-append, length-take-le, take_at}
+use Rattle.std.proofs.Common.{◌≡◌, ℕ, suc, ◌<◌, ◌≤◌, Bool, true, false, not, ◌&&◌, eqb, leb, List, [], ◌∷◌, ◌++◌, length, take, replicate, sym, refl, ap, ◌∙◌, arith, ne_eqb, drop, length-append, length-take-le, take_at}
 use mathlib.Core.Option.{Option, none, some}
 use lib.Ieee.{Float, binary64}
-use Rattle.refusals.specs.Numbers.{invalid_input}
 use Rattle.arithmetic.specs.Value.{0f, finite}
 use Rattle.formula.specs.Text.{all, byte_at, half_at, word_at}
 use Rattle.formula.specs.Path.{path_room}
 use Rattle.machine.specs.Program.{Program, valid}
 use Rattle.machine.specs.Machine as Machine
-use Rattle.layout.specs.Decode.{code_count, input_count, program_at, raw_program, register_total}
+use Rattle.layout.specs.Decode.{code_count, input_count, path_total, program_at, raw_program, register_total}
 use Rattle.names.proofs.Splits.{no_true}
 use Rattle.program.proofs.Body.{code_length}
 use Rattle.program.proofs.Pass.{valid_raw}
@@ -17,10 +16,12 @@ use Rattle.run.specs.Views.{answer_of, reply_of}
 use Rattle.run.specs.Calls.{run_at, unfit_at}
 use Rattle.run.proofs.Whole.{run_5}
 use Rattle.listing.specs.Legs.{Line, bad, line_of, run_line, value_record, zero_registers}
-use Rattle.std.specs.Prelude.{Option as Maybe, Some, None}
+use Rattle.std.specs.Prelude.{Result, Ok, Err}
+use Rattle.refusals.specs.Refusals.{number_of}
+use Rattle.refusals.specs.declared.Refusal.{Refusal}
 use Rattle.lines.specs.declared.record.Outcome.{Outcome}
-use Rattle.values.specs.Reading.{Finds, Kept, floats}
-use Rattle.lines.specs.Record.{Answers, Ready, Runs, found_line}
+use Rattle.values.specs.Reading.{Finds, floats}
+use Rattle.lines.specs.Record.{Ready, Runs, found_line}
 
 -- ---- registers, of which the first n are filled with zeros
 
@@ -84,18 +85,12 @@ pub code_short : (b : List ℕ) → valid (program_at b) ≡ true → ((i : ℕ)
 unfolding code_count half_at word_at
 code_short b ok h = omega (arith, budget_is b ok, h 4, h 5, h 6, h 7)
 
+-- and so are its paths
+pub paths_few : (b : List ℕ) → ((i : ℕ) → byte_at b i < 256) → path_total b < 4294967296
+unfolding half_at word_at path_total
+paths_few b h = omega (arith, h 24, h 25, h 26, h 27)
+
 -- ---- what a line was found to be
-
--- a slice has places for these
-abbrev found_by : Program → List Float → ℕ → Bool → Line
-found_by P values n t = cond t (bad invalid_input) (run_line P (take n values))
-
--- what a line was found to be
-pub found_many : (b : List ℕ) (values : List Float) (n : ℕ) → length values < n → bad invalid_input ≡ found_line (program_at b) (Some n) values
-found_many b values n l = ap (found_by (program_at b) values n) (sym (lt-ltb (length values) n l))
-
-pub found_run : (b : List ℕ) (values : List Float) (n : ℕ) (o : Outcome) → n ≤ length values → Runs b (take n values) o → Answers b (Some n) values o
-found_run b values n o l r = r ∙ ap (found_by (program_at b) values n) (sym (le-ltb (length values) n l))
 
 -- they are the definition's record of the line
 module _ (b : List ℕ) (values : List Float) (k : ℕ) (ready : Ready b (length values) k) where
@@ -103,21 +98,13 @@ module _ (b : List ℕ) (values : List Float) (k : ℕ) (ready : Ready b (length
   floats_length [] = refl
   floats_length (v ∷ vs) = ap suc (floats_length vs)
 
-  record_by : (vs : List ℕ) (n : ℕ) → Kept vs n values → (t : Bool) → ltb (length values) n ≡ t → found_by (program_at b) values n t ≡ run_line (program_at b) (floats vs)
-  record_by vs n f true e =
-      let l = ltb-true (length values) n e in
-      wrong_count b ready.sound (floats vs) (λ z. let m = f.counts in let i = ready.inputs in let w = floats_length vs in omega arith)
-  record_by vs n f false e =
-      let l = ltb-false (length values) n e in
-      let m = f.counts in
-      let z : n ≡ length vs = omega arith in
-      ap (run_line (program_at b)) (ap (λ (i : ℕ). take i values) z ∙ f.stand (omega arith))
-
-  pub found_record : (line : Option (List ℕ)) (found : Maybe ℕ) → Finds line found values → found_line (program_at b) found values ≡ value_record (program_at b) line
-  found_record none None f = refl
-  found_record none (Some n) f = absurd f
-  found_record (some vs) None f = absurd f
-  found_record (some vs) (Some n) f = record_by vs n f (ltb (length values) n) refl
+  pub found_record : (line : Option (List ℕ)) (found : Result ℕ Refusal) → Finds line found values → found_line (program_at b) found values ≡ value_record (program_at b) line
+  found_record none (Err refusal) f = ap (λ (r : Refusal). bad (number_of r)) f
+  found_record none (Ok n) f = absurd f
+  found_record (some vs) (Err refusal) f =
+      ap (λ (r : Refusal). bad (number_of r)) f.0
+      ∙ wrong_count b ready.sound (floats vs) (λ z. let i = ready.inputs in let w = floats_length vs in let h = f.1 in omega arith)
+  found_record (some vs) (Ok n) f = ap (run_line (program_at b)) f.1
 
 -- lengths that stay
 pub ready_same : (b : List ℕ) (n k n' k' : ℕ) → n' ≡ n → k' ≡ k → Ready b n k → Ready b n' k'

@@ -4,12 +4,12 @@ use mathlib.Core.Option.{Option}
 use borrow.Author.Tests.{lt-leb}
 use Rattle.formula.specs.Values.{lines_of, values_of}
 use Rattle.machine.specs.Program.{Program}
-use Rattle.run.specs.declared.Answer.{Answer}
 use Rattle.run.specs.Views.{answer_of}
 use Rattle.listing.specs.Legs.{Line, line_limit, line_of, printed, records, value_record}
 use Rattle.listing.specs.Totals.{Totals, add_up, nothing, plus, total_line, with_total}
 use Rattle.listing.proofs.Fields.{Plain, counted_is, line_plain, of_line}
 use Rattle.listing.proofs.Sums.{few_steps, lines_in, nothing_plus, one_column, plus_assoc, plus_nothing, record_adds, same_totals, value_plain}
+use Rattle.lines.specs.declared.record.Outcome.{Outcome}
 use Rattle.lines.specs.declared.record.Recorded.{Recorded}
 use Rattle.lines.specs.declared.Stage.{Stage}
 use Rattle.lines.specs.declared.sums.Totals as Code
@@ -17,6 +17,11 @@ use Rattle.lines.specs.declared.Line as Read
 use Rattle.lines.specs.Record.{Entered}
 use Rattle.lines.specs.Sums.{Adds, Few, totals_of, wrapped}
 use Rattle.lines.specs.Owed.{output_from, stage_at, under}
+
+-- the default
+pub default_is : (t : Code.Totals) → (t.values ≡ 0) × ((t.domains ≡ 0) × ((t.asks ≡ 0) × ((t.bads ≡ 0) × (t.steps ≡ 0))))
+    → t ≡ record { values = 0; domains = 0; asks = 0; bads = 0; steps = 0 }
+default_is t e = rw (e.0, e.1.0, e.1.1.0, e.1.1.1.0, e.1.1.1.1) refl
 
 -- ---- the sums of at most 1,000,000 lines are exact
 
@@ -44,11 +49,11 @@ module _ (P : Program) (short : length P.code ≤ 4294967296) (n : ℕ) (t : Cod
       ∙ exact n (totals_of t) (of_line (value_record P line)) few (one_column P line) (let h = few_steps P line in omega arith) w
 
 -- a line's answer adds what its record's text does
-pub line_adds : (t : Code.Totals) (a : Answer) (count : ℕ) (u : Totals) (r : Code.Totals) → totals_of r ≡ wrapped (plus (totals_of t) u)
-    → ((b : List ℕ) → of_line (line_of (answer_of b a) count) ≡ u) → Adds t a count r
-line_adds t a count u r e f b n =
-    let l = line_of (answer_of b a) count in
-    e ∙ ap (λ (x : Totals). wrapped (plus (totals_of t) x)) (sym (counted_is n l (line_plain (answer_of b a) count) ∙ f b))
+pub line_adds : (t : Code.Totals) (o : Outcome) (u : Totals) (r : Code.Totals) → totals_of r ≡ wrapped (plus (totals_of t) u)
+    → ((b : List ℕ) → of_line (line_of (answer_of b o.answer) o.count) ≡ u) → Adds t o r
+line_adds t o u r e f b n =
+    let l = line_of (answer_of b o.answer) o.count in
+    e ∙ ap (λ (x : Totals). wrapped (plus (totals_of t) x)) (sym (counted_is n l (line_plain (answer_of b o.answer) o.count) ∙ f b))
 
 pub entered_as : (n : ℕ) (l l' : Line) (t : Code.Totals) (out : List ℕ) (at : ℕ) (out' : List ℕ) (r : Recorded) → l ≡ l' → Entered n l t out at out' r → Entered n l' t out at out' r
 entered_as n l l' t out at out' r e h = subst (λ (x : Line). Entered n x t out at out' r) e h

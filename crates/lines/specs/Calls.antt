@@ -19,14 +19,13 @@ use Rattle.lines.specs.declared.Memory as Lent
 use Rattle.lines.specs.Record.{Ready}
 use Rattle.lines.specs.Owed.{Advances, Begins, CompiledAs, Ends, EndsWith, Lists, Memory, Stands, memory, output_room}
 
--- ---- the memory that the code has
+-- ---- the memory that the code has, and the slice for the name line beside it
 
-abbrev pub held : Lent.Memory → Memory
-held m = memory m.names.now m.path.now m.program.now m.values.now m.regs.now
+abbrev pub held : List ℕ → Lent.Memory → Memory
+held names m = memory names m.path.now m.program.now m.values.now m.regs.now
 
 -- the slices are those that were lent
 pub record SameSlices (m m' : Lent.Memory) : Type 0 where
-  pub names : (m'.names.ghost_name ≡ m.names.ghost_name) × (length m'.names.now ≡ length m.names.now)
   pub path : (m'.path.ghost_name ≡ m.path.ghost_name) × (length m'.path.now ≡ length m.path.now)
   pub program : (m'.program.ghost_name ≡ m.program.ghost_name) × (length m'.program.now ≡ length m.program.now)
   pub values : (m'.values.ghost_name ≡ m.values.ghost_name) × (length m'.values.now ≡ length m.values.now)

@@ -55,10 +55,6 @@ stage_at l = cond (nat_le l.number line_limit) (Values l) (Finished l.totals)
 
 -- ---- the name line
 
--- one byte more, where there is a place for it
-abbrev pub one_more : ℕ → ℕ → ℕ
-one_more k places = cond (nat_lt k places) (k + 1) k
-
 -- the first bytes of a name line that has begun as `seen`
 pub record Keeps (seen : List ℕ) (k : ℕ) (names : List ℕ) : Type 0 where
   pub count : k ≡ min (length seen) (length names)

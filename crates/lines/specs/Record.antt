@@ -1,6 +1,7 @@
 -- A line of values, and the record that the run of its values gives.
-use Rattle.std.specs.Prelude.{Option, Some, None, ◌≡◌, ℕ, ◌≤◌, true, cond, List, length, take, nat_lt, Float}
-use Rattle.refusals.specs.Numbers.{invalid_input, malformed_line}
+use Rattle.std.specs.Prelude.{◌≡◌, ℕ, ◌≤◌, true, List, take, Float, Result, Ok, Err}
+use Rattle.refusals.specs.Refusals.{number_of}
+use Rattle.refusals.specs.declared.Refusal.{Refusal}
 use Rattle.formula.specs.Values.{values_of}
 use Rattle.machine.specs.Program.{Program, valid}
 use Rattle.layout.specs.Decode.{input_count, program_at, register_total}
@@ -26,12 +27,12 @@ Runs p inputs o = line_of (answer_of p o.answer) o.count ≡ run_line (program_a
 
 -- "A value line that isn't hex digits and commas as said shows `bad` with 3; otherwise a wrong count of values or a value that isn't finite shows 5":
 -- the number or the values of each case. More values than the slice has places are a wrong count, which a run shows of any other.
-abbrev pub found_line : Program → Option ℕ → List Float → Line
-found_line P None values = bad malformed_line
-found_line P (Some n) values = cond (nat_lt (length values) n) (bad invalid_input) (run_line P (take n values))
+abbrev pub found_line : Program → Result ℕ Refusal → List Float → Line
+found_line P (Err refusal) values = bad (number_of refusal)
+found_line P (Ok n) values = run_line P (take n values)
 
 -- the outcome of what a line was found to be
-abbrev pub Answers : List ℕ → Option ℕ → List Float → Outcome → Type 0
+abbrev pub Answers : List ℕ → Result ℕ Refusal → List Float → Outcome → Type 0
 Answers p found values o = line_of (answer_of p o.answer) o.count ≡ found_line (program_at p) found values
 
 -- a record stands in the output, and the totals have what it adds

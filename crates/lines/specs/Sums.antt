@@ -1,10 +1,10 @@
 -- The totals in the code beside those of the definition.
 use Rattle.std.specs.Prelude.{◌≡◌, ℕ, ◌+◌, ◌*◌, ◌%◌, ◌^◌, ◌<◌, ◌≤◌, List}
-use Rattle.run.specs.declared.Answer.{Answer}
 use Rattle.run.specs.Views.{answer_of}
 use Rattle.listing.specs.Legs.{line_of, record_text}
 use Rattle.listing.specs.Totals as Total
 use Rattle.listing.specs.Totals.{counted, plus}
+use Rattle.lines.specs.declared.record.Outcome.{Outcome}
 use Rattle.lines.specs.declared.sums.Totals.{Totals}
 
 abbrev pub totals_of : Totals → Total.Totals
@@ -22,8 +22,8 @@ wrapped t =
     }
 
 -- with a line more: what its record adds, whatever its number
-abbrev pub Adds : Totals → Answer → ℕ → Totals → Type 0
-Adds t a count r = (b : List ℕ) (n : ℕ) → totals_of r ≡ wrapped (plus (totals_of t) (counted (record_text n (line_of (answer_of b a) count))))
+abbrev pub Adds : Totals → Outcome → Totals → Type 0
+Adds t o r = (b : List ℕ) (n : ℕ) → totals_of r ≡ wrapped (plus (totals_of t) (counted (record_text n (line_of (answer_of b o.answer) o.count))))
 
 -- totals of fewer than n lines, each of at most 2^32 steps
 pub record Few (n : ℕ) (t : Total.Totals) : Type 0 where

@@ -5,16 +5,16 @@ mod record;
 pub mod sums;
 mod text;
 
-ghost use Rattle.std.specs.Prelude.{◌≡◌, ◌+◌, ◌-◌, ◌<◌, ◌≤◌, true, false, List, ℕ, length, take, slice_index, slice_set};
+ghost use Rattle.std.specs.Prelude.{◌≡◌, ◌+◌, ◌-◌, ◌<◌, ◌≤◌, true, false, List, ℕ, length, take, slice_index};
 ghost use Rattle.std.proofs.Math.Option.{none};
 ghost use Rattle.layout.specs.Decode.{program_at};
 ghost use Rattle.listing.specs.Legs.{refusal_line};
 ghost use Rattle.listing.specs.Totals.{nothing};
 ghost use Rattle.names.specs.Lines.{free};
 ghost use Rattle.writer.specs.Over.{over};
-ghost use Rattle.lines.specs.Calls.{Advancing, Beginning, Finishing, ListingBlock, SameNumbers, SameSlices, Starting, held};
+ghost use Rattle.lines.specs.Calls.{Advancing, Beginning, Finishing, ListingBlock, SameSlices, Starting, held};
 ghost use Rattle.lines.specs.declared.Stage.TheVariants.{Names, Values};
-ghost use Rattle.lines.specs.Owed.{EndsWith, KeepsOn, Opens, TellsFinished, TextLength, file_of, one_more, stage_at};
+ghost use Rattle.lines.specs.Owed.{EndsWith, KeepsOn, Opens, TellsFinished, TextLength, file_of, stage_at};
 ghost use Rattle.lines.specs.Record.{Ready};
 ghost use Rattle.lines.specs.Text.{Wrote};
 
@@ -29,7 +29,8 @@ const LINE_LIMIT: u64 = 1000000;
 // The bytes of the longest record.
 const RECORD_ROOM: usize = 8242;
 
-// The bytes of output that every call needs: a record's, and 111 for the total line.
+// The bytes of output that every call needs: a record's, and 111 for the total line. The functions below `start`, `advance` and `finish` ask for them;
+// a ghost field of `Memory` would ask all callers, and these three take any output.
 const OUTPUT_ROOM: usize = 8353;
 
 // The line of values that is read: its number, what was read of it, and the totals of the lines before it.
@@ -42,7 +43,7 @@ pub struct Line {
 
 // Where a listing stands: in the name line, of which so many bytes are kept; in a line of values, as far as it was read; or at
 // its end, after a refusal or the last line that is listed, where no more input is looked at and the total line is still to be
-// written.
+// written. A stage is a value between two calls, so it has the count of these bytes and can't lend them.
 #[derive(Clone, Copy)]
 pub enum Stage {
     Names(usize),
@@ -50,15 +51,24 @@ pub enum Stage {
     Finished(Totals),
 }
 
-// The memory that a caller lends for a listing, and the output.
+// The memory that a caller lends for a listing, and the output. The slice for the name line is beside it, as `finish` only reads that.
 #[derive(Drop)]
 pub struct Memory<'a> {
-    pub names: &'a mut [u8],
     pub path: &'a mut [u8],
     pub program: &'a mut [u8],
     pub values: &'a mut [f64],
     pub regs: &'a mut [f64],
     pub out: &'a mut [u8],
+}
+
+impl<'a> Memory<'a> {
+    // So much of the output as a call says that it wrote.
+    pub fn written(&self, n: usize) -> &[u8]
+        requires { n ≤ length self.now.out.now }
+        ensures { result.now ≡ take n self.now.out.now }
+    {
+        &self.out[..n]
+    }
 }
 
 // The next stage, how many bytes of the input were used, and how many of the output were written.
@@ -87,7 +97,8 @@ struct Listed {
 }
 
 // Lists the lines of values that end in the input. It stops early after the last line that is listed, and at a newline where a
-// record might not fit the output.
+// record might not fit the output. The slices come one by one: of a `Memory` the loop would have to say besides that it still lends the same ones.
+// A `while`: it goes on by the bytes that a line has, and stops at a newline whose record might not fit.
 fn list_values(
     p: &[u8],
     input: &[u8],
@@ -122,14 +133,14 @@ fn list_values(
 }
 
 // Whether bytes are a program, with enough places for its values and registers.
+#[tactic(auto, using(crate::proofs::Runs::code_short), unfolding(layout::specs::Decode::input_count, layout::specs::Decode::register_total))]
 fn is_ready(p: &[u8], values: usize, regs: usize) -> bool
     ensures ready { (result ≡ true → Ready p.now values regs) × (result ≡ false → Ready p.now values regs → ⊥) }
     ensures short { result ≡ true → length (program_at p.now).code ≤ 4294967296 }
 {
-    if values < reader::word(p, INPUTS_AT) || regs < reader::word(p, REGISTERS_AT) {
-        return false;
-    }
-    program::is_program(p)
+    reader::word(p, INPUTS_AT) <= values
+        && reader::word(p, REGISTERS_AT) <= regs
+        && program::is_program(p)
 }
 
 // ---- the name line
@@ -141,73 +152,51 @@ struct Kept {
     end: usize,
 }
 
-// Keeps a byte, where there is a place for it.
-fn keep_byte(names: &mut [u8], count: usize, b: u8) -> usize
-    ensures { (result ≡ one_more count (length names.old)) × (names.new ≡ slice_set names.old count b) }
-{
-    if count < names.len() {
-        names[count] = b;
-        return count + 1;
-    }
-    count
-}
-
-// Keeps the first bytes of a name line, up to its newline or the end of the input.
+// Keeps the first bytes of a name line, up to its newline or the end of the input, as many as there are places for.
 fn keep_names(input: &[u8], names: &mut [u8], k: usize) -> Kept
+    requires { k ≤ length names.old }
     ensures place { (result.end ≤ length input.now) × (free 10 (take result.end input.now) ≡ true) × (result.end < length input.now → slice_index input.now result.end ≡ 10) }
     ensures kept { KeepsOn k names.old (take result.end input.now) result.count names.new }
     ensures holds { (names.new ≡ over names.old k (take (length names.old - k) (take result.end input.now))) × (result.count ≡ k + length (take (length names.old - k) (take result.end input.now))) }
 {
-    let mut count = k;
-    for (end, b) in input.iter().enumerate() {
-        if *b == b'\n' {
-            return Kept { count, end };
-        }
-        count = keep_byte(names, count, *b);
-    }
-    Kept {
-        count,
-        end: input.len(),
-    }
+    let end = values::line_end(input, 0);
+    let line = &input[..end];
+    let n = (names.len() - k).min(line.len());
+    let count = writer::put_bytes(names, k, &line[..n]);
+    Kept { count, end }
 }
 
-// How many bytes stand before the first 0, of 8,192 at most.
-fn text_length(path: &[u8]) -> usize
-    ensures { TextLength path.now result }
+// The text before the first 0, of 8,192 bytes at most.
+fn text_of(path: &[u8]) -> &[u8]
+    ensures long { TextLength path.now (length result.now) }
+    ensures first { result.now ≡ take (length result.now) path.now }
 {
-    for (i, b) in path.iter().enumerate() {
-        if i == 8192 || *b == 0 {
-            return i;
-        }
-    }
-    path.len()
+    let n = values::first_place(&path[..path.len().min(8192)], 0);
+    &path[..n]
 }
 
 // The end of a listing in which no line was run.
 fn finished() -> Stage
     ensures { EndsWith nothing result }
 {
-    Stage::Finished(Totals::none())
+    Stage::Finished(Totals::default())
 }
 
-// Compiles the formula over the first bytes of the names: a refusal's line is written, or the lines of values begin.
-fn begin_over(
-    formula: &[u8],
-    names: &[u8],
-    count: usize,
-    path: &mut [u8],
-    program: &mut [u8],
-    out: &mut [u8],
-) -> Begun
-    requires room { 8209 ≤ length out.old }
-    requires kept { count ≤ length names.now }
-    ensures { Beginning formula.now (take count names.now) path.old program.old path.new program.new result out.old out.new }
+// Compiles the formula over a name line: a refusal's line is written, or the lines of values begin.
+fn begin(formula: &[u8], names: &[u8], memory: &mut Memory) -> Begun
+    requires { 8209 ≤ length memory.old.out.now }
+    ensures begins { Beginning formula.now names.now memory.old.path.now memory.old.program.now memory.new.path.now memory.new.program.now result memory.old.out.now memory.new.out.now }
+    ensures numbers { (memory.new.values.now ≡ memory.old.values.now) × (memory.new.regs.now ≡ memory.old.regs.now) }
+    ensures slices { SameSlices memory.old memory.new }
 {
-    let Err(refusal) = compile::compile(formula, &names[..count], path, program) else {
+    let path = &mut *memory.path;
+    let program = &mut *memory.program;
+    let out = &mut *memory.out;
+    let Err(refusal) = compile::compile(formula, names, path, program) else {
         let line = Line {
             number: 1,
             reading: values::fresh(),
-            totals: Totals::none(),
+            totals: Totals::default(),
         };
         return Begun {
             stage: Stage::Values(line),
@@ -219,29 +208,11 @@ fn begin_over(
             length: text::put_node_refusal(out, 0, refusal, node),
             stage: finished(),
         },
-        None => {
-            let place = text_length(path);
-            Begun {
-                length: text::put_refusal(out, 0, refusal, &path[..place]),
-                stage: finished(),
-            }
-        }
+        None => Begun {
+            length: text::put_refusal(out, 0, refusal, text_of(path)),
+            stage: finished(),
+        },
     }
-}
-
-// The same over the memory.
-fn begin(formula: &[u8], count: usize, memory: &mut Memory) -> Begun
-    requires room { 8209 ≤ length memory.old.out.now }
-    requires kept { count ≤ length memory.old.names.now }
-    ensures begins { Beginning formula.now (take count memory.old.names.now) memory.old.path.now memory.old.program.now memory.new.path.now memory.new.program.now result memory.old.out.now memory.new.out.now }
-    ensures others { (memory.new.names.now ≡ memory.old.names.now) × SameNumbers (held memory.old) (held memory.new) }
-    ensures slices { SameSlices memory.old memory.new }
-{
-    let names = &mut *memory.names;
-    let path = &mut *memory.path;
-    let program = &mut *memory.program;
-    let out = &mut *memory.out;
-    begin_over(formula, names, count, path, program, out)
 }
 
 // ---- the whole
@@ -299,15 +270,20 @@ fn stuck(stage: Stage) -> Advanced
 }
 
 // Reads the name line on; at its end the formula is compiled.
-fn advance_names(formula: &[u8], input: &[u8], k: usize, memory: &mut Memory) -> Advanced
+fn advance_names(
+    formula: &[u8],
+    input: &[u8],
+    k: usize,
+    names: &mut [u8],
+    memory: &mut Memory,
+) -> Advanced
     requires { 8353 ≤ length memory.old.out.now }
-    ensures advances { Advancing formula.now input.now (held memory.old) (Names k) memory.old.out.now result (held memory.new) memory.new.out.now }
+    ensures advances { Advancing formula.now input.now (held names.old memory.old) (Names k) memory.old.out.now result (held names.new memory.new) memory.new.out.now }
     ensures slices { SameSlices memory.old memory.new }
 {
-    if memory.names.len() < k {
+    if names.len() < k {
         return stuck(Stage::Names(k));
     }
-    let names = &mut *memory.names;
     let kept = keep_names(input, names, k);
     if kept.end == input.len() {
         return Advanced {
@@ -316,7 +292,7 @@ fn advance_names(formula: &[u8], input: &[u8], k: usize, memory: &mut Memory) ->
             length: 0,
         };
     }
-    let begun = begin(formula, kept.count, memory);
+    let begun = begin(formula, &names[..kept.count], memory);
     Advanced {
         stage: begun.stage,
         used: kept.end + 1,
@@ -338,7 +314,7 @@ fn stage_at(line: Line) -> Stage
 // Lists the lines of values of the input.
 fn advance_values(input: &[u8], line: Line, memory: &mut Memory) -> Advanced
     requires { 8353 ≤ length memory.old.out.now }
-    ensures advances { (formula : List ℕ) → Advancing formula input.now (held memory.old) (Values line) memory.old.out.now result (held memory.new) memory.new.out.now }
+    ensures advances { (formula names : List ℕ) → Advancing formula input.now (held names memory.old) (Values line) memory.old.out.now result (held names memory.new) memory.new.out.now }
     ensures slices { SameSlices memory.old memory.new }
 {
     let program = &mut *memory.program;
@@ -359,15 +335,21 @@ fn advance_values(input: &[u8], line: Line, memory: &mut Memory) -> Advanced
 // Uses a block of input, from its first byte on, and says how many bytes of it were used; the rest is for the next call. Where
 // it uses none of a block that has a byte, the output has less than 8,353 bytes, or the stage is none that `start` or `advance`
 // gave with this memory.
-pub fn advance(formula: &[u8], input: &[u8], stage: Stage, memory: &mut Memory) -> Advanced
-    ensures advances { Advancing formula.now input.now (held memory.old) stage memory.old.out.now result (held memory.new) memory.new.out.now }
+pub fn advance(
+    formula: &[u8],
+    input: &[u8],
+    stage: Stage,
+    names: &mut [u8],
+    memory: &mut Memory,
+) -> Advanced
+    ensures advances { Advancing formula.now input.now (held names.old memory.old) stage memory.old.out.now result (held names.new memory.new) memory.new.out.now }
     ensures slices { SameSlices memory.old memory.new }
 {
     if memory.out.len() < OUTPUT_ROOM {
         return stuck(stage);
     }
     match stage {
-        Stage::Names(k) => advance_names(formula, input, k, memory),
+        Stage::Names(k) => advance_names(formula, input, k, names, memory),
         Stage::Values(line) => advance_values(input, line, memory),
         Stage::Finished(_) => Advanced {
             stage,
@@ -387,7 +369,7 @@ pub fn is_finished(stage: Stage) -> bool
 // A line of values at the end of the input has a record if it has a byte. The total line follows.
 fn finish_values(line: Line, memory: &mut Memory) -> usize
     requires { 8353 ≤ length memory.old.out.now }
-    ensures finishes { (formula : List ℕ) → Finishing formula (held memory.old) (Values line) memory.old.out.now result (held memory.new) memory.new.out.now }
+    ensures finishes { (formula names : List ℕ) → Finishing formula (held names memory.old) (Values line) memory.old.out.now result (held names memory.new) memory.new.out.now }
     ensures slices { SameSlices memory.old memory.new }
 {
     let program = &mut *memory.program;
@@ -405,29 +387,29 @@ fn finish_values(line: Line, memory: &mut Memory) -> usize
 }
 
 // A name line at the end of the input. The total line follows.
-fn finish_names(formula: &[u8], k: usize, memory: &mut Memory) -> usize
+fn finish_names(formula: &[u8], k: usize, names: &[u8], memory: &mut Memory) -> usize
     requires { 8353 ≤ length memory.old.out.now }
-    ensures finishes { Finishing formula.now (held memory.old) (Names k) memory.old.out.now result (held memory.new) memory.new.out.now }
+    ensures finishes { Finishing formula.now (held names.now memory.old) (Names k) memory.old.out.now result (held names.now memory.new) memory.new.out.now }
     ensures slices { SameSlices memory.old memory.new }
 {
-    if memory.names.len() < k {
+    if names.len() < k {
         return 0;
     }
-    let begun = begin(formula, k, memory);
+    let begun = begin(formula, &names[..k], memory);
     let out = &mut *memory.out;
-    text::put_total(out, begun.length, Totals::none())
+    text::put_total(out, begun.length, Totals::default())
 }
 
 // The end of the input. The output needs 8,353 bytes.
-pub fn finish(formula: &[u8], stage: Stage, memory: &mut Memory) -> usize
-    ensures finishes { Finishing formula.now (held memory.old) stage memory.old.out.now result (held memory.new) memory.new.out.now }
+pub fn finish(formula: &[u8], stage: Stage, names: &[u8], memory: &mut Memory) -> usize
+    ensures finishes { Finishing formula.now (held names.now memory.old) stage memory.old.out.now result (held names.now memory.new) memory.new.out.now }
     ensures slices { SameSlices memory.old memory.new }
 {
     if memory.out.len() < OUTPUT_ROOM {
         return 0;
     }
     match stage {
-        Stage::Names(k) => finish_names(formula, k, memory),
+        Stage::Names(k) => finish_names(formula, k, names, memory),
         Stage::Values(line) => finish_values(line, memory),
         Stage::Finished(totals) => {
             let out = &mut *memory.out;

@@ -1,5 +1,5 @@
 // A line of values to its record: the program is run on them, with registers that start as 0.0 and a budget of all its code.
-ghost use Rattle.std.specs.Prelude.{◌≡◌, ◌+◌, ◌≤◌, length};
+ghost use Rattle.std.specs.Prelude.{◌≡◌, ◌+◌, ◌≤◌, length, IfOk};
 ghost use Rattle.layout.specs.Decode.{register_total};
 ghost use Rattle.run.specs.Views.{Writable};
 ghost use Rattle.lines.specs.Record.{Answers, Ready, Records, Runs};
@@ -46,15 +46,15 @@ fn refused(refusal: Refusal) -> Outcome
 
 // "A value line that isn't hex digits and commas as said shows `bad` with 3; otherwise a wrong count of values or a value
 // that isn't finite shows 5."
-fn answer_of(p: Checked, found: Option<usize>, values: &[f64], regs: &mut [f64]) -> Outcome
-    requires { Ready p.bytes.now (length values.now) (length regs.old) }
+fn answer_of(p: Checked, found: Result<usize, Refusal>, values: &[f64], regs: &mut [f64]) -> Outcome
+    requires ready { Ready p.bytes.now (length values.now) (length regs.old) }
+    requires within { IfOk found (λ n. n ≤ length values.now) }
     ensures answers { Answers p.entry.bytes.now found values.now result }
     ensures place { Writable p.entry.bytes.now 8192 result.answer }
 {
     match found {
-        None => refused(Refusal::MalformedLine),
-        Some(n) if n <= values.len() => run_values(p, &values[..n], regs),
-        Some(_) => refused(Refusal::InvalidInput),
+        Ok(n) => run_values(p, &values[..n], regs),
+        Err(refusal) => refused(refusal),
     }
 }
 
@@ -82,9 +82,9 @@ pub(crate) fn put_record(
     let found = finish(line.reading, values);
     let program = Checked { bytes: p };
     let outcome = answer_of(program, found, values, regs);
-    let end = put_line(program, out, at, line.number, outcome.answer, outcome.count);
+    let end = put_line(program, out, at, line.number, outcome);
     Recorded {
         end,
-        totals: line.totals.with_line(outcome.answer, outcome.count),
+        totals: line.totals.with_line(outcome),
     }
 }

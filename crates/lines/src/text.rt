@@ -17,8 +17,9 @@ ghost use Rattle.listing.specs.Totals.{total_line};
 ghost use Rattle.lines.specs.Sums.{totals_of};
 ghost use Rattle.lines.specs.Text.{StepsOf, Wrote, shown};
 
+use crate::record::Outcome;
 use crate::sums::Totals;
-use layout::{CODE_AT, HEADER_SIZE, PATHS_AT, RECORD_SIZE, SLOT_SIZE};
+use layout::{CODE_AT, HEADER_SIZE, LENGTH_AT, RECORD_SIZE, SLOT_SIZE};
 use refusals::Refusal;
 use run::Answer;
 use values::words::write_eight;
@@ -93,16 +94,16 @@ fn put_bad(out: &mut [u8], at: usize, refusal: Refusal) -> usize
 }
 
 // How many bytes the text of a path record has.
+#[tactic(auto, using(crate::proofs::Runs::paths_few), unfolding(layout::specs::Decode::length_at, layout::specs::Decode::record_at, layout::specs::Decode::code_count))]
 fn path_length(p: &[u8], k: usize) -> usize
     requires { k < path_total p.now }
     ensures { result ≡ length_at p.now k }
 {
     let code = reader::word(p, CODE_AT);
-    let paths = reader::word(p, PATHS_AT);
-    if k < paths {
-        return reader::word(p, HEADER_SIZE + SLOT_SIZE * code + RECORD_SIZE * k + 8);
-    }
-    0
+    reader::word(
+        p,
+        HEADER_SIZE + SLOT_SIZE * code + RECORD_SIZE * k + LENGTH_AT,
+    )
 }
 
 // The path goes straight into the output, of which just its own bytes are lent.
@@ -134,12 +135,12 @@ fn put_answer(p: Checked, out: &mut [u8], at: usize, answer: Answer) -> usize
 }
 
 // "`bad` is a malformed or refused line, steps 0."
-fn steps_of(answer: Answer, count: usize) -> usize
-    ensures { StepsOf answer count result }
+fn steps_of(outcome: Outcome) -> usize
+    ensures { StepsOf outcome result }
 {
-    match answer {
+    match outcome.answer {
         Answer::Refused(_) => 0,
-        _ => count,
+        _ => outcome.count,
     }
 }
 
@@ -149,18 +150,17 @@ pub(crate) fn put_line(
     out: &mut [u8],
     at: usize,
     number: u64,
-    answer: Answer,
-    count: usize,
+    outcome: Outcome,
 ) -> usize
-    requires { (Writable p.bytes.now 8192 answer) × (at + 8242 ≤ length out.old) }
-    ensures wrote { Wrote out.old at (printed number (line_of (answer_of p.entry.bytes.now answer) count)) out.new result }
+    requires { (Writable p.bytes.now 8192 outcome.answer) × (at + 8242 ≤ length out.old) }
+    ensures wrote { Wrote out.old at (printed number (line_of (answer_of p.entry.bytes.now outcome.answer) outcome.count)) out.new result }
     ensures room { result ≤ at + 8242 }
 {
     let comma = put_decimal(out, at, number);
     let first = put_bytes(out, comma, b",");
-    let end = put_answer(p, out, first, answer);
+    let end = put_answer(p, out, first, outcome.answer);
     let last = put_bytes(out, end, b",");
-    let newline = put_decimal(out, last, steps_of(answer, count) as u64);
+    let newline = put_decimal(out, last, steps_of(outcome) as u64);
     put_bytes(out, newline, b"\n")
 }
 

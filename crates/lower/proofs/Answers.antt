@@ -21,7 +21,6 @@ use Rattle.lower.specs.declared.Cursor.{Cursor}
 use Rattle.lower.specs.declared.Site.{Site}
 use Rattle.lower.specs.declared.Choice.{Choice}
 use Rattle.lower.specs.declared.Source.{Source}
-use Rattle.lower.specs.declared.Value.{Value}
 use Rattle.lower.specs.Low.{Low, Faulty}
 use Rattle.lower.proofs.Keeps.{kept_here, kept_then}
 use Rattle.lower.proofs.Says.{here}
@@ -76,14 +75,14 @@ pub arm_ready : {L : Layout} {p : List ℕ} {s : Site} {c : Cursor} (b : List �
 arm_ready {L} {p} {s} {c} b d j left x y e R = subst (λ (z : ℕ). Ready L p s c (instruction_count (arm b d j left z)) (path_count (arm b d j left z)) (entry_count (arm b d j left z))) e R
 
 -- the arms of a choice
-abbrev pub arms_of : {p : List ℕ} {s : Site} {c : Cursor} (S : Source) (d : ℕ) (A : Choice) (v : Value)
+abbrev pub arms_of : {p : List ℕ} {s : Site} {c : Cursor} (S : Source) (d : ℕ) (A : Choice)
     → let y = arm S.bytes.now d A.yes.conjunction A.yes.left c.node in
     let z = arm S.bytes.now d A.no.conjunction A.no.left (past S.bytes.now d A.yes.left c.node) in
     Ready S.layout p s c (4 + instruction_count y + instruction_count z) (path_count y + path_count z) (entry_count y + entry_count z)
     → Arms S.layout p s c
-arms_of {p} {s} {c} S d A v R =
+arms_of {p} {s} {c} S d A R =
     arms (context_of S.kinds.now S.layout.generated) refl (arm S.bytes.now d A.yes.conjunction A.yes.left c.node)
-    (arm S.bytes.now d A.no.conjunction A.no.left (past S.bytes.now d A.yes.left c.node)) v (past S.bytes.now d A.yes.left c.node)
+    (arm S.bytes.now d A.no.conjunction A.no.left (past S.bytes.now d A.yes.left c.node)) A.condition (past S.bytes.now d A.yes.left c.node)
     (past S.bytes.now d A.no.left (past S.bytes.now d A.yes.left c.node)) R
 
 -- an arm by another name of its cursor

@@ -1,6 +1,6 @@
 -- What a part of the code returns, as an answer.
 use mathlib.Core.Path.{◌≡◌, refl, sym, ap, ap₂, subst, ◌∙◌}
-use mathlib.Core.Bool.{Bool, true, false, beq}
+use mathlib.Core.Bool.{Bool, true, false, beq, not}
 use mathlib.Core.List.{List}
 use Prim.Native.Nat.{ℕ}
 use Rattle.std.specs.Prelude.{Result, Ok, Err}
@@ -47,3 +47,10 @@ same_as true true = refl
 same_as true false = refl
 same_as false true = refl
 same_as false false = refl
+
+-- arms that the code tells as of one kind
+pub alike : (a b : Bool) → not (beq a b) ≡ false → same_kind (kind_if a) (kind_if b) ≡ true
+alike true true e = refl
+alike true false e = absurd (cc)
+alike false true e = absurd (cc)
+alike false false e = refl

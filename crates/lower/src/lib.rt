@@ -16,10 +16,14 @@ ghost use Rattle.lower.specs.Leaf.{Loads};
 ghost use Rattle.lower.specs.Operators.{arity_at, gives_boolean, listing_at, opcode_at, stepped_at, takes_boolean, chooses_at};
 
 use floats::value::{is_finite, of_bits};
-use layout::{ENTRY_SIZE, HEADER_SIZE, RECORD_SIZE, SLOT_SIZE};
+use layout::{
+    A_AT, B_AT, C_AT, COUNT_AT, DESTINATION_AT, ENTRY_SIZE, HEADER_SIZE, LENGTH_AT, PATH_AT,
+    RECORD_SIZE, SLOT_SIZE, STEP_AT, opcode,
+};
 use names::Kind;
 use reader::{
     BINARY, BOOLEAN, CALL, COMPARE, CONDITIONAL, Fields, NODE_SIZE, NUMBER, SYMBOL, TRUTH, UNARY,
+    operator,
 };
 use refusals::Refusal;
 use writer::{put_half, put_long, put_word};
@@ -96,6 +100,13 @@ impl Site {
     }
 }
 
+// A step down from a site, by its number in a record.
+#[derive(Clone, Copy)]
+struct Step {
+    from: Site,
+    number: usize,
+}
+
 // A node's register, or the first three of its children's; whether it is Boolean; whether it varies.
 #[derive(Clone, Copy)]
 pub struct Value {
@@ -126,11 +137,21 @@ const CHILD: Chain = Chain {
     left: 1,
 };
 
-// What a condition chooses from: the children of either arm.
+// A condition that is lowered, and what it chooses from: the children of either arm.
 #[derive(Clone, Copy)]
 struct Choice {
+    condition: Value,
     yes: Chain,
     no: Chain,
+}
+
+// A condition and both its arms, lowered, and what was next free after the first.
+#[derive(Clone, Copy)]
+struct Chosen {
+    condition: Value,
+    yes: Value,
+    no: Value,
+    middle: Cursor,
 }
 
 // The children of an operation, from one of them on: what kind each has to be, whether they go into its list, and which they are.
@@ -142,37 +163,42 @@ struct Operands {
     left: usize,
 }
 
+// What no children of an operation come to.
+const NOTHING: Value = Value {
+    a: 0,
+    b: 0,
+    c: 0,
+    boolean: true,
+    dynamic: false,
+};
+
 // ---- bytes
 
-const LOAD: usize = 1;
-
-const COPY: usize = 2;
-
-const BRANCH: usize = 3;
-
-const JUMP: usize = 4;
-
-// The instruction n: opcode, a zero, the list's length, destination, three operands, path number.
-fn put_slot(
-    p: &mut [u8],
-    n: usize,
+// An instruction that is no constant, as its bytes tell it.
+#[derive(Clone, Copy)]
+struct Instruction {
     opcode: usize,
     count: usize,
     destination: usize,
     operands: [usize; 3],
     path: usize,
-)
-    requires { (56 + 24 * n ≤ length p.old) × (opcode < 256) }
-    ensures { p.new ≡ over p.old (32 + 24 * n) (slot opcode count destination (get_or operands 0 0) (get_or operands 1 0) (get_or operands 2 0) path) }
-{
-    let at = HEADER_SIZE + SLOT_SIZE * n;
-    put_half(p, at, opcode);
-    put_half(p, at + 2, count);
-    put_word(p, at + 4, destination);
-    put_word(p, at + 8, operands[0]);
-    put_word(p, at + 12, operands[1]);
-    put_word(p, at + 16, operands[2]);
-    put_word(p, at + 20, path);
+}
+
+impl Instruction {
+    // The instruction n: opcode, a zero, the list's length, destination, three operands, path number.
+    fn put(self, p: &mut [u8], n: usize)
+        requires { (56 + 24 * n ≤ length p.old) × (self.opcode < 256) }
+        ensures { p.new ≡ over p.old (32 + 24 * n) (slot self.opcode self.count self.destination (get_or self.operands 0 0) (get_or self.operands 1 0) (get_or self.operands 2 0) self.path) }
+    {
+        let at = HEADER_SIZE + SLOT_SIZE * n;
+        put_half(p, at, self.opcode);
+        put_half(p, at + COUNT_AT, self.count);
+        put_word(p, at + DESTINATION_AT, self.destination);
+        put_word(p, at + A_AT, self.operands[0]);
+        put_word(p, at + B_AT, self.operands[1]);
+        put_word(p, at + C_AT, self.operands[2]);
+        put_word(p, at + PATH_AT, self.path);
+    }
 }
 
 // The instruction n is a constant with these bits.
@@ -181,55 +207,27 @@ fn put_constant(p: &mut [u8], n: usize, bits: u64, destination: usize, path: usi
     ensures { p.new ≡ over p.old (32 + 24 * n) (constant_slot bits destination path) }
 {
     let at = HEADER_SIZE + SLOT_SIZE * n;
-    put_half(p, at, 0);
-    put_half(p, at + 2, 0);
-    put_word(p, at + 4, destination);
-    put_long(p, at + 8, bits);
-    put_word(p, at + 16, 0);
-    put_word(p, at + 20, path);
+    put_half(p, at, opcode::CONSTANT);
+    put_half(p, at + COUNT_AT, 0);
+    put_word(p, at + DESTINATION_AT, destination);
+    put_long(p, at + A_AT, bits);
+    put_word(p, at + C_AT, 0);
+    put_word(p, at + PATH_AT, path);
 }
 
 // A path record: the parent's number, the step, how long the text is.
+// Not a `Record`, as paths reads one: each call has its three numbers apart, so one would be made there to be taken apart here.
 pub fn put_record(p: &mut [u8], at: usize, parent: usize, step: usize, long: usize)
     requires { at + 12 ≤ length p.old }
     ensures { p.new ≡ over p.old at (little_endian 4 parent ++ little_endian 4 step ++ little_endian 4 long) }
 {
     put_word(p, at, parent);
-    put_word(p, at + 4, step);
-    put_word(p, at + 8, long);
+    put_word(p, at + STEP_AT, step);
+    put_word(p, at + LENGTH_AT, long);
 }
 
-// A register in an operation's list, where it has one.
-fn list_entry(p: &mut [u8], lists: bool, base: usize, entry: usize, reg: usize)
-    requires { cond lists (base + 4 * entry + 4) 0 ≤ length p.old }
-    ensures { p.new ≡ cond lists (over p.old (base + 4 * entry) (little_endian 4 reg)) p.old }
-{
-    if lists {
-        put_word(p, base + ENTRY_SIZE * entry, reg);
-    }
-}
-
-// ---- operators, by kind and number
-
-const AND: u8 = 0;
-
-const NOT: u8 = 2;
-
-const MODULO: u8 = 5;
-
-const FLOOR: u8 = 9;
-
-const CEIL: u8 = 10;
-
-const MIN: u8 = 11;
-
-const MAX: u8 = 12;
-
-const HILL: u8 = 13;
-
-const IFELSE: u8 = 14;
-
-const DENSITY: u8 = 15;
+// ---- operators, by kind and number: each test reads as its definition in specs/Operators.
+// They tell eleven classes of operations apart, and an enum of these would be matched in each test again.
 
 #[tactic(auto, unfolding(crate::specs::Operators::arity_at))]
 fn arity(kind: u8, operator: u8, n: usize) -> bool
@@ -239,8 +237,8 @@ fn arity(kind: u8, operator: u8, n: usize) -> bool
         return true;
     }
     match operator {
-        MIN | MAX => 2 <= n,
-        HILL | DENSITY => n == 3,
+        operator::MIN | operator::MAX => 2 <= n,
+        operator::HILL | operator::DENSITY => n == 3,
         _ => n == 1,
     }
 }
@@ -249,7 +247,7 @@ fn arity(kind: u8, operator: u8, n: usize) -> bool
 fn takes(kind: u8, operator: u8) -> bool
     ensures { result ≡ takes_boolean kind operator }
 {
-    kind == UNARY && operator == NOT
+    kind == UNARY && operator == operator::NOT
 }
 
 #[tactic(auto, unfolding(crate::specs::Operators::gives_boolean))]
@@ -257,7 +255,7 @@ fn gives(kind: u8, operator: u8) -> bool
     ensures { result ≡ gives_boolean kind operator }
 {
     match kind {
-        UNARY => operator == NOT,
+        UNARY => operator == operator::NOT,
         COMPARE => true,
         _ => false,
     }
@@ -268,8 +266,8 @@ fn stepped(kind: u8, operator: u8) -> bool
     ensures { result ≡ stepped_at kind operator }
 {
     match kind {
-        BINARY => operator == MODULO,
-        CALL => operator == FLOOR || operator == CEIL,
+        BINARY => operator == operator::MODULO,
+        CALL => operator == operator::FLOOR || operator == operator::CEIL,
         _ => false,
     }
 }
@@ -278,7 +276,7 @@ fn stepped(kind: u8, operator: u8) -> bool
 pub fn listing(kind: u8, operator: u8) -> bool
     ensures { result ≡ listing_at kind operator }
 {
-    kind == CALL && (operator == MIN || operator == MAX)
+    kind == CALL && (operator == operator::MIN || operator == operator::MAX)
 }
 
 // A conditional, or Ifelse.
@@ -288,7 +286,7 @@ pub fn chooses(f: Fields) -> bool
 {
     match f.kind {
         CONDITIONAL => true,
-        CALL => f.operator == IFELSE,
+        CALL => f.operator == operator::IFELSE,
         _ => false,
     }
 }
@@ -298,11 +296,11 @@ fn opcode(kind: u8, operator: u8) -> usize
     ensures { (result ≡ opcode_at kind operator) × (result ≤ 34 + operator) }
 {
     match kind {
-        UNARY => 5 + usize::from(operator),
-        BINARY => 8 + usize::from(operator),
-        COMPARE => 14 + usize::from(operator),
-        _ if operator == DENSITY => 34,
-        _ => 20 + usize::from(operator),
+        UNARY => opcode::POSITIVE + usize::from(operator),
+        BINARY => opcode::ADD + usize::from(operator),
+        COMPARE => opcode::LT + usize::from(operator),
+        _ if operator == operator::DENSITY => opcode::DENSITY,
+        _ => opcode::EXP + usize::from(operator),
     }
 }
 
@@ -310,7 +308,7 @@ fn opcode(kind: u8, operator: u8) -> usize
 fn unsupported(jumps: bool, varies: bool, generated: bool) -> bool
     ensures { result ≡ not (generated || not (jumps && varies)) }
 {
-    !(generated || !(jumps && varies))
+    jumps && varies && !generated
 }
 
 // ---- leaves
@@ -336,59 +334,65 @@ fn load(p: &mut [u8], kinds: &[Kind], s: Site, i: usize, c: &mut Cursor) -> Resu
     requires { (56 + 24 * c.old.code ≤ length p.old) × (c.old.reg ≤ c.old.code) }
     ensures { Loads (ltb i (length kinds.now)) kinds.now s i c.old p.old p.new (low_of result c.new) }
 {
-    if i < kinds.len() {
-        put_slot(p, c.code, LOAD, 0, c.reg, [i, 0, 0], s.path);
-        return Ok(c.store(false, kinds[i] != Kind::Parameter));
+    let Some(&kind) = kinds.get(i) else {
+        return Err(s.fault(Refusal::UnknownSymbol));
+    };
+    Instruction {
+        opcode: opcode::LOAD,
+        count: 0,
+        destination: c.reg,
+        operands: [i, 0, 0],
+        path: s.path,
     }
-    Err(s.fault(Refusal::UnknownSymbol))
+    .put(p, c.code);
+    Ok(c.store(false, kind != Kind::Parameter))
 }
 
-// The end of both arms of a condition, of which the first ends at `e`: the jump over the second one, its copy, and what they come
-// to.
-fn join(
-    p: &mut [u8],
-    s: Site,
-    v: Value,
-    y: Value,
-    z: Value,
-    e: Cursor,
-    c: &mut Cursor,
-) -> Result<Value, Fault>
-    requires { (80 + 24 * e.code ≤ length p.old) × (56 + 24 * c.old.code ≤ length p.old) × (e.reg + 1 < 2 ^ 64) }
-    ensures { (low_of result c.new ≡ arms_answer s.path v y z e c.old) × (p.new ≡ arms_bytes s.path y z e c.old p.old) }
-{
-    if y.boolean != z.boolean {
-        return Err(s.fault(Refusal::WrongType));
+impl Chosen {
+    // The end of both arms: the jump over the second one, its copy, and what they come to.
+    fn join(self, p: &mut [u8], s: Site, c: &mut Cursor) -> Result<Value, Fault>
+        requires { (80 + 24 * self.middle.code ≤ length p.old) × (56 + 24 * c.old.code ≤ length p.old) × (self.middle.reg + 1 < 2 ^ 64) }
+        ensures { (low_of result c.new ≡ arms_answer s.path self.condition self.yes self.no self.middle c.old) × (p.new ≡ arms_bytes s.path self.yes self.no self.middle c.old p.old) }
+    {
+        if self.yes.boolean != self.no.boolean {
+            return Err(s.fault(Refusal::WrongType));
+        }
+        Instruction {
+            opcode: opcode::JUMP,
+            count: 0,
+            destination: self.middle.reg + 1,
+            operands: [0, 0, c.code + 1],
+            path: s.path,
+        }
+        .put(p, self.middle.code + 1);
+        Instruction {
+            opcode: opcode::COPY,
+            count: 0,
+            destination: self.middle.reg,
+            operands: [self.no.a, 0, 0],
+            path: s.path,
+        }
+        .put(p, c.code);
+        c.code += 1;
+        Ok(Value {
+            a: self.middle.reg,
+            b: 0,
+            c: 0,
+            boolean: self.yes.boolean,
+            dynamic: self.condition.dynamic | self.yes.dynamic | self.no.dynamic,
+        })
     }
-    put_slot(
-        p,
-        e.code + 1,
-        JUMP,
-        0,
-        e.reg + 1,
-        [0, 0, c.code + 1],
-        s.path,
-    );
-    put_slot(p, c.code, COPY, 0, e.reg, [z.a, 0, 0], s.path);
-    c.code += 1;
-    Ok(Value {
-        a: e.reg,
-        b: 0,
-        c: 0,
-        boolean: y.boolean,
-        dynamic: v.dynamic | y.dynamic | z.dynamic,
-    })
 }
 
 impl Source<'_> {
-    // A path's record, one step below a site.
-    fn enter(&self, p: &mut [u8], above: Site, step: usize, own: usize) -> Site
-        requires { (self.now.layout.paths + 12 * own + 12 ≤ length p.old) × (above.length ≤ 2 ^ 32) × (step < 2 ^ 32) }
-        ensures { (result ≡ record { path = own; length = above.length + length (step_text (step_of step)) }) × (p.new ≡ over p.old (self.now.layout.paths + 12 * own) (little_endian 4 above.path ++ little_endian 4 step ++ little_endian 4 (above.length + length (step_text (step_of step))))) }
+    // The record of the path one step below a site.
+    fn enter(&self, p: &mut [u8], step: Step, own: usize) -> Site
+        requires { (self.now.layout.paths + 12 * own + 12 ≤ length p.old) × (step.from.length ≤ 2 ^ 32) × (step.number < 2 ^ 32) }
+        ensures { (result ≡ record { path = own; length = step.from.length + length (step_text (step_of step.number)) }) × (p.new ≡ over p.old (self.now.layout.paths + 12 * own) (little_endian 4 step.from.path ++ little_endian 4 step.number ++ little_endian 4 (step.from.length + length (step_text (step_of step.number))))) }
     {
-        let length = above.length + paths::step_length(step);
+        let length = step.from.length + paths::step_length(step.number);
         let at = self.layout.paths + RECORD_SIZE * own;
-        put_record(p, at, above.path, step, length);
+        put_record(p, at, step.from.path, step.number, length);
         Site { path: own, length }
     }
 
@@ -434,11 +438,25 @@ impl Source<'_> {
         let o = opcode(f.kind, f.operator);
         let boolean = gives(f.kind, f.operator);
         if listing(f.kind, f.operator) {
-            put_slot(p, c.code, o, f.children, c.reg, [c.entry, 0, 0], s.path);
+            Instruction {
+                opcode: o,
+                count: f.children,
+                destination: c.reg,
+                operands: [c.entry, 0, 0],
+                path: s.path,
+            }
+            .put(p, c.code);
             c.entry += f.children;
             return Ok(c.store(boolean, v.dynamic));
         }
-        put_slot(p, c.code, o, 0, c.reg, [v.a, v.b, v.c], s.path);
+        Instruction {
+            opcode: o,
+            count: 0,
+            destination: c.reg,
+            operands: [v.a, v.b, v.c],
+            path: s.path,
+        }
+        .put(p, c.code);
         Ok(c.store(boolean, v.dynamic))
     }
 
@@ -449,17 +467,16 @@ impl Source<'_> {
     fn lower(
         &self,
         p: &mut [u8],
-        above: Site,
-        step: usize,
+        step: Step,
         chain: Chain,
         levels: usize,
         c: &mut Cursor,
     ) -> Result<Value, Fault>
-        requires ready { RoomFor self.now.layout p.old above c.old (arm self.now.bytes.now levels chain.conjunction chain.left c.old.node) }
-        requires formed { (all_well_formed (kids self.now.bytes.now levels chain.left c.old.node) ≡ true) × (step < 65539) × (chain.left < 65536) }
-        ensures { Says (term_piece (context self.now) (arm self.now.bytes.now levels chain.conjunction chain.left c.old.node) (place self.now.layout p.old above ▸ step_of step) above.path c.old (past self.now.bytes.now levels chain.left c.old.node)) self.now.layout c.old p.old p.new (low_of result c.new) }
+        requires ready { RoomFor self.now.layout p.old step.from c.old (arm self.now.bytes.now levels chain.conjunction chain.left c.old.node) }
+        requires formed { (all_well_formed (kids self.now.bytes.now levels chain.left c.old.node) ≡ true) × (step.number < 65539) × (chain.left < 65536) }
+        ensures { Says (term_piece (context self.now) (arm self.now.bytes.now levels chain.conjunction chain.left c.old.node) (place self.now.layout p.old step.from ▸ step_of step.number) step.from.path c.old (past self.now.bytes.now levels chain.left c.old.node)) self.now.layout c.old p.old p.new (low_of result c.new) }
     {
-        let site = self.enter(p, above, step, c.path);
+        let site = self.enter(p, step, c.path);
         c.path += 1;
         if chain.left == 0 {
             return Ok(constant(p, site, truth(!chain.conjunction), true, c));
@@ -488,7 +505,7 @@ impl Source<'_> {
                 return Err(s.fault(Refusal::InvalidInput));
             }
             let chain = Chain {
-                conjunction: f.operator == AND,
+                conjunction: f.operator == operator::AND,
                 left: f.children,
             };
             return self.link(p, s, chain, below, c);
@@ -497,12 +514,13 @@ impl Source<'_> {
             if f.children != 3 {
                 return Err(s.fault(Refusal::InvalidInput));
             }
-            let condition = self.lower(p, s, 0, CHILD, below, c)?;
-            let arms = Choice {
+            let condition = self.lower(p, Step { from: s, number: 0 }, CHILD, below, c)?;
+            let choice = Choice {
+                condition,
                 yes: CHILD,
                 no: CHILD,
             };
-            return self.branch(p, s, condition, arms, below, c);
+            return self.branch(p, s, choice, below, c);
         }
         let all = Operands {
             boolean: takes(f.kind, f.operator),
@@ -528,24 +546,26 @@ impl Source<'_> {
         requires formed { (all_well_formed (kids self.now.bytes.now levels chain.left c.old.node) ≡ true) × (2 ≤ chain.left) × (chain.left < 65536) }
         ensures { Says (own_piece (context self.now) (arm self.now.bytes.now levels chain.conjunction chain.left c.old.node) (place self.now.layout p.old s) s.path c.old (past self.now.bytes.now levels chain.left c.old.node)) self.now.layout c.old p.old p.new (low_of result c.new) }
     {
-        let first = self.lower(p, s, 0, CHILD, levels, c)?;
+        let condition = self.lower(p, Step { from: s, number: 0 }, CHILD, levels, c)?;
         let rest = Chain {
             left: chain.left - 1,
             ..chain
         };
         let none = Chain { left: 0, ..chain };
         if chain.conjunction {
-            let arms = Choice {
+            let choice = Choice {
+                condition,
                 yes: rest,
                 no: none,
             };
-            return self.branch(p, s, first, arms, levels, c);
+            return self.branch(p, s, choice, levels, c);
         }
-        let arms = Choice {
+        let choice = Choice {
+            condition,
             yes: none,
             no: rest,
         };
-        self.branch(p, s, first, arms, levels, c)
+        self.branch(p, s, choice, levels, c)
     }
 
     // The arms of a condition. A jump is written once its target is known.
@@ -554,43 +574,54 @@ impl Source<'_> {
         &self,
         p: &mut [u8],
         s: Site,
-        v: Value,
-        arms: Choice,
+        choice: Choice,
         levels: usize,
         c: &mut Cursor,
     ) -> Result<Value, Fault>
-        requires ready { RoomForArms self.now.layout p.old s c.old (arm self.now.bytes.now levels arms.yes.conjunction arms.yes.left c.old.node) (arm self.now.bytes.now levels arms.no.conjunction arms.no.left (past self.now.bytes.now levels arms.yes.left c.old.node)) }
-        requires formed { (all_well_formed (kids self.now.bytes.now levels arms.yes.left c.old.node) ≡ true) × (all_well_formed (kids self.now.bytes.now levels arms.no.left (past self.now.bytes.now levels arms.yes.left c.old.node)) ≡ true) × (arms.yes.left < 65536) × (arms.no.left < 65536) }
-        ensures { Says (branch_piece (context self.now) v (arm self.now.bytes.now levels arms.yes.conjunction arms.yes.left c.old.node) (arm self.now.bytes.now levels arms.no.conjunction arms.no.left (past self.now.bytes.now levels arms.yes.left c.old.node)) (place self.now.layout p.old s) s.path c.old (past self.now.bytes.now levels arms.no.left (past self.now.bytes.now levels arms.yes.left c.old.node))) self.now.layout c.old p.old p.new (low_of result c.new) }
+        requires ready { RoomForArms self.now.layout p.old s c.old (arm self.now.bytes.now levels choice.yes.conjunction choice.yes.left c.old.node) (arm self.now.bytes.now levels choice.no.conjunction choice.no.left (past self.now.bytes.now levels choice.yes.left c.old.node)) }
+        requires formed { (all_well_formed (kids self.now.bytes.now levels choice.yes.left c.old.node) ≡ true) × (all_well_formed (kids self.now.bytes.now levels choice.no.left (past self.now.bytes.now levels choice.yes.left c.old.node)) ≡ true) × (choice.yes.left < 65536) × (choice.no.left < 65536) }
+        ensures { Says (branch_piece (context self.now) choice.condition (arm self.now.bytes.now levels choice.yes.conjunction choice.yes.left c.old.node) (arm self.now.bytes.now levels choice.no.conjunction choice.no.left (past self.now.bytes.now levels choice.yes.left c.old.node)) (place self.now.layout p.old s) s.path c.old (past self.now.bytes.now levels choice.no.left (past self.now.bytes.now levels choice.yes.left c.old.node))) self.now.layout c.old p.old p.new (low_of result c.new) }
     {
-        if !v.boolean {
+        if !choice.condition.boolean {
             return Err(s.fault(Refusal::WrongType));
         }
-        if unsupported(true, v.dynamic, self.layout.generated) {
+        if unsupported(true, choice.condition.dynamic, self.layout.generated) {
             return Err(s.fault(Refusal::Unsupported));
         }
         let begun = *c;
         c.advance(1);
-        let y = self.lower(p, s, 1, arms.yes, levels, c)?;
-        let e = *c;
-        let target = e.code + 2;
-        put_slot(
-            p,
-            begun.code,
-            BRANCH,
-            0,
-            begun.reg,
-            [v.a, 0, target],
-            s.path,
-        );
-        put_slot(p, e.code, COPY, 0, e.reg, [y.a, 0, 0], s.path);
+        let y = self.lower(p, Step { from: s, number: 1 }, choice.yes, levels, c)?;
+        let middle = *c;
+        let target = middle.code + 2;
+        Instruction {
+            opcode: opcode::BRANCH,
+            count: 0,
+            destination: begun.reg,
+            operands: [choice.condition.a, 0, target],
+            path: s.path,
+        }
+        .put(p, begun.code);
+        Instruction {
+            opcode: opcode::COPY,
+            count: 0,
+            destination: middle.reg,
+            operands: [y.a, 0, 0],
+            path: s.path,
+        }
+        .put(p, middle.code);
         c.advance(2);
-        let z = self.lower(p, s, 2, arms.no, levels, c)?;
-        join(p, s, v, y, z, e, c)
+        let z = self.lower(p, Step { from: s, number: 2 }, choice.no, levels, c)?;
+        let chosen = Chosen {
+            condition: choice.condition,
+            yes: y,
+            no: z,
+            middle,
+        };
+        chosen.join(p, s, c)
     }
 
     // Some children of an operation, or none. That is asked before the call that lowers one: as one function with `operand` it
-    // takes 4 per cent more machine instructions of compile.
+    // takes 4 per cent more machine instructions of compile, and asked in `node` 1 per cent more.
     #[cycle(lowering)]
     fn operands(
         &self,
@@ -605,19 +636,14 @@ impl Source<'_> {
         ensures { Lists self.now.layout o.lists (terms (kids self.now.bytes.now levels o.left c.old.node)) o.first (operands_piece (context self.now) o.boolean (terms (kids self.now.bytes.now levels o.left c.old.node)) (place self.now.layout p.old s) o.first s.path c.old (past self.now.bytes.now levels o.left c.old.node)) c.old p.old p.new (low_of result c.new) }
     {
         if o.left == 0 {
-            return Ok(Value {
-                a: 0,
-                b: 0,
-                c: 0,
-                boolean: true,
-                dynamic: false,
-            });
+            return Ok(NOTHING);
         }
         self.operand(p, s, o, levels, c)
     }
 
     // The first of them, and those after it; on the way back their registers go into the operation's list, whose place is known
-    // only then.
+    // only then. Whether any are left is asked here too: asked by `operands`, compile takes 12 per cent more time for operations of
+    // two children and 4 to 5 for nested conditionals, as what none come to is then written as bytes and read as a word.
     #[cycle(lowering)]
     fn operand(
         &self,
@@ -631,15 +657,25 @@ impl Source<'_> {
         requires formed { (all_well_formed (kids self.now.bytes.now levels o.left c.old.node) ≡ true) × (o.first + o.left < 65536) × (1 ≤ o.left) }
         ensures { Lists self.now.layout o.lists (terms (kids self.now.bytes.now levels o.left c.old.node)) o.first (operands_piece (context self.now) o.boolean (terms (kids self.now.bytes.now levels o.left c.old.node)) (place self.now.layout p.old s) o.first s.path c.old (past self.now.bytes.now levels o.left c.old.node)) c.old p.old p.new (low_of result c.new) }
     {
-        let v = self.lower(p, s, 3 + o.first, CHILD, levels, c)?;
+        let step = Step {
+            from: s,
+            number: 3 + o.first,
+        };
+        let v = self.lower(p, step, CHILD, levels, c)?;
         let rest = Operands {
             first: o.first + 1,
             left: o.left - 1,
             ..o
         };
-        let w = self.operands(p, s, rest, levels, c)?;
+        let w = if rest.left == 0 {
+            NOTHING
+        } else {
+            self.operand(p, s, rest, levels, c)?
+        };
         let entry = c.entry + o.first;
-        list_entry(p, o.lists, self.layout.lists, entry, v.a);
+        if o.lists {
+            put_word(p, self.layout.lists + ENTRY_SIZE * entry, v.a);
+        }
         Ok(Value {
             a: v.a,
             b: w.a,

@@ -1,19 +1,18 @@
 -- Hexadecimal digits.
-use mathlib.Core.Path.{◌≡◌, refl, sym, ap, ◌∙◌, subst}
+use mathlib.Core.Path.{◌≡◌, refl, ap}
 use mathlib.Core.Bool.{Bool, true, false, cond}
-use mathlib.Core.List.{List, [], ◌∷◌, ◌++◌, map, append_assoc, append-nil}
+use mathlib.Core.List.{List, [], ◌∷◌, ◌++◌, map}
 use mathlib.Core.Option.{Option, none, some}
-use Prim.Native.Nat.{ℕ, zero, suc, ◌+◌, ◌-◌, ◌/◌, ◌%◌, ◌≤◌, ◌<◌}
+use Prim.Native.Nat.{ℕ, suc, ◌+◌, ◌-◌, ◌≤◌, ◌<◌}
 use native.Mathlib.Omega.{arith}
-use lib.ListN.{length, get_or, drop, set, length-set}
-use lib.Seq.{drop-cons, drop-set-lt, get_or-set_same, drop-length}
+use lib.ListN.{length, get_or, drop}
 use lib.Dec.{eqb, ltb}
 use borrow.Author.Tests.{eqb-true, ne_eqb}
 use Rattle.formula.specs.Text.{all_some}
 use Rattle.formula.specs.Names.{between}
 use Rattle.formula.specs.Values.{hex_digits, found, place_in, digit_of, numbered, value_of, digits_in, hex}
 use Rattle.std.specs.Prelude.{Some}
-use Rattle.names.specs.Lines.{option_of}
+use Rattle.formula.specs.Optional.{given}
 use Rattle.names.proofs.Options.{option_some}
 use Rattle.formula.proofs.Tests.{no_true, passes}
 
@@ -31,7 +30,7 @@ place_below (x ∷ ds) i b n d h e =
 pub digit_below : (b d : ℕ) → digit_of b ≡ some d → d < 16
 digit_below b d e = place_below hex_digits 0 b 16 d (omega arith) e
 
-pub digit_is : (b d : ℕ) → Some d ≡ option_of (digit_of b) → (digit_of b ≡ some d) × (d < 16)
+pub digit_is : (b d : ℕ) → Some d ≡ given (digit_of b) → (digit_of b ≡ some d) × (d < 16)
 digit_is b d e = let q = option_some (digit_of b) d e in (q, digit_below b d q)
 
 -- ---- "the digit worked out by its formula: 48 more than the value below ten, 87 more from ten."
@@ -78,43 +77,3 @@ pub record Writing (n rest i : ℕ) (out : List ℕ) : Type 0 where
   pub below : i ≤ 16
   pub all : length out ≡ 16
   pub same : hex n ≡ digits_in i rest ++ drop i out
-
-pub writing_start : (n : ℕ) (out : List ℕ) → length out ≡ 16 → Writing n n 16 out
-writing_start n out e =
-    record {
-      below = omega arith;
-      all = e;
-      same = sym (ap (λ (j : ℕ). digits_in 16 n ++ drop j out) (sym e) ∙ ap (λ (ys : List ℕ). digits_in 16 n ++ ys) (drop-length out) ∙ append-nil (digits_in 16 n));
-    }
-
-digits_step : (i rest : ℕ) → (i ≡ 0 → ⊥) → digits_in i rest ≡ digits_in (i - 1) (rest / 16) ++ (get_or hex_digits (rest % 16) 0 ∷ [])
-digits_step zero rest h = absurd (h refl)
-digits_step (suc i) rest h =
-    let z : i ≡ suc i - 1 = omega arith in
-    ap (λ (j : ℕ). digits_in j (rest / 16) ++ (get_or hex_digits (rest % 16) 0 ∷ [])) z
-
-pub writing_more : (n rest i j k d : ℕ) (out : List ℕ) → Writing n rest i out → suc j ≡ i → k ≡ j → d ≡ get_or hex_digits (rest % 16) 0
-    → Writing n (rest / 16) k (set out j d)
-writing_more n rest i j k d out g z q e =
-    let l : j < length out = omega (arith, g.all, g.below) in
-    let y : i - 1 ≡ j = omega arith in
-    let c : drop j (set out j d) ≡ d ∷ drop i out =
-    drop-cons (set out j d) j 0 (omega (arith, length-set out j d))
-    ∙ ap (λ (x : ℕ). x ∷ drop (suc j) (set out j d)) (get_or-set_same out j d 0 l)
-    ∙ ap (λ (ys : List ℕ). d ∷ ys) (drop-set-lt (suc j) out j d (omega arith))
-    ∙ ap (λ (x : ℕ). d ∷ drop x out) z in
-    subst (λ (x : ℕ). Writing n (rest / 16) x (set out j d)) (sym q)
-    (record {
-      below = omega (arith, g.below);
-      all = length-set out j d ∙ g.all;
-      same =
-          g.same
-          ∙ ap (λ (ys : List ℕ). ys ++ drop i out) (digits_step i rest (λ h. omega arith))
-          ∙ ap (λ (x : ℕ). (digits_in x (rest / 16) ++ (get_or hex_digits (rest % 16) 0 ∷ [])) ++ drop i out) y
-          ∙ ap (λ (x : ℕ). (digits_in j (rest / 16) ++ (x ∷ [])) ++ drop i out) (sym e)
-          ∙ append_assoc (digits_in j (rest / 16)) (d ∷ []) (drop i out)
-          ∙ ap (λ (ys : List ℕ). digits_in j (rest / 16) ++ ys) (sym c);
-    })
-
-pub writing_end : (n rest i : ℕ) (out : List ℕ) → Writing n rest i out → i ≡ 0 → out ≡ hex n
-writing_end n rest i out g e = sym (g.same ∙ ap (λ (j : ℕ). digits_in j rest ++ drop j out) e)

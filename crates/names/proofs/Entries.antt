@@ -381,3 +381,6 @@ module _ (line : List ℕ) (at end : ℕ) (w : Letters line at end) where
 
     pub tells_kind : Tells line at end r
     tells_kind = tells_by r refl
+
+-- all that a function needs that tells an entry's kind
+pub ruleset entries = (no_room_there, too_long_there, no_colon_there, no_letter_there, no_comma_there, tells_kind)

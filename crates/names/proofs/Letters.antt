@@ -54,6 +54,9 @@ spelling_end line at end h g m =
     subst (λ (j : ℕ). Letters line at j × (h ≡ mark (take (j - at) (drop at line)))) e
     (record { from = g.from; inside = g.inside; each = g.each; last = λ l. absurd (omega arith) }, g.marked)
 
+-- the start and both ends
+pub ruleset spellings = (spelling_start, spelling_stop, spelling_end)
+
 -- ---- where an entry ends
 
 record Looking (line : List ℕ) (at end : ℕ) : Type 0 where

@@ -10,6 +10,7 @@ use lib.Dec.{eqb}
 use borrow.Author.Tests.{eqb-true, eqb-false}
 use Rattle.formula.specs.Text.{same_bytes}
 use Rattle.formula.proofs.Tests.{no_true, and_first, and_second}
+use Rattle.std.proofs.lemmas.List.Elements.{All-append, All-cons}
 use Rattle.names.specs.Lines.{mark_from, mark, text, Stands, Listed, Placed, repeats}
 use Rattle.names.specs.declared.Name.{Name}
 
@@ -58,15 +59,14 @@ pub not_placed : (line : List ℕ) (ns : List Name) (taken : List Bool) (x : Lis
 not_placed line [] taken x m h p e z = refl
 not_placed line (n ∷ ns) taken x m h p e z =
     let u =
-    unlike_marks (text line n) x n.mark m h.0.marked e
+    unlike_marks (text line n) x n.mark m (h 0 n (omega arith)).marked e
     (λ q. no_true (sym z ∙ ap (λ (y : ℕ). get_or taken (y % 1024) false) (sym q) ∙ p.0)) in
-    not_placed line ns taken x m h.1 p.1 e z ∙ ap (λ (b : Bool). b || repeats line ns x) u
+    not_placed line ns taken x m (λ k d l. h (suc k) d (omega arith)) p.1 e z ∙ ap (λ (b : Bool). b || repeats line ns x) u
 
 -- ---- one name more
 
 pub listed_more : (line : List ℕ) (ns : List Name) (n : Name) → Listed line ns → Stands line n → Listed line (ns ++ (n ∷ []))
-listed_more line [] n h s = (s, tt)
-listed_more line (m ∷ ns) n h s = (h.0, listed_more line ns n h.1 s)
+listed_more line ns n h s = All-append (Stands line) ns (n ∷ []) h (All-cons (Stands line) n [] s (λ k d l. absurd (omega arith)))
 
 -- where one more place is taken, all stay so
 placed_stays_by : (b : Bool) (taken : List Bool) (i j : ℕ) → eqb i j ≡ b → i < length taken → get_or taken j false ≡ true → get_or (set taken i true) j false ≡ true

@@ -1,6 +1,7 @@
 -- What the readers of the name line and of digits answer, in the words of their definitions.
 use Rattle.std.specs.Prelude.{◌≡◌, Bool, true, false, not, ◌||◌, List, [], ◌∷◌, ◌++◌, map, ℕ, zero, suc, ◌+◌, ◌-◌, ◌*◌, ◌%◌, ◌≤◌, ◌<◌, length, get_or, take, drop, replicate, eqb, Some, None}
 use Rattle.std.specs.Prelude as Std
+use Rattle.std.specs.List.{All, list_any}
 use Rattle.std.proofs.Math.Option.{Option, none, some}
 use Rattle.formula.specs.Text.{all, same_bytes, split, joined}
 use Rattle.formula.specs.Names.{SymbolKind, Parameter, State, Time, Input, Symbol, is_letter, is_digit, symbol_of, kinds}
@@ -8,11 +9,6 @@ use Rattle.names.specs.declared.Kind.{Kind}
 use Rattle.names.specs.declared.Kind.TheVariants as Kinds
 use Rattle.names.specs.declared.Name.{Name}
 use Rattle.names.specs.declared.Names.{Names}
-
--- the code's option
-abbrev pub option_of : {A : Type 0} → Option A → Std.Option A
-option_of none = None
-option_of (some a) = Some a
 
 -- 16 ^ i, above every number of i digits
 unfoldable pub cap : ℕ → ℕ
@@ -106,8 +102,7 @@ pub record Stands (line : List ℕ) (n : Name) : Type 0 where
   pub marked : n.mark ≡ mark (text line n)
 
 abbrev pub Listed : List ℕ → List Name → Type 0
-Listed line [] = Unit
-Listed line (n ∷ ns) = Stands line n × Listed line ns
+Listed line ns = All (λ n. Stands line n) ns
 
 -- the marks have taken their places in a table of 1024
 abbrev pub Placed : List Name → List Bool → Type 0
@@ -116,8 +111,7 @@ Placed (n ∷ ns) taken = (get_or taken (n.mark % 1024) false ≡ true) × Place
 
 -- whether one of the names has these bytes
 abbrev pub repeats : List ℕ → List Name → List ℕ → Bool
-repeats line [] x = false
-repeats line (n ∷ ns) x = same_bytes (text line n) x || repeats line ns x
+repeats line ns x = list_any (λ n. same_bytes (text line n) x) ns
 
 abbrev pub table_of : List Symbol → Names
 table_of ss = record { count = length ss; kinds = map kind_as (kinds ss) ++ replicate (256 - length ss) Kinds.Parameter }

@@ -1,14 +1,17 @@
 #![tactic(auto)]
 
 ghost use Rattle.std.specs.Prelude.{◌≡◌, ◌||◌, ◌+◌, ◌-◌, ◌%◌, ◌≤◌, ◌<◌, length, get_or, take, drop, IfSome};
+ghost use Rattle.std.specs.Result.{result_ok};
 ghost use Rattle.formula.specs.Text.{same_bytes};
 ghost use Rattle.formula.specs.Names.{is_letter, is_digit, kind_of, symbols_of};
 ghost use Rattle.formula.specs.Values.{digit_of, hex_digits, hex as hex_text};
-ghost use Rattle.names.specs.Lines.{option_of, kind_in, Letters, Tells, Stands, Listed, Placed, repeats, text, mark, names_of};
+ghost use Rattle.formula.specs.Optional.{given};
+ghost use Rattle.names.specs.Lines.{kind_in, Letters, Tells, Stands, Listed, Placed, repeats, text, mark, names_of};
 
 // ---- Digits of values: "each value is 16 lower-case hexadecimal digits, the bits of an f64, joined by commas."
 
 // "the digit worked out by its formula: 48 more than the value below ten, 87 more from ten."
+#[tactic(auto, using(crate::proofs::Digits::byte_is))]
 fn digit_byte(d: u8) -> u8
     requires { d < 16 }
     ensures { result ≡ get_or hex_digits d 0 }
@@ -18,7 +21,7 @@ fn digit_byte(d: u8) -> u8
 
 // And back: 48 less from `0` to `9`, 87 less from `a` to `f`; no other byte is a digit.
 pub fn digit(b: u8) -> Option<u64>
-    ensures is { result ≡ option_of (digit_of b) }
+    ensures is { result ≡ given (digit_of b) }
     ensures small { IfSome result (λ d. d < 16) }
 {
     match b {
@@ -34,8 +37,8 @@ pub fn hex(n: u64) -> [u8; 16]
 {
     let mut out = [0; 16];
     let mut rest = n;
-    for i in 0..16 {
-        out[15 - i] = digit_byte((rest % 16) as u8);
+    for i in (0..16).rev() {
+        out[i] = digit_byte((rest % 16) as u8);
         rest /= 16;
     }
     out
@@ -65,6 +68,8 @@ struct Word {
 }
 
 // Marks are numbers that equal names share, and others seldom: so most names are told apart by their marks.
+// The end and the mark come of one pass; a chain would be two, a `position` and a `fold`.
+#[tactic(auto, using(crate::proofs::Letters::spellings))]
 fn word_at(line: &[u8], at: usize) -> Word
     requires { at ≤ length line.now }
     ensures { Letters line.now at result.end × (result.mark ≡ mark (take (result.end - at) (drop at line.now))) }
@@ -92,47 +97,44 @@ pub enum Kind {
     Input,
 }
 
-fn kind_of(b: u8) -> Option<Kind>
-    ensures { result ≡ kind_in (kind_of b) }
-{
-    match b {
-        b'p' => Some(Kind::Parameter),
-        b's' => Some(Kind::State),
-        b't' => Some(Kind::Time),
-        b'i' => Some(Kind::Input),
-        _ => None,
+// No other byte is a kind.
+impl TryFrom<u8> for Kind {
+    type Error = ();
+
+    ghost try_from_gives = { λ b r. result_ok r ≡ kind_in (kind_of b) };
+
+    fn try_from(b: u8) -> Result<Kind, ()> {
+        match b {
+            b'p' => Ok(Kind::Parameter),
+            b's' => Ok(Kind::State),
+            b't' => Ok(Kind::Time),
+            b'i' => Ok(Kind::Input),
+            _ => Err(()),
+        }
     }
 }
 
 // The kind of the entry whose letters and digits end at a byte: a name of "1 to 64 bytes", a letter first, `:`, the kind, and a comma or
 // the line's end.
+#[tactic(auto, using(crate::proofs::Entries::entries))]
 fn kind_after(line: &[u8], at: usize, end: usize) -> Option<Kind>
     requires { Letters line.now at end }
     ensures { Tells line.now at end result }
 {
-    if line.len() - end < 2 {
+    if line.len() - end < 2 || end - at > 64 {
         return None;
     }
-    if end - at > 64 {
+    if line[end] != b':' || !is_letter(line[at]) {
         return None;
     }
-    if line[end] != b':' {
+    if end + 2 < line.len() && line[end + 2] != b',' {
         return None;
     }
-    if !is_letter(line[at]) {
-        return None;
-    }
-    let kind = kind_of(line[end + 1]);
-    if end + 2 == line.len() {
-        return kind;
-    }
-    if line[end + 2] == b',' {
-        return kind;
-    }
-    None
+    Kind::try_from(line[end + 1]).ok()
 }
 
 // A name of the line. An entry and its comma have at most 67 bytes, so that 256 of them start below 65,536.
+// The line stays a parameter of its methods: 256 names that lend it would have 24 bytes each for 8.
 #[derive(Clone, Copy)]
 struct Name {
     start: u16,
@@ -151,6 +153,7 @@ impl Name {
     }
 
     // Whether two names of the line are the same.
+    #[tactic(auto, using(crate::proofs::Marks::unlike_marks))]
     fn is_same(self, other: Name, line: &[u8]) -> bool
         requires { Stands line.now self × Stands line.now other }
         ensures { result ≡ same_bytes (text line.now self) (text line.now other) }
@@ -163,12 +166,7 @@ impl Name {
         requires { Listed line.now names.now × Stands line.now self }
         ensures { result ≡ repeats line.now names.now (text line.now self) }
     {
-        for name in names {
-            if name.is_same(self, line) {
-                return true;
-            }
-        }
-        false
+        names.iter().any(|name| name.is_same(self, line))
     }
 
     // The place of its mark in a table.
@@ -179,6 +177,7 @@ impl Name {
     }
 
     // The same, with a table of the places that the marks before have taken: where its own place is free, no name before has its mark.
+    #[tactic(auto, using(crate::proofs::Marks::not_placed))]
     fn comes_again(self, names: &[Name], taken: &[bool; 1024], line: &[u8]) -> bool
         requires { Listed line.now names.now × Stands line.now self × Placed names.now taken.now }
         ensures { result ≡ repeats line.now names.now (text line.now self) }

@@ -8,7 +8,7 @@ ghost use Rattle.layout.specs.Opcode.{step_of};
 ghost use Rattle.writer.specs.Over.{over};
 ghost use Rattle.paths.specs.Table.{FitsPath, path_in_table};
 
-use layout::RECORD_SIZE;
+use layout::{LENGTH_AT, RECORD_SIZE, STEP_AT};
 use writer::{put_bytes, put_decimal, zero_from};
 
 // How many digits a number has.
@@ -92,8 +92,8 @@ fn record_at(b: &[u8], at: usize) -> Record
 {
     Record {
         parent: reader::word(b, at),
-        step: reader::word(b, at + 4),
-        length: reader::word(b, at + 8),
+        step: reader::word(b, at + STEP_AT),
+        length: reader::word(b, at + LENGTH_AT),
     }
 }
 
@@ -110,6 +110,7 @@ pub fn write_path(b: &[u8], base: usize, k: usize, out: &mut [u8])
     }
     let mut at = k;
     let mut begin = end;
+    // A `while`: it climbs by the parents' numbers.
     while 0 < at {
         let record = record_at(b, base + RECORD_SIZE * at);
         if at <= record.parent || begin < step_length(record.step) {

@@ -3,3 +3,4 @@ pub mod Body
 pub mod Ops
 pub mod Records
 pub mod Pass
+pub mod Listed

@@ -3,7 +3,7 @@ use mathlib.Core.Path.{◌≡◌, refl, sym, ap, ◌∙◌}
 use mathlib.Core.Bool.{Bool, true, false, ◌&&◌}
 use mathlib.Core.Logic.{◌⊎◌, inl, inr, ⊎_elim}
 use mathlib.Core.List.{List}
-use Prim.Native.Nat.{ℕ, suc, ◌+◌, ◌-◌, ◌*◌, ◌≤◌, ◌<◌}
+use Prim.Native.Nat.{ℕ, ◌+◌, ◌*◌, ◌≤◌, ◌<◌}
 use native.Mathlib.Omega.{arith}
 use borrow.Author.Tests.{eq-eqb, le-leb, leb-true, lt-ltb, ltb-true, ne_eqb}
 use lib.ListN.{get_or}
@@ -149,6 +149,10 @@ module _ (b : List ℕ) (h : Header) (n slot opcode count next : ℕ) (r : Slot 
       (one_of (λ (m : ℕ). fields_below b (slot_at n) (register_total b) 1 1 ≡ plain b n m) 11 20 opcode k l (p, (p, (p, (p, (p, (p, (p, (p, (p, (p, (p, tt)))))))))))
       ∙ plain_slot zero (omega arith) (λ y. omega arith) (λ y. omega arith))
 
+  -- all that read one register
+  pub one_slot : count ≡ 0 → (opcode ≡ 2) ⊎ ((5 ≤ opcode × opcode < 8) ⊎ (20 ≤ opcode × opcode < 31)) → fields_below b slot h.registers 1 1 ≡ operands_ok b n next
+  one_slot z k = ⊎_elim (copy_slot z) (λ l. ⊎_elim (λ m. sign_slot z m.0 m.1) (λ m. single_slot z m.0 m.1) l) k
+
   pub pair_slot : count ≡ 0 → 8 ≤ opcode → opcode < 20 → fields_below b slot h.registers h.registers 1 ≡ operands_ok b n next
   unfolding plain op_of raw_program
   pair_slot zero k l =
@@ -238,30 +242,6 @@ module _ (b : List ℕ) (h : Header) (n slot opcode count next : ℕ) (r : Slot 
       (leb (next + 0) h.entries) (all_below h.registers (entries_from b 0 next))))
 
 -- ---- the entries of a list
-
-module _ (b : List ℕ) (registers count a : ℕ) where
-  unfoldable pub below_left : ℕ → Bool
-  below_left i = all_below registers (entries_from b (count - i) (a + i))
-
-  pub below_start : all_below registers (entries_from b count a) ≡ below_left 0
-  unfolding below_left
-  below_start =
-      let e : count ≡ count - 0 = omega arith in
-      let f : a ≡ a + 0 = omega arith in
-      ap (λ (x : ℕ). all_below registers (entries_from b x a)) e ∙ ap (λ (x : ℕ). all_below registers (entries_from b (count - 0) x)) f
-
-  pub below_step : (i x : ℕ) → i < count → x ≡ word_at b (entry_at b (a + i)) → below_left i ≡ (ltb x registers && below_left (i + 1))
-  unfolding below_left
-  below_step i x h ex =
-      let e : count - i ≡ suc (count - (i + 1)) = omega arith in
-      let f : suc (a + i) ≡ a + (i + 1) = omega arith in
-      ap (λ (k : ℕ). all_below registers (entries_from b k (a + i))) e
-      ∙ ap (λ (k : ℕ). ltb (word_at b (entry_at b (a + i))) registers && all_below registers (entries_from b (count - (i + 1)) k)) f
-      ∙ ap (λ (y : ℕ). ltb y registers && all_below registers (entries_from b (count - (i + 1)) (a + (i + 1)))) (sym ex)
-
-  pub below_end : (i : ℕ) → count ≤ i → below_left i ≡ true
-  unfolding below_left
-  below_end i h = let e : count - i ≡ 0 = omega arith in rw e
 
 -- where an entry stands
 pub entry_place : (b : List ℕ) (h : Header) (a i : ℕ) → Numbers b h → 32 + 24 * h.code + 12 * h.paths + 4 * a + 4 * i ≡ entry_at b (a + i)

@@ -3,7 +3,7 @@
 // instruction at all, a register, input, list or target outside its range (a target may be the code's end), a jump not
 // forward, or a path above 8,192 bytes". Each record, instruction and list entry is looked at once. The header tells how
 // long the whole is; after one test of that length every field is known to be there.
-ghost use Rattle.std.specs.Prelude.{◌≡◌, true, false, ◌&&◌, ◌+◌, ◌*◌, ◌-◌, ◌<◌, ◌≤◌, ltb, length, MatchOption};
+ghost use Rattle.std.specs.Prelude.{◌≡◌, true, false, ◌&&◌, ◌+◌, ◌*◌, ◌<◌, ◌≤◌, ltb, length, MatchOption};
 ghost use Rattle.std.proofs.Math.Option.{some};
 ghost use Rattle.formula.specs.Text.{word_at};
 ghost use Rattle.formula.specs.Path.{placed, step_text};
@@ -12,14 +12,15 @@ ghost use Rattle.layout.specs.Opcode.{step_of};
 ghost use Rattle.layout.specs.Decode.{code_count, entries_from, length_at, path_number, path_of, path_total, program_at, record_ok, records_ok};
 ghost use Rattle.program.specs.Check.{FitsHeader, Numbers, Slot, Whole, fields_below, header_ok, instruction_ok, instructions_ok, operands_ok, placed_ok};
 
+use layout::opcode::{
+    ADD, BRANCH, CEIL, CONSTANT, COPY, DENSITY, EXP, HILL, JUMP, LOAD, MAX, MIN, NE, NOT, POSITIVE,
+};
 use layout::{
-    CODE_AT, ENTRIES_AT, ENTRY_SIZE, HEADER_SIZE, INPUTS_AT, KIND_AT, PATHS_AT, RECORD_SIZE,
-    REGISTERS_AT, RESULT_AT, SLOT_SIZE,
+    A_AT, B_AT, C_AT, CODE_AT, COUNT_AT, DESTINATION_AT, ENTRIES_AT, ENTRY_SIZE, HEADER_SIZE,
+    INPUTS_AT, KIND_AT, LENGTH_AT, MAGIC, PATH_AT, PATHS_AT, RECORD_SIZE, REGISTERS_AT, RESULT_AT,
+    SLOT_SIZE, STEP_AT,
 };
 use reader::{known_half, known_word};
-
-// "VBR1", as a number of 4 bytes.
-const MAGIC: usize = 0x3152_4256;
 
 // ---- header
 
@@ -100,7 +101,7 @@ impl<'a> Image<'a> {
         requires { k < self.now.header.paths }
         ensures { (result ≡ length_at self.now.bytes.now k) × (result < 4294967296) }
     {
-        known_word(self.bytes, self.record(k) + 8)
+        known_word(self.bytes, self.record(k) + LENGTH_AT)
     }
 
     fn root_ok(&self) -> bool
@@ -109,7 +110,7 @@ impl<'a> Image<'a> {
     {
         let at = self.record(0);
         known_word(self.bytes, at) == 0
-            && known_word(self.bytes, at + 4) == 0
+            && known_word(self.bytes, at + STEP_AT) == 0
             && self.path_length(0) == 4
     }
 
@@ -120,8 +121,8 @@ impl<'a> Image<'a> {
     {
         let parent = known_word(self.bytes, at);
         parent < k
-            && known_word(self.bytes, at + 8)
-                == self.path_length(parent) + step_length(known_word(self.bytes, at + 4))
+            && known_word(self.bytes, at + LENGTH_AT)
+                == self.path_length(parent) + step_length(known_word(self.bytes, at + STEP_AT))
     }
 
     fn records_ok(&self) -> bool
@@ -158,7 +159,7 @@ impl<'a> Image<'a> {
                 number,
                 slot,
                 opcode: known_half(self.bytes, slot),
-                count: known_half(self.bytes, slot + 2),
+                count: known_half(self.bytes, slot + COUNT_AT),
                 next,
             };
             if !instruction.is_ok() {
@@ -207,8 +208,8 @@ impl Instruction<'_> {
     fn placed_ok(&self) -> bool
         ensures { result ≡ placed_ok self.now.image.bytes.now self.now.number }
     {
-        let path = self.field(20);
-        self.field(4) < self.image.header.registers
+        let path = self.field(PATH_AT);
+        self.field(DESTINATION_AT) < self.image.header.registers
             && path < self.image.header.paths
             && self.image.path_length(path) <= 8192
     }
@@ -217,14 +218,14 @@ impl Instruction<'_> {
     fn below(&self, a: usize, b: usize, c: usize) -> bool
         ensures { result ≡ fields_below self.now.image.bytes.now self.now.slot a b c }
     {
-        self.field(8) < a && self.field(12) < b && self.field(16) < c
+        self.field(A_AT) < a && self.field(B_AT) < b && self.field(C_AT) < c
     }
 
     // A jump goes forward, to the code's end at most.
     fn jump_ok(&self, a: usize) -> bool
         ensures { result ≡ (ltb self.now.number (word_at self.now.image.bytes.now (self.now.slot + 16)) && fields_below self.now.image.bytes.now self.now.slot a 1 (self.now.image.header.code + 1)) }
     {
-        self.number < self.field(16) && self.below(a, 1, self.image.header.code + 1)
+        self.number < self.field(C_AT) && self.below(a, 1, self.image.header.code + 1)
     }
 
     // All registers of the list from entry `next` on are there.
@@ -233,12 +234,9 @@ impl Instruction<'_> {
         ensures { result ≡ all_below self.now.image.header.registers (entries_from self.now.image.bytes.now self.now.count self.now.next) }
     {
         let first = self.image.record(self.image.header.paths) + ENTRY_SIZE * self.next;
-        for i in 0..self.count {
-            if known_word(self.image.bytes, first + ENTRY_SIZE * i) >= self.image.header.registers {
-                return false;
-            }
-        }
-        true
+        (0..self.count).all(|i| {
+            known_word(self.image.bytes, first + ENTRY_SIZE * i) < self.image.header.registers
+        })
     }
 
     // Min and Max: the list begins where the last one ended, and has two entries at least. No other opcode has a count.
@@ -246,11 +244,11 @@ impl Instruction<'_> {
         requires { (0 < self.now.count) × (path_number self.now.image.bytes.now self.now.number < path_total self.now.image.bytes.now) }
         ensures { result ≡ operands_ok self.now.image.bytes.now self.now.number self.now.next }
     {
-        31 <= self.opcode
-            && self.opcode <= 32
-            && self.field(12) == 0
-            && self.field(16) == 0
-            && self.field(8) == self.next
+        MIN <= self.opcode
+            && self.opcode <= MAX
+            && self.field(B_AT) == 0
+            && self.field(C_AT) == 0
+            && self.field(A_AT) == self.next
             && 2 <= self.count
             && self.next + self.count <= self.image.header.entries
             && self.list_below()
@@ -266,21 +264,19 @@ impl Instruction<'_> {
         }
         let registers = self.image.header.registers;
         match self.opcode {
-            // a constant
-            0 => self.field(16) == 0,
-            // a load
-            1 => self.below(self.image.header.inputs, 1, 1),
-            // the jumps
-            3 => self.jump_ok(registers),
-            4 => self.jump_ok(1),
-            // a copy, and the operations of one register, of two and of three
-            2 | 5..=7 | 20..=30 => self.below(registers, 1, 1),
-            8..=19 => self.below(registers, registers, 1),
-            33..=34 => self.below(registers, registers, registers),
+            CONSTANT => self.field(C_AT) == 0,
+            LOAD => self.below(self.image.header.inputs, 1, 1),
+            BRANCH => self.jump_ok(registers),
+            JUMP => self.jump_ok(1),
+            // the operations of one register, of two and of three
+            COPY | POSITIVE..=NOT | EXP..=CEIL => self.below(registers, 1, 1),
+            ADD..=NE => self.below(registers, registers, 1),
+            HILL..=DENSITY => self.below(registers, registers, registers),
             _ => false,
         }
     }
 
+    #[tactic(auto, using(crate::proofs::Pass::placed_named), unfolding(crate::specs::Check::instruction_ok))]
     fn is_ok(&self) -> bool
         ensures { result ≡ instruction_ok self.now.image.bytes.now self.now.number self.now.next }
     {
@@ -289,13 +285,11 @@ impl Instruction<'_> {
 }
 
 // Whether the bytes are a program that may run.
+#[tactic(auto, using(crate::proofs::Pass::valid_is))]
 pub fn is_program(p: &[u8]) -> bool
     ensures { result ≡ valid (program_at p.now) }
 {
-    match Image::new(p) {
-        Some(image) => image.records_ok() && image.instructions_ok(),
-        None => false,
-    }
+    Image::new(p).is_some_and(|image| image.records_ok() && image.instructions_ok())
 }
 
 // The text of the path whose record is k, then zeros to the slice's end. Where the bytes are no program, or the slice is

@@ -1,5 +1,5 @@
 -- The codes of rules as the code has them, by the numbers of Notation.
-use Rattle.std.specs.Prelude.{◌≡◌, Bool, true, false, [], ◌∷◌, ℕ, ◌/◌, ◌%◌, ◌≤◌, get_or}
+use Rattle.std.specs.Prelude.{◌≡◌, Bool, true, false, [], ◌∷◌, ℕ, ◌/◌, ◌%◌, get_or}
 use Rattle.rules.specs.Notation.{parts}
 use Rattle.rules.specs.declared.Code.{Code}
 use Rattle.rules.specs.declared.Literal as Declared
@@ -77,5 +77,4 @@ pub record Reads (code : Code) (c : ℕ) : Type 0 where
   pub kind : kind_of code ≡ c / 16
   pub which : which_of code ≡ c % 16
   pub parts_follow : parts_in code ≡ parts (c / 16) (c % 16)
-  pub few : parts_in code ≤ 3
   pub node : writes_node code ≡ writes (c / 16)

@@ -1,101 +1,18 @@
 #![tactic(auto)]
+
+mod head;
+pub mod number;
+
 // The rules of `derivative.rs`, interpreted: one reading of them works out attributes and another writes nodes.
 // They stand in prefix (Polish) notation, a letter for each code, so that `add(mul(da, b), mul(a, db))` is `+*xb*ay`. Arms
 // written out would stand twice, once for the attributes and once for the nodes, with each test for a literal zero or one in
 // both; here each arm stands once, and the tests of `add` and `mul` once in each reading.
-ghost use Rattle.std.specs.Prelude.{◌≡◌, ◌≤◌, get_or};
+ghost use Rattle.std.specs.Prelude.{◌≡◌, ◌+◌, ◌-◌, ◌<◌, ◌≤◌, get_or};
 ghost use Rattle.rules.specs.Notation.{look, binaries, calls, others, coded, operators, operator_codes, code_of, letter_at, code_at, end_at};
 ghost use Rattle.rules.specs.Codes.{Reads, parts_in, literal_number};
 
+pub use head::Head;
 use reader::byte;
-
-// A node's kind and operator, as they stand in its bytes, and how many children it has.
-#[derive(Clone, Copy)]
-pub struct Head {
-    pub kind: u8,
-    pub operator: u8,
-    pub children: u8,
-}
-
-impl Head {
-    pub const ADD: Head = Head {
-        kind: 4,
-        operator: 0,
-        children: 2,
-    };
-
-    pub const MULTIPLY: Head = Head {
-        kind: 4,
-        operator: 2,
-        children: 2,
-    };
-
-    const DIVIDE: Head = Head {
-        kind: 4,
-        operator: 3,
-        children: 2,
-    };
-
-    const POWER: Head = Head {
-        kind: 4,
-        operator: 4,
-        children: 2,
-    };
-
-    const LESS: Head = Head {
-        kind: 5,
-        operator: 0,
-        children: 2,
-    };
-
-    pub const GREATER: Head = Head {
-        kind: 5,
-        operator: 2,
-        children: 2,
-    };
-
-    pub const EQUAL: Head = Head {
-        kind: 5,
-        operator: 4,
-        children: 2,
-    };
-
-    const LOG: Head = Head {
-        kind: 7,
-        operator: 1,
-        children: 1,
-    };
-
-    const SIN: Head = Head {
-        kind: 7,
-        operator: 4,
-        children: 1,
-    };
-
-    const COS: Head = Head {
-        kind: 7,
-        operator: 5,
-        children: 1,
-    };
-
-    const FLOOR: Head = Head {
-        kind: 7,
-        operator: 9,
-        children: 1,
-    };
-
-    const HILL: Head = Head {
-        kind: 7,
-        operator: 13,
-        children: 3,
-    };
-
-    pub const CONDITIONAL: Head = Head {
-        kind: 8,
-        operator: 0,
-        children: 3,
-    };
-}
 
 // A literal that a rule writes; the exponent is that of a Power, where it is a literal.
 #[derive(Clone, Copy)]
@@ -118,7 +35,7 @@ pub enum Literal {
 // What stands at a place of a rule.
 #[derive(Clone, Copy)]
 pub enum Code {
-    // Past the end.
+    // Past the end: a case, not an Option, as every match on a code has an arm for it like the others.
     Nothing,
     Child(usize),
     Derivative(usize),
@@ -136,103 +53,20 @@ pub enum Code {
     Literal(Literal),
 }
 
-// A function lays out all its texts before it looks at one of them. So the rules that are read most, and the longest, have a
-// function each.
-fn add_letter(i: usize) -> u8
-    ensures { result ≡ get_or (look binaries 0x40) i 0 }
-{
-    byte(b"+xy", i)
-}
-
-fn subtract_letter(i: usize) -> u8
-    ensures { result ≡ get_or (look binaries 0x41) i 0 }
-{
-    byte(b"+x*-y", i)
-}
-
-fn multiply_letter(i: usize) -> u8
-    ensures { result ≡ get_or (look binaries 0x42) i 0 }
-{
-    byte(b"+*xb*ay", i)
-}
-
-fn divide_letter(i: usize) -> u8
-    ensures { result ≡ get_or (look binaries 0x43) i 0 }
-{
-    byte(b"/+*xb*-*ay^b2", i)
-}
-
-fn power_letter(i: usize) -> u8
-    ensures { result ≡ get_or (look binaries 0x44) i 0 }
-{
-    byte(b"+X?=b00?=b1x**b^a+b*-1xY?=a00**wLay", i)
-}
-
-fn modulo_letter(i: usize) -> u8
-    ensures { result ≡ get_or (look binaries 0x45) i 0 }
-{
-    byte(b"+/0w+x*-*F/aby", i)
-}
-
-fn literal_power_letter(i: usize) -> u8
-    ensures { result ≡ get_or (look binaries 0x46) i 0 }
-{
-    byte(b"**n^amx", i)
-}
-
-fn square_letter(i: usize) -> u8
-    ensures { result ≡ get_or (look binaries 0x47) i 0 }
-{
-    byte(b"**nax", i)
-}
-
-fn first_power_letter(i: usize) -> u8
-    ensures { result ≡ get_or (look binaries 0x48) i 0 }
-{
-    byte(b"**nox", i)
-}
-
-fn hill_letter(i: usize) -> u8
-    ensures { result ≡ get_or (look calls 0x7d) i 0 }
-{
-    byte(
-        b"?>a0+***/HabcaHcbabx+***wHcba+La*-Lcy*-***/wcHcbabz?<a00X?>b10/10",
-        i,
-    )
-}
-
-fn density_letter(i: usize) -> u8
-    ensures { result ≡ get_or (look calls 0x7f) i 0 }
-{
-    byte(
-        b"?>w0*w++*+*-/ta*h+/c^a2*-/c^b2x*/*c+a*-b^b3y*+/hc*-/^+a*-b2*2*^b2az0",
-        i,
-    )
-}
-
-fn hill_by_state_letter(i: usize) -> u8
-    ensures { result ≡ get_or (look others 0x8d) i 0 }
-{
-    byte(
-        b"?>a0+***/HabcaHcbabx+***wHcba+La*-Lcy*-***/wcHcbabz?<a00X?>b10?=b1/xc***/H*ecbc*ecHcb*ecbx",
-        i,
-    )
-}
-
 // Add, Subtract, Multiply, Divide, Power, Modulo, and Power by a literal n, by n - 1 = 1, by n - 1 = 0.
 fn binary_letter(q: usize, i: usize) -> u8
     ensures { result ≡ get_or (look binaries q) i 0 }
 {
     match q {
-        0x40 => add_letter(i),
-        0x41 => subtract_letter(i),
-        0x42 => multiply_letter(i),
-        0x43 => divide_letter(i),
-        0x44 => power_letter(i),
-        0x45 => modulo_letter(i),
-        0x46 => literal_power_letter(i),
-        0x47 => square_letter(i),
-        0x48 => first_power_letter(i),
+        0x40 => byte(b"+xy", i),
+        0x41 => byte(b"+x*-y", i),
+        0x42 => byte(b"+*xb*ay", i),
+        0x43 => byte(b"/+*xb*-*ay^b2", i),
+        number::POWER => byte(b"+X?=b00?=b1x**b^a+b*-1xY?=a00**wLay", i),
+        0x45 => byte(b"+/0w+x*-*F/aby", i),
+        number::LITERAL_POWER => byte(b"**n^amx", i),
+        number::SQUARE => byte(b"**nax", i),
+        number::FIRST_POWER => byte(b"**nox", i),
         _ => 0,
     }
 }
@@ -251,11 +85,17 @@ fn call_letter(q: usize, i: usize) -> u8
         0x76 => byte(b"*/1^Ca2x", i),
         0x77 => byte(b"*+1*-^w2x", i),
         0x78 => byte(b"?>a0x?<a0*-x0", i),
-        0x7b => byte(b"M", i),
-        0x7c => byte(b"M", i),
-        0x7d => hill_letter(i),
-        0x7e => byte(b"?ayz", i),
-        0x7f => density_letter(i),
+        number::MIN => byte(b"M", i),
+        number::MAX => byte(b"M", i),
+        number::HILL => byte(
+            b"?>a0+***/HabcaHcbabx+***wHcba+La*-Lcy*-***/wcHcbabz?<a00X?>b10/10",
+            i,
+        ),
+        number::IFELSE => byte(b"?ayz", i),
+        0x7f => byte(
+            b"?>w0*w++*+*-/ta*h+/c^a2*-/c^b2x*/*c+a*-b^b3y*+/hc*-/^+a*-b2*2*^b2az0",
+            i,
+        ),
         _ => 0,
     }
 }
@@ -268,14 +108,18 @@ fn other_letter(q: usize, i: usize) -> u8
         0x20 => byte(b"1", i),
         0x30 => byte(b"x", i),
         0x31 => byte(b"*-x", i),
-        0x80 => byte(b"?ayz", i),
-        0x8d => hill_by_state_letter(i),
+        number::CONDITIONAL => byte(b"?ayz", i),
+        number::HILL_BY_STATE => byte(
+            b"?>a0+***/HabcaHcbabx+***wHcba+La*-Lcy*-***/wcHcbabz?<a00X?>b10?=b1/xc***/H*ecbc*ecHcb*ecbx",
+            i,
+        ),
         _ => 0,
     }
 }
 
 // A letter of a rule, 0 past its end. It is looked up apart, and what is made of it is inlined: so a caller's match on a code is
 // one with the match on its letter.
+#[tactic(auto, unfolding(crate::specs::Notation::letters, crate::specs::Notation::letter_at))]
 #[inline(never)]
 fn letter(q: usize, i: usize) -> u8
     ensures { result ≡ letter_at q i }
@@ -347,7 +191,7 @@ impl Code {
     // How many parts follow it.
     #[inline(always)]
     pub fn parts(self) -> usize
-        ensures { result ≡ parts_in self }
+        ensures { (result ≡ parts_in self) × (result ≤ 3) }
     {
         match self {
             Code::Node(head) => usize::from(head.children),
@@ -359,8 +203,8 @@ impl Code {
 }
 
 // A part of a rule: the number of the rule, where the part starts, and how many levels it may have. A rule's number is its
-// node's kind and operator, two bytes as they stand in the node, or one that no node has: an enum of the thirty rules would
-// need this table of numbers too.
+// node's kind and operator, two bytes as they stand in the node, or one that no node has: an enum of the 28 rules would need
+// this table of numbers too.
 #[derive(Clone, Copy)]
 pub struct RulePart {
     pub rule: usize,
@@ -387,6 +231,30 @@ impl RulePart {
         ensures { Reads result (code_at self.rule self.start) }
     {
         code_of(letter(self.rule, self.start))
+    }
+
+    // The first of the parts that follow its code.
+    #[inline(always)]
+    pub fn first(self) -> RulePart
+        requires { (0 < self.levels) × (self.start < 128) }
+        ensures { result ≡ record { rule = self.rule; start = self.start + 1; levels = self.levels - 1 } }
+    {
+        RulePart {
+            start: self.start + 1,
+            levels: self.levels - 1,
+            ..self
+        }
+    }
+
+    // The part after it.
+    #[inline(always)]
+    pub fn next(self) -> RulePart
+        ensures { result ≡ record { rule = self.rule; start = end_at self.levels self.rule self.start; levels = self.levels } }
+    {
+        RulePart {
+            start: self.end(),
+            ..self
+        }
     }
 
     // Where it ends: the start of the part after it.

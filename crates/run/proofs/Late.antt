@@ -1,16 +1,17 @@
 -- Refusals 5 and 11, and room for a value that is taken.
 use mathlib.Core.Path.{◌≡◌, refl, ap, sym, ◌∙◌}
-use mathlib.Core.Bool.{Bool, true, false, cond, not, ◌&&◌}
+use mathlib.Core.Bool.{Bool, true, false, cond, not, ◌&&◌, ◌||◌}
 use mathlib.Core.List.{List, [], ◌∷◌, ◌++◌}
 use mathlib.Core.Option.{Option, none, some}
 use mathlib.Core.Logic.{⊎_elim}
 use Prim.Native.Nat.{ℕ, suc, ◌≤◌, ◌<◌}
 use native.Mathlib.Omega.{arith}
 use lib.ListN.{length, length-append, set}
-use lib.Dec.{eqb, leb}
+use borrow.Author.Tests.{le-leb, le-ltb, lt-leb, lt-ltb}
+use lib.Dec.{eqb, leb, ltb}
 use lib.Ieee.{Float, binary64}
 use Rattle.arithmetic.specs.Value.{finite}
-use Rattle.formula.specs.Text.{all}
+use Rattle.formula.specs.Text.{all, word_at}
 use Rattle.formula.specs.Path.{Path}
 use Rattle.meaning.specs.Work.{Question, advance, work}
 use Rattle.machine.specs.Program.{Op, constant, copy, jump, jump_if_false, load, perform}
@@ -37,10 +38,22 @@ use lib.Seq.{take_all}
 -- ---- 5
 
 -- the four tests, one after another
-pub unfit_is : (inputs : List Float) (b : List ℕ) (regs : List Float) (budget : ℕ) {x y z : Bool} → x ≡ (eqb (length inputs) (input_count b) && leb (register_total b) (length regs))
-    → y ≡ (x && all finite inputs) → z ≡ (y && not (eqb budget 0)) → not z ≡ unfit_at inputs b regs budget
-unfolding unfit_at raw_program
-unfit_is inputs b regs budget e f g = rw (g, f, e)
+denied : (x y z w : Bool) → not (x && y && z && not w) ≡ (not x || (not y || (not z || w)))
+denied false y z w = refl
+denied true false z w = refl
+denied true true false w = refl
+denied true true true true = refl
+denied true true true false = refl
+
+not_leb : (a b : ℕ) → not (leb a b) ≡ ltb b a
+not_leb a b = ⊎_elim (λ (l : b < a). rw (lt-leb a b l, lt-ltb b a l)) (λ (l : a ≤ b). rw (le-leb a b l, le-ltb b a l)) (lt_or_ge b a)
+
+pub unfit_is : (inputs : List Float) (b : List ℕ) (regs : List Float) (budget : ℕ)
+    → unfit_at inputs b regs budget ≡ (not (eqb (length inputs) (word_at b 16)) || (ltb (length regs) (word_at b 8) || (not (all finite inputs) || eqb budget 0)))
+unfolding unfit_at raw_program input_count register_total
+unfit_is inputs b regs budget =
+    denied (eqb (length inputs) (word_at b 16)) (leb (word_at b 8) (length regs)) (all finite inputs) (eqb budget 0)
+    ∙ ap (λ x. not (eqb (length inputs) (word_at b 16)) || (x || (not (all finite inputs) || eqb budget 0))) (not_leb (word_at b 8) (length regs))
 
 -- ---- 11
 
@@ -116,3 +129,6 @@ module _ (inputs : List Float) (b : List ℕ) (regs : List Float) (at : ℕ) (ke
       ⊎_elim
       (λ h. let p = not_false _ (stale_is q (some v) h refl refl ∙ e) in take_all 9 (kept ++ v ∷ []) (simp length-append (let l = kept_room q p in omega arith)))
       (λ h. clash (stale_past (some q) (some v) h ∙ e)) (lt_or_ge at (code_count b))
+
+-- by name, for the code
+pub ruleset told_stale = (stale_is, stale_past, stale_unasked)

@@ -193,3 +193,9 @@ module _ (inputs : List Float) (b : List ℕ) where
   pub not_refused : (budget at : ℕ) (kept regs regs' : List Float) (r : Reply) → reply_of b r regs' ≡ steps_at inputs b budget at kept regs → (n : Refusal) → r.answer ≡ A.Refused n → ⊥
   unfolding steps_at
   not_refused budget at kept regs regs' r e n f = steps_never budget at kept regs (number_of n) (ap (λ x. x.answer) (sym e) ∙ ap (answer_of b) f)
+
+-- ---- by name, for the code
+
+pub ruleset reached = (reaches_common, reaches_on, reaches_other, reaches_start)
+
+pub ruleset ended = (spent_is, value_is)

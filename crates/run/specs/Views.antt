@@ -6,6 +6,7 @@ use Rattle.refusals.specs.Numbers.{outside_domain}
 use Rattle.refusals.specs.Refusals.{number_of}
 use Rattle.refusals.specs.declared.Refusal.{Refusal}
 use Rattle.refusals.specs.declared.Refusal.TheVariants.{InvalidInput}
+use Rattle.formula.specs.Optional.{option_by, option_of}
 use Rattle.meaning.specs.Work as Meaning
 use Rattle.machine.specs.Machine as Machine
 use Rattle.machine.specs.Machine.{asks, gives, outside, refused, spent}
@@ -16,16 +17,11 @@ use Rattle.run.specs.declared.State.{State}
 use Rattle.run.specs.declared.Answer.{Answer}
 use Rattle.run.specs.declared.Reply.{Reply}
 
--- the code's option, as the definitions have it
-abbrev pub option_of : {A B : Type 0} → (A → B) → Code.Option A → Option B
-option_of f None = none
-option_of f (Some x) = some (f x)
-
 abbrev pub pending_of : Code.Option Question → Option Meaning.Question
-pending_of o = option_of question_of o
+pending_of o = option_by question_of o
 
 abbrev pub supplied_of : Code.Option Float → Option Float
-supplied_of o = option_of (λ x. x) o
+supplied_of o = option_of o
 
 abbrev pub state_of : State → Machine.State
 state_of s = record { position = s.position; kept = kept_values s.kept; pending = pending_of s.pending }

@@ -20,10 +20,10 @@ ghost use Rattle.run.specs.Calls.{after, KnownPlace, Reaches, Results, bare, put
 
 use floats::value::{bits_of, is_finite};
 use instruction::{Effect, Progress};
-use layout::{CODE_AT, HEADER_SIZE, INPUTS_AT, REGISTERS_AT, RESULT_AT, SLOT_SIZE};
-use reader::{byte, word};
+use layout::opcode::LOG;
+use layout::{CODE_AT, DESTINATION_AT, HEADER_SIZE, INPUTS_AT, REGISTERS_AT, RESULT_AT, SLOT_SIZE};
+use reader::{byte, known_word, word};
 use refusals::Refusal;
-use work::opcode::LOG;
 use work::{Kept, LOG_NUMBER, Outcome, Question};
 
 // "Run state: made by the run, read by the next call": position, "the values supplied" to a half-done Hill or density, and
@@ -112,24 +112,27 @@ impl Place {
 // say that it still lends the same ones, and that of the other two is read as `given.entry.program.now` in a clause.
 
 // Common instructions from a place on, nothing kept: to the code's end, the budget's, or the first that is another.
-#[tactic(auto, using(crate::proofs::Looping::code_small))]
-fn straight(p: &[u8], inputs: &[f64], regs: &mut [f64], code: usize, from: Place) -> Place
-    requires { (code ≡ code_count p.now) × (slot_at code ≤ length p.now) }
+// Not in line in `along`: beside its calls the loop has too few registers, and a run of 255 takes 1.4 times as long.
+#[inline(never)]
+#[tactic(auto, using(crate::proofs::Looping::code_small, crate::proofs::Looping::reached), unfolding(layout::specs::Decode::code_count))]
+fn straight(p: &[u8], inputs: &[f64], regs: &mut [f64], from: Place) -> Place
+    requires { slot_at (code_count p.now) ≤ length p.now }
     ensures { Reaches inputs.now p.now from.left from.at [] regs.old result.left result.at [] regs.new }
 {
+    let code = known_word(p, CODE_AT);
     let mut place = from;
     // No `for` over the budget: what is left of it is handed back.
     while 0 < place.left && place.at < code {
-        let step = instruction::common::step(p, place.at, inputs, regs);
-        let Some(to) = step else {
-            return place;
-        };
-        place = place.next(to);
+        match instruction::common::step(p, place.at, inputs, regs) {
+            Some(to) => place = place.next(to),
+            None => return place,
+        }
     }
     place
 }
 
 // The same to a question, a Domain, Hill or the density. Where slots are missing, nothing is done.
+#[tactic(auto, using(crate::proofs::Looping::reached), unfolding(layout::specs::Decode::code_count))]
 pub fn along(p: &[u8], inputs: &[f64], regs: &mut [f64], from: Place) -> Place
     ensures { Reaches inputs.now p.now from.left from.at [] regs.old result.left result.at [] regs.new }
 {
@@ -138,17 +141,16 @@ pub fn along(p: &[u8], inputs: &[f64], regs: &mut [f64], from: Place) -> Place
     if p.len() < HEADER_SIZE + SLOT_SIZE * code {
         return place;
     }
-    while 0 < place.left {
-        place = straight(p, inputs, regs, code, place);
+    loop {
+        place = straight(p, inputs, regs, place);
         if code <= place.at || place.left == 0 {
             return place;
         }
-        let Some(to) = instruction::longer::step(p, place.at, regs) else {
-            return place;
-        };
-        place = place.next(to);
+        match instruction::longer::step(p, place.at, regs) {
+            Some(to) => place = place.next(to),
+            None => return place,
+        }
     }
-    place
 }
 
 // "Spent means that the whole budget was completed and code remains": the code's end is looked at first, then the
@@ -164,6 +166,7 @@ pub fn steps(p: &[u8], inputs: &[f64], regs: &mut [f64], from: Place, kept: Kept
     if kept.count == 0 {
         place = along(p, inputs, regs, from);
     }
+    // No `for`, as in `straight`.
     while 0 < place.left && place.at < code {
         match instruction::step(p, place.at, inputs, regs, held) {
             Progress::Next(to) => {
@@ -195,6 +198,7 @@ pub fn steps(p: &[u8], inputs: &[f64], regs: &mut [f64], from: Place, kept: Kept
 
 // How a call ends that comes to the code's end, with its value, or has no budget left. "After a value or 9 the position is
 // the code's end."
+#[tactic(auto, using(crate::proofs::Looping::ended), unfolding(layout::specs::Decode::code_count, layout::specs::Decode::result_at))]
 fn ends(p: &[u8], regs: &[f64], done: usize, at: usize, kept: Kept) -> Reply
     ensures reply { (inputs : List Float) (left : ℕ) → (at < code_count p.now → left ≡ 0) → reply_of p.now result regs.now ≡ after done (steps_at inputs p.now left at (kept_values kept) regs.now) }
     ensures place { KnownPlace p.now result.answer }
@@ -233,7 +237,7 @@ fn same_bits(x: f64, y: f64) -> bool
     bits_of(x) == bits_of(y)
 }
 
-// Compared by bits, every NaN as one.
+// Compared by bits, every NaN as one. No derived PartialEq: it compares values, so -0 is +0 and no NaN is itself.
 fn same_question(question: Question, other: Question) -> bool
     ensures { result ≡ meaning.same_question binary64 (question_of question) (question_of other) }
 {
@@ -251,17 +255,19 @@ fn puts(effect: Effect, question: Question) -> bool
 }
 
 // "5 at `root`, input count wrong, too few registers, an input not finite, or budget 0"
+#[tactic(auto, using(crate::proofs::Late::unfit_is))]
 pub fn unfit(p: &[u8], inputs: &[f64], regs: &[f64], budget: usize) -> bool
     ensures { result ≡ unfit_at inputs.now p.now regs.now budget }
 {
-    !(inputs.len() == word(p, INPUTS_AT)
-        && word(p, REGISTERS_AT) <= regs.len()
-        && all_finite(inputs)
-        && budget != 0)
+    inputs.len() != word(p, INPUTS_AT)
+        || regs.len() < word(p, REGISTERS_AT)
+        || !all_finite(inputs)
+        || budget == 0
 }
 
 // "11 (resume), position not at an instruction, a pending question that this instruction, with these registers and
 // kept values, doesn't put, or a value supplied while no question shown for that instruction is pending"
+#[tactic(auto, using(crate::proofs::Late::told_stale), unfolding(layout::specs::Decode::code_count))]
 fn stale(p: &[u8], inputs: &[f64], regs: &[f64], state: State, supplied: Option<f64>) -> bool
     ensures { result ≡ stale_at inputs.now p.now regs.now state.position (kept_values state.kept) (pending_of state.pending) (supplied_of supplied) }
 {
@@ -305,7 +311,7 @@ fn answered(p: &[u8], inputs: &[f64], regs: &mut [f64], from: Place, value: f64)
     ensures reply { reply_of p.now result regs.new ≡ steps_at inputs.now p.now from.left from.at (value ∷ []) regs.old }
     ensures place { KnownPlace p.now result.answer }
 {
-    let to = word(p, HEADER_SIZE + SLOT_SIZE * from.at + 4);
+    let to = word(p, HEADER_SIZE + SLOT_SIZE * from.at + DESTINATION_AT);
     instruction::store(regs, to, value);
     let reply = steps(p, inputs, regs, from.next(from.at + 1), Kept::new());
     Reply {
@@ -314,7 +320,8 @@ fn answered(p: &[u8], inputs: &[f64], regs: &mut [f64], from: Place, value: f64)
     }
 }
 
-// A state that fits goes on, with the value supplied.
+// A state that fits goes on, with the value supplied. Here and below budget, state and value stay three: each clause names them apart, as the machine's `resume` does.
+#[tactic(auto, using(crate::proofs::Single::at_code, crate::proofs::Single::result_effect))]
 fn goes(
     p: &[u8],
     inputs: &[f64],

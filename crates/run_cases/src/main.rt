@@ -80,10 +80,7 @@ fn told(answer: Answer) -> [u64; 3] {
 
 fn same_reply(after: &After, reply: Reply) -> bool {
     let state = reply.state;
-    let pending = match state.pending {
-        Some(question) => asked(question),
-        None => [0; 3],
-    };
+    let pending = state.pending.map_or([0; 3], asked);
     told(reply.answer) == after.answer
         && reply.count == after.count
         && state.position == after.position

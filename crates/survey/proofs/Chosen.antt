@@ -11,18 +11,17 @@ use borrow.Author.Tests.{eq-eqb, ne_eqb}
 use Rattle.formula.specs.Formula.{Head, Formula, Formulas, node, last, next, count, depends, well_formed}
 use Rattle.formula.specs.Text.{byte_at, half_at}
 use Rattle.formula.specs.Node.{Fields, fields_at, fields_of, node_size}
-use Rattle.derivative.specs.Rules.{Rule, less_one, one_bits, zero_bits}
+use Rattle.derivative.specs.Rules.{Rule}
 use Rattle.derivative.specs.Differentiate.{the_rule, first_depends, second_literal}
-use Rattle.derivative.specs.Attributes.{Attributes, attribute_algebra, attributes_of}
+use Rattle.derivative.specs.Attributes.{attributes_of}
 use Rattle.derivative.proofs.Attributes.{instance_right}
 use Rattle.reader.specs.Read.{is_some}
 use Rattle.rules.specs.Notation.{rule_number, rule_numbered, rule_at, power_number, code_at, or_zero, childless}
 use Rattle.rules.proofs.Right.{chosen_right}
 use Rattle.survey.specs.Derived.{children_of, head_of_tree, derived, ruled, or_zero_literal, zero_literal, parts_of, rule_for}
-use Rattle.survey.specs.Table.{reading, tree, trees, nth, number_of, Ready, IsChild, row_in}
+use Rattle.survey.specs.Table.{tree, trees, nth, number_of, Ready, IsChild, row_in}
 use Rattle.survey.specs.declared.Row.{Row}
-use Rattle.survey.specs.Worked.{worked, literal_attributes}
-use Rattle.survey.specs.declared.Attributes as Declared
+use Rattle.survey.specs.Worked.{worked}
 use Rattle.survey.proofs.Trees.{opened, count_is, trees_count}
 use Rattle.survey.proofs.Rows.{surveyed_given}
 

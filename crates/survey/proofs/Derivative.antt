@@ -12,6 +12,9 @@ use Rattle.derivative.specs.Attributes.{Attributes, Survey, attributes_of, surve
 use Rattle.derivative.proofs.Attributes.{survey_right, map_option}
 use Rattle.reader.specs.Read.{is_some}
 use Rattle.survey.specs.Derived.{derived, derived_all, or_else, zero_literal}
+use Rattle.survey.specs.Table.{reading, readings}
+use Rattle.survey.specs.declared.Attributes as Declared
+use Rattle.std.specs.Bool.{then_some}
 
 pub some_of : {A : Type 0} (a b : A) → ◌≡◌ {A = Option A} (some a) (some b) → a ≡ b
 some_of a b e = cc
@@ -69,3 +72,7 @@ fine_some s b t e = go (differentiate s b t) refl e
     go : (o : Option Formula) → differentiate s b t ≡ o → is_some o ≡ true → o ≡ some (derived s b t)
     go none p q = let z : ◌≡◌ {A = ℕ} 0 1 = cc in absurd (omega arith)
     go (some d) p q = ap some (sym (derived_right s b t d p))
+
+pub readings_then : (b : Bool) (a : Declared.Attributes) → readings (then_some b a) ≡ cond b (some (reading a)) none
+readings_then true a = refl
+readings_then false a = refl

@@ -23,7 +23,8 @@ use Rattle.reader.specs.Read.{is_some}
 use Rattle.reader.proofs.Heads.{and_first, and_second}
 use Rattle.reader.proofs.Trees.{size_pos}
 use Rattle.survey.specs.Derived.{children_of, head_of_tree, derived, ruled}
-use Rattle.survey.specs.Table.{tree, trees, Own, Surveyed, Ready, Room, Filled, reading, row_in, empty_row, option_of, or_literal}
+use Rattle.survey.specs.Table.{tree, trees, Own, Surveyed, Ready, Room, Filled, reading, row_in, empty_row, or_literal}
+use Rattle.formula.specs.Optional.{option_of}
 use Rattle.survey.specs.Worked.{literal_attributes}
 use Rattle.survey.specs.declared.Attributes as Declared
 use Rattle.std.specs.Option.{unwrap_or, is_some as given_is_some}

@@ -3,7 +3,9 @@ use mathlib.Core.Path.{◌≡◌, refl, sym, ap, ◌∙◌, subst}
 use mathlib.Core.Bool.{Bool, true}
 use mathlib.Core.List.{List}
 use mathlib.Core.Option.{Option, none, some}
-use Prim.Native.Nat.{ℕ, zero, suc, ◌+◌, ◌-◌, ◌*◌, ◌<◌, ◌≤◌, min}
+use Rattle.std.specs.Prelude.{MatchOption, IfSome, Option as Given, None, Some, is_some as given_some, eqb}
+use Rattle.std.proofs.lemmas.Bool.Decides.{nat_tests}
+use Prim.Native.Nat.{ℕ, ◌+◌, ◌-◌, ◌*◌, ◌<◌, ◌≤◌, min}
 use native.Mathlib.Omega.{arith}
 use lib.ListN.{length}
 use Rattle.formula.specs.Operator.{unary, binary, compare, call}
@@ -14,9 +16,9 @@ use Rattle.derivative.specs.Differentiate.{literal_head, literal_bits, second_li
 use Rattle.derivative.specs.Attributes.{Attributes, attributes_of}
 use Rattle.reader.proofs.Trees.{size_pos}
 use Rattle.survey.specs.Derived.{children_of, child_of, derived, derived_of, zero_literal}
+use Rattle.formula.specs.Optional.{option_of}
 use Rattle.survey.specs.Table.{tree, nth, IsChild, Own, Owned, Surveyed, Ready, row_in}
 use Rattle.survey.specs.declared.Row.{Row}
-use Rattle.rules.specs.Notation.{literal_code}
 use Rattle.survey.proofs.Trees.{opened, Walk, walk_next, walk_stands, Stands, count_is, child_at, derived_at, child_past, derived_past}
 
 -- ---- a literal
@@ -56,6 +58,11 @@ module _ (f : List ℕ) (k : ℕ) (w : well_formed (tree f k) ≡ true) where
   literal_no z =
       let o = opened f k w in
       other_head o.head (half_at f (node_size * k + 2)) (fields_at f (node_size * k)) o.back z ∙ sym (ap literal_bits o.is)
+
+  pub literal_read : (b : ℕ) (o : Given ℕ) → b ≡ byte_at f (node_size * k) → given_some o ≡ eqb b 0 → IfSome o (λ x. x ≡ long_at f (node_size * k + 8))
+      → option_of o ≡ literal_bits (tree f k)
+  literal_read b None e t h = literal_no (λ z. absurd (grind (arith, nat_tests)))
+  literal_read b (Some x) e t h = literal_yes x h (grind (arith, nat_tests))
 
 pub first_inside : (f : List ℕ) (k : ℕ) → well_formed (tree f k) ≡ true → node_size * k + node_size ≤ length f
 first_inside f k w = (opened f k w).inside
@@ -140,23 +147,6 @@ exponent_is f k r c = second_is (children_of (tree f k)) (tree f r) c.is
 pub exponent_none : (f : List ℕ) (k : ℕ) → well_formed (tree f k) ≡ true → half_at f (node_size * k + 2) ≤ 1 → second_literal (children_of (tree f k)) ≡ none
 exponent_none f k w h = second_none (children_of (tree f k)) (omega (arith, count_is f k w))
 
--- ---- a rule's literals
-
-pub literal_past : (n o : ℕ) → (o ≡ 0 → ⊥) → (o ≡ 1 → ⊥) → (o ≡ 2 → ⊥) → (o ≡ 3 → ⊥) → (o ≡ 4 → ⊥) → (o ≡ 5 → ⊥) → (o ≡ 6 → ⊥) → (o ≡ 7 → ⊥) → (o ≡ 8 → ⊥) → (o ≡ 9 → ⊥) → (o ≡ 10 → ⊥) → (o ≡ 11 → ⊥) → 0 ≡ literal_code n o
-literal_past n zero h0 h1 h2 h3 h4 h5 h6 h7 h8 h9 h10 h11 = absurd (h0 refl)
-literal_past n (suc zero) h0 h1 h2 h3 h4 h5 h6 h7 h8 h9 h10 h11 = absurd (h1 refl)
-literal_past n (suc (suc zero)) h0 h1 h2 h3 h4 h5 h6 h7 h8 h9 h10 h11 = absurd (h2 refl)
-literal_past n (suc (suc (suc zero))) h0 h1 h2 h3 h4 h5 h6 h7 h8 h9 h10 h11 = absurd (h3 refl)
-literal_past n (suc (suc (suc (suc zero)))) h0 h1 h2 h3 h4 h5 h6 h7 h8 h9 h10 h11 = absurd (h4 refl)
-literal_past n (suc (suc (suc (suc (suc zero))))) h0 h1 h2 h3 h4 h5 h6 h7 h8 h9 h10 h11 = absurd (h5 refl)
-literal_past n (suc (suc (suc (suc (suc (suc zero)))))) h0 h1 h2 h3 h4 h5 h6 h7 h8 h9 h10 h11 = absurd (h6 refl)
-literal_past n (suc (suc (suc (suc (suc (suc (suc zero))))))) h0 h1 h2 h3 h4 h5 h6 h7 h8 h9 h10 h11 = absurd (h7 refl)
-literal_past n (suc (suc (suc (suc (suc (suc (suc (suc zero)))))))) h0 h1 h2 h3 h4 h5 h6 h7 h8 h9 h10 h11 = absurd (h8 refl)
-literal_past n (suc (suc (suc (suc (suc (suc (suc (suc (suc zero))))))))) h0 h1 h2 h3 h4 h5 h6 h7 h8 h9 h10 h11 = absurd (h9 refl)
-literal_past n (suc (suc (suc (suc (suc (suc (suc (suc (suc (suc zero)))))))))) h0 h1 h2 h3 h4 h5 h6 h7 h8 h9 h10 h11 = absurd (h10 refl)
-literal_past n (suc (suc (suc (suc (suc (suc (suc (suc (suc (suc (suc zero))))))))))) h0 h1 h2 h3 h4 h5 h6 h7 h8 h9 h10 h11 = absurd (h11 refl)
-literal_past n (suc (suc (suc (suc (suc (suc (suc (suc (suc (suc (suc (suc o)))))))))))) h0 h1 h2 h3 h4 h5 h6 h7 h8 h9 h10 h11 = refl
-
 -- ---- a child as the code has it
 
 module _ (f : List ℕ) (T : List Row) (k i : ℕ) (g : List ℕ) (U : List Row) (r : ℕ) (h : (g ≡ f) × (U ≡ T) × IsChild f k i r) where
@@ -174,3 +164,9 @@ pub exponent_given : (f : List ℕ) (T : List Row) (k i : ℕ) (g : List ℕ) (U
     → second_literal (children_of (tree f k)) ≡ literal_bits (tree g r)
 exponent_given f T k i g U r h e =
     exponent_is f k r (subst (λ (x : ℕ). IsChild f k x r) e h.2) ∙ ap (λ (x : List ℕ). literal_bits (tree x r)) (sym h.0)
+
+-- ---- an option's two facts, by what it is
+
+pub either : {T : Type 0} {M N R : Type 0} {P Q : T → Type 0} (o : Given T) → MatchOption o M P → MatchOption o N Q → (M → N → R) → ((x : T) → P x → Q x → R) → R
+either None m n f g = f m n
+either (Some x) p q f g = g x p q

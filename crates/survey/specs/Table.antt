@@ -3,6 +3,7 @@ use Rattle.std.specs.Prelude.{◌≡◌, Bool, true, false, List, ℕ, zero, suc
 use Rattle.std.specs.Prelude.{Option as Given, None, Some}
 use Rattle.std.proofs.Math.Option.{Option, none, some}
 use Rattle.formula.specs.Formula.{Formula, Formulas, last, next, count, size, depth, depends, well_formed}
+use Rattle.formula.specs.Optional.{option_of}
 use Rattle.formula.specs.Text.{byte_at}
 use Rattle.formula.specs.Node.{node_size, tree_at}
 use Rattle.derivative.specs.Differentiate.{differentiate, first_depends, second_literal}
@@ -25,11 +26,6 @@ unfoldable pub trees : List ℕ → ℕ → ℕ → Formulas
 unfolding tree
 trees f zero k = last
 trees f (suc n) k = next (tree f k) (trees f n (k + size (tree f k)))
-
--- an answer of the code's as the definitions have it
-abbrev pub option_of : {A : Type 0} → Given A → Option A
-option_of None = none
-option_of (Some x) = some x
 
 -- attributes as the code holds them
 abbrev pub reading : Attributes → Spec.Attributes

@@ -7,7 +7,6 @@ use Rattle.derivative.specs.Attributes.{Attributes, attribute_algebra, attribute
 use Rattle.rules.specs.Notation.{rules_from, end_at}
 use Rattle.survey.specs.Derived.{derived_all, children_of, rule_for}
 use Rattle.survey.specs.declared.Attributes as Declared
-use Rattle.survey.specs.declared.Sum.{Sum}
 
 -- of a literal, and of a node that is none
 abbrev pub literal_attributes : ℕ → Attributes
@@ -38,6 +37,3 @@ worked s by_state t d q i = instance attribute_algebra (attribute_parts s by_sta
 unfoldable pub worked_all : ℕ → Bool → Formula → ℕ → ℕ → ℕ → ℕ → List Attributes
 worked_all s by_state t d q left i =
     instances attribute_algebra (attribute_parts s by_state t) (rules_from (λ j. rule_for t d q j) (λ j. end_at d q j) left i)
-
-abbrev pub summed : List Attributes → Sum
-summed as' = record { nodes = total_nodes as'; levels = most_levels as' }

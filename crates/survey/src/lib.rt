@@ -3,6 +3,7 @@
 // literal's bits. One pass over the formula fills a row of a table for each node; each child is worked out once.
 ghost use Rattle.std.specs.Prelude.{◌≡◌, true, [], ◌∷◌, ◌+◌, ◌*◌, ◌<◌, ◌≤◌, length, MatchOption};
 ghost use Rattle.formula.specs.Text.{byte_at, half_at};
+ghost use Rattle.formula.specs.Optional.{option_of};
 ghost use Rattle.formula.specs.Formula.{count, depends, well_formed, is_symbol as is_symbol_of};
 ghost use Rattle.formula.specs.Node.{node_size};
 ghost use Rattle.derivative.specs.Rules.{instance, less_one, add_of, mul_of};
@@ -12,18 +13,18 @@ ghost use Rattle.reader.specs.Read.{is_some};
 ghost use Rattle.rules.specs.Notation.{or_zero, literal_code, extremum as extremum_of, power_number};
 ghost use Rattle.rules.specs.Codes.{literal_number};
 ghost use Rattle.survey.specs.Derived.{children_of, head_of_tree, child_of, derived, derived_of, ruled};
-ghost use Rattle.survey.specs.Table.{tree, number_of, IsRule, reading, option_of, or_literal, row_in, Owned, Ready, IsChild, Room, Filled, found};
-ghost use Rattle.survey.specs.Worked.{attribute_parts, worked, worked_all, summed, literal_attributes, inner, over_sum, Capped};
+ghost use Rattle.survey.specs.Table.{tree, number_of, IsRule, reading, or_literal, row_in, Owned, Ready, IsChild, Room, Filled, found};
+ghost use Rattle.survey.specs.Worked.{attribute_parts, worked, worked_all, literal_attributes, inner, over_sum, Capped};
 
-use reader::{NODE_SIZE, byte, half, long, word};
-use rules::{Code, Literal, RulePart};
+use reader::{NODE_SIZE, NUMBER, SYMBOL, byte, half, long, word};
+use rules::{Code, Head, Literal, RulePart, number};
 
 // The bits of the literals 1 and -0.
 const ONE: u64 = 0x3ff0000000000000;
 
 const MINUS_ZERO: u64 = 0x8000000000000000;
 
-// A symbol, and whether it is a state.
+// A symbol, and whether it is a state: all that the rules ask of its kind.
 #[derive(Clone, Copy)]
 pub struct By {
     pub symbol: usize,
@@ -77,19 +78,14 @@ impl Attributes {
     pub fn is_zero(self) -> bool
         ensures { result ≡ attribute_algebra.is_zero (reading self) }
     {
-        match self.literal {
-            Some(bits) => bits == 0 || bits == MINUS_ZERO,
-            None => false,
-        }
+        self.literal
+            .is_some_and(|bits| bits == 0 || bits == MINUS_ZERO)
     }
 
     pub fn is_one(self) -> bool
         ensures { result ≡ attribute_algebra.is_one (reading self) }
     {
-        match self.literal {
-            Some(bits) => bits == ONE,
-            None => false,
-        }
+        self.literal == Some(ONE)
     }
 
     // A node above two trees.
@@ -158,7 +154,7 @@ fn conditional(a: Attributes, b: Attributes, c: Attributes) -> Attributes
 // ---- the table
 
 // A row: a node's own nodes and levels, whether the symbol stands in it, whether it has a derivative, and the derivative's
-// attributes, with a literal 0 where a rule is missing: so these are known where there is no derivative too, and no Option.
+// attributes, with a literal 0 where a rule is missing: these are known where there is no derivative too, so `fine` and `diff` are no Option.
 #[derive(Clone, Copy)]
 pub struct Row {
     pub nodes: usize,
@@ -223,22 +219,25 @@ impl<'a> Node<'a> {
         })
     }
 
+    // Its row.
+    pub fn row(&self) -> Row
+        ensures { result ≡ row_in self.now.rows.now self.now.number }
+    {
+        self.rows[self.number]
+    }
+
     // The bits of a literal.
     fn literal(&self) -> Option<u64>
         ensures { option_of result ≡ literal_bits (tree self.now.formula.now self.now.number) }
     {
         let at = NODE_SIZE * self.number;
-        if byte(self.formula, at) == 0 {
-            Some(long(self.formula, at + 8))
-        } else {
-            None
-        }
+        (byte(self.formula, at) == NUMBER).then(|| long(self.formula, at + 8))
     }
 
     fn attributes(&self) -> Attributes
         ensures { reading result ≡ attributes_of (tree self.now.formula.now self.now.number) }
     {
-        let row = self.rows[self.number];
+        let row = self.row();
         Attributes {
             nodes: row.nodes.min(16385),
             levels: row.levels.min(129),
@@ -249,20 +248,15 @@ impl<'a> Node<'a> {
     fn child_attributes(&self, i: usize) -> Attributes
         ensures { reading result ≡ attributes_of (child_of (tree self.now.formula.now self.now.number) i) }
     {
-        match self.child(i) {
-            Some(child) => child.attributes(),
-            None => Attributes::of_literal(0),
-        }
+        self.child(i)
+            .map_or(Attributes::of_literal(0), |child| child.attributes())
     }
 
     // The second child's bits where it is a literal.
     fn exponent(&self) -> Option<u64>
         ensures { option_of result ≡ second_literal (children_of (tree self.now.formula.now self.now.number)) }
     {
-        match self.child(1) {
-            Some(child) => child.literal(),
-            None => None,
-        }
+        self.child(1)?.literal()
     }
 
     fn exponent_bits(&self) -> u64
@@ -307,16 +301,16 @@ fn power_rule(exponent: Option<u64>) -> usize
     ensures { result ≡ power_number (option_of exponent) }
 {
     let Some(bits) = exponent else {
-        return 0x44;
+        return number::POWER;
     };
     let less = Attributes::of_literal(less_one(bits));
     if less.is_one() {
-        return 0x47;
+        return number::SQUARE;
     }
     if less.is_zero() {
-        return 0x48;
+        return number::FIRST_POWER;
     }
-    0x46
+    number::LITERAL_POWER
 }
 
 impl<'a> Part<'a> {
@@ -324,10 +318,9 @@ impl<'a> Part<'a> {
     pub fn diff_attributes(&self, i: usize) -> Attributes
         ensures { reading result ≡ attributes_of (derived_of self.now.by.symbol self.now.by.state (tree self.now.node.formula.now self.now.node.number) i) }
     {
-        match self.node.child(i) {
-            Some(child) => child.rows[child.number].diff,
-            None => Attributes::of_literal(0),
-        }
+        self.node
+            .child(i)
+            .map_or(Attributes::of_literal(0), |child| child.row().diff)
     }
 
     // Min and Max: "Equality deliberately selects the first argument at a tie", so from the last argument to the first.
@@ -356,18 +349,13 @@ impl<'a> Part<'a> {
         if here.levels == 0 || here.start >= 128 {
             return Attributes::of_literal(0);
         }
-        let first = RulePart {
-            start: here.start + 1,
-            levels: here.levels - 1,
-            ..here
-        };
-        let code = here.code();
-        match code {
+        let first = here.first();
+        match here.code() {
             Code::Nothing => Attributes::of_literal(0),
             Code::Child(i) => self.node.child_attributes(i),
             Code::Derivative(i) => self.diff_attributes(i),
             Code::Whole => self.node.attributes(),
-            Code::Node(_) => self.rules_attributes(first, code.parts()).above(),
+            Code::Node(head) => self.node_attributes(head, first),
             Code::Unless(i) => {
                 if self.diff_attributes(i).is_zero() {
                     return Attributes::of_literal(0);
@@ -375,58 +363,43 @@ impl<'a> Part<'a> {
                 self.rule_attributes(first)
             }
             Code::Add => {
-                let second = RulePart {
-                    start: first.end(),
-                    ..first
-                };
                 let a = self.rule_attributes(first);
-                a.add(self.rule_attributes(second))
+                a.add(self.rule_attributes(first.next()))
             }
             Code::Multiply => {
-                let second = RulePart {
-                    start: first.end(),
-                    ..first
-                };
                 let a = self.rule_attributes(first);
-                a.multiply(self.rule_attributes(second))
+                a.multiply(self.rule_attributes(first.next()))
             }
             Code::Extremum => self.extremum(),
             Code::Literal(literal) => Attributes::of_literal(self.node.literal_bits(literal)),
         }
     }
 
-    // Of so many parts one after another.
+    // Of a new node with the parts from here on.
     #[cycle(rules)]
-    fn rules_attributes(&self, here: RulePart, left: usize) -> Sum
-        requires { left ≤ 3 }
-        ensures { result ≡ summed (worked_all self.now.by.symbol self.now.by.state (tree self.now.node.formula.now self.now.node.number) here.levels here.rule left here.start) }
+    fn node_attributes(&self, head: Head, first: RulePart) -> Attributes
+        ensures { reading result ≡ inner (worked_all self.now.by.symbol self.now.by.state (tree self.now.node.formula.now self.now.node.number) first.levels first.rule head.children first.start) }
     {
-        if left == 0 {
-            return Sum {
-                nodes: 0,
-                levels: 0,
-            };
-        }
-        let next = RulePart {
-            start: here.end(),
-            ..here
+        let mut sum = Sum {
+            nodes: 0,
+            levels: 0,
         };
-        let a = self.rule_attributes(here);
-        let rest = self.rules_attributes(next, left - 1);
-        Sum {
-            nodes: a.nodes + rest.nodes,
-            levels: a.levels.max(rest.levels),
+        let mut start = first.start;
+        for _part in 0..head.children {
+            let here = RulePart { start, ..first };
+            let part = self.rule_attributes(here);
+            sum.nodes += part.nodes;
+            sum.levels = sum.levels.max(part.levels);
+            start = here.end();
         }
+        sum.above()
     }
 
     // Whether the first child has the symbol.
     fn moving(&self) -> bool
         ensures { result ≡ first_depends self.now.by.symbol (children_of (tree self.now.node.formula.now self.now.node.number)) }
     {
-        match self.node.child(0) {
-            Some(child) => child.rows[child.number].has,
-            None => false,
-        }
+        self.node.child(0).is_some_and(|child| child.row().has)
     }
 
     // The number of the rule: its kind and its operator, but for Power by a literal, Hill by a state, and what has no rule.
@@ -437,10 +410,22 @@ impl<'a> Part<'a> {
         let formula = self.node.formula;
         let q = 16 * usize::from(byte(formula, at)) + usize::from(byte(formula, at + 1));
         match q {
-            0x44 => power_rule(self.node.exponent()),
-            0x7d => { if self.by.state { 0x8d } else { q } }
-            0x7e | 0x80 => { if self.moving() { 0 } else { q } }
-            0x7b | 0x7c => { if self.node.children() == 0 { 0 } else { q } }
+            number::POWER => power_rule(self.node.exponent()),
+            number::HILL => {
+                if self.by.state {
+                    number::HILL_BY_STATE
+                } else {
+                    q
+                }
+            }
+            number::IFELSE | number::CONDITIONAL => { if self.moving() { number::NONE } else { q } }
+            number::MIN | number::MAX => {
+                if self.node.children() == 0 {
+                    number::NONE
+                } else {
+                    q
+                }
+            }
             _ => q,
         }
     }
@@ -450,6 +435,7 @@ impl<'a> Part<'a> {
         ensures { IsRule self.now.by.symbol self.now.by.state self.now.node.formula.now self.now.node.number result }
     {
         let whole = RulePart::whole(self.rule_number());
+        // A match is plainer here: `matches!` would take a negation and `then_some` beside it.
         match whole.code() {
             Code::Nothing => None,
             _ => Some(whole),
@@ -465,10 +451,8 @@ impl<'a> Part<'a> {
         if !has {
             return Some(Attributes::of_literal(0));
         }
-        match self.rule() {
-            Some(rule) => Some(self.rule_attributes(rule)),
-            None => None,
-        }
+        let rule = self.rule()?;
+        Some(self.rule_attributes(rule))
     }
 }
 
@@ -478,11 +462,11 @@ fn is_symbol(f: &[u8], k: usize, s: usize) -> bool
     requires { well_formed (tree f.now k) ≡ true }
     ensures { result ≡ is_symbol_of s (head_of_tree (tree f.now k)) }
 {
-    byte(f, NODE_SIZE * k) == 2 && word(f, NODE_SIZE * k + 4) == s
+    byte(f, NODE_SIZE * k) == SYMBOL && word(f, NODE_SIZE * k + 4) == s
 }
 
 // Fills the rows of a node and of all below it; the rows before and after them stay as they are. While rows are written there
-// is no Node, which lends them.
+// is no Node, which lends them: so the formula, the depth, what it is by and the rows stay four parameters.
 pub fn survey(f: &[u8], k: usize, depth: usize, by: By, rows: &mut [Row])
     requires { Room f.now rows.old k depth }
     ensures { Filled by.symbol by.state f.now rows.old rows.new k }
@@ -541,10 +525,9 @@ pub fn survey_formula(f: &[u8], depth: usize, by: By, rows: &mut [Row]) -> Found
         rows,
         number: 0,
     };
-    let diff = if row.fine { Some(row.diff) } else { None };
     Found {
         own: whole.attributes(),
         has: row.has,
-        diff,
+        diff: row.fine.then_some(row.diff),
     }
 }

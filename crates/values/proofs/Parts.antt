@@ -6,7 +6,7 @@ use Rattle.formula.specs.Text.{all_some, little_endian, long_at}
 use Rattle.formula.specs.Values.{digit_of, numbered, of_digits}
 use Rattle.names.specs.Lines.{cap, free, part}
 use Rattle.names.proofs.Splits.{and_both, and_first, and_second, free_append}
-use Rattle.std.specs.Prelude.{Some, None}
+use Rattle.std.specs.Prelude.{Some, None, ◌≢◌, All}
 use Rattle.values.specs.declared.Partial.{Partial}
 use Rattle.values.specs.Reading.{Good, Reading, Reads, ReadsDigit, ReadsOn, counted}
 use Rattle.values.specs.Eights.{Numbers}
@@ -32,6 +32,25 @@ pub free_more : (c : ℕ) (xs : List ℕ) (x : ℕ) → free c xs ≡ true → (
 free_more c [] x f n = and_both (not (eqb x c)) true (ap not (ne_eqb x c n)) refl
 free_more c (y ∷ xs) x f n =
     and_both (not (eqb y c)) (free c (xs ++ (x ∷ []))) (and_first (not (eqb y c)) (free c xs) f) (free_more c xs x (and_second (not (eqb y c)) (free c xs) f) n)
+
+free_all : (xs : List ℕ) → All (λ x. x ≢ 10) xs → free 10 xs ≡ true
+free_all [] h = refl
+free_all (x ∷ xs) h =
+    and_both (not (eqb x 10)) (free 10 xs) (ap not (ne_eqb x 10 (h 0 x (omega arith)))) (free_all xs (λ k d l. h (suc k) d (omega arith)))
+
+-- the first newline of what is left, or the end
+pub line_ends : (input : List ℕ) (from n : ℕ) → from ≤ length input → n ≤ length (drop from input) → All (λ x. x ≢ 10) (take n (drop from input))
+    → (n < length (drop from input) → get_or (drop from input) n 0 ≡ 10)
+    → (from ≤ from + n) × (from + n ≤ length input) × (free 10 (part input from (from + n)) ≡ true) × (from + n < length input → get_or input (from + n) 0 ≡ 10)
+unfolding part
+line_ends input from n h within before found =
+    let l = length-drop from input in
+    let z : from + n - from ≡ n = omega arith in (
+      omega arith,
+      omega arith,
+      ap (λ (k : ℕ). free 10 (take k (drop from input))) z ∙ free_all (take n (drop from input)) before,
+      λ k. sym (get_or-drop from input n 0) ∙ found (omega arith),
+    )
 
 pub on_none : (s : Reading) (values : List Float) → ReadsOn s values [] s values
 on_none s values seen g = subst (λ (xs : List ℕ). Reads xs s values) (sym (append-nil seen)) g

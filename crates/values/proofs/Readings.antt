@@ -6,8 +6,11 @@ use Rattle.formula.specs.Text.{all_some, joined}
 use Rattle.formula.specs.Values.{digit_of, of_digits, values_of}
 use Rattle.names.specs.Lines.{cap, prefixed}
 use Rattle.names.proofs.Splits.{prefixed_start, prefixed_more, prefixed_none, prefixed_some}
-use Rattle.std.specs.Prelude.{Some, None}
+use Rattle.std.specs.Prelude.{Some, None, Ok, Err}
+use Rattle.std.specs.Option.{ok_or}
 use Rattle.values.specs.declared.Partial.{Partial}
+use Rattle.refusals.specs.declared.Refusal.{Refusal}
+use Rattle.refusals.specs.declared.Refusal.TheVariants.{InvalidInput, MalformedLine}
 use Rattle.values.specs.Reading.{Bad, Finds, Good, Kept, Reading, Reads, ReadsDigit, counted, floats, values_in}
 use Rattle.values.proofs.Pieces.{digits_more, early_comma, last_value, late_digit, no_last, of_digits_append, other_byte, value_comma, values_empty, values_nonempty}
 
@@ -240,9 +243,8 @@ module _ (seen : List ℕ) (s : Partial) (values : List Float) where
     whole = ap values_in (sym (append-nil seen)) ∙ g.rest [] ∙ ap (λ (xs : List ℕ). prefixed g.vs (values_in xs)) (append-nil g.ds)
 
     -- after the last value's digits
-    pub ends_value : s.digits ≡ 16 → Finds (values_of seen) (Some (counted (length values) s.count)) (set values s.count (of_bits binary64 s.bits))
+    pub ends_value : s.digits ≡ 16 → (vs : List ℕ) × (values_of seen ≡ some vs) × Kept vs (counted (length values) s.count) (set values s.count (of_bits binary64 s.bits))
     ends_value d =
-        let n = counted (length values) s.count in
         let l : length g.ds ≡ 16 = g.many ∙ d in
         let e : values_of seen ≡ some (g.vs ++ (s.bits ∷ [])) =
         values_nonempty seen (some_seen (λ z. omega arith))
@@ -250,21 +252,44 @@ module _ (seen : List ℕ) (s : Partial) (values : List Float) where
         ∙ ap (prefixed g.vs) (last_value g.ds g.numbers g.digits l)
         ∙ prefixed_some g.vs (of_digits 0 g.numbers ∷ [])
         ∙ ap (λ (b : ℕ). some (g.vs ++ (b ∷ []))) g.bits in
-        subst (λ (o : Option (List ℕ)). Finds o (Some n) (set values s.count (of_bits binary64 s.bits))) (sym e) (kept_more g.vs s.count s.bits values g.kept)
+        (g.vs ++ (s.bits ∷ []), e, kept_more g.vs s.count s.bits values g.kept)
 
     -- within a value or after a comma
-    pub ends_within : (s.digits ≡ 16 → ⊥) → (seen ≡ [] → ⊥) → Finds (values_of seen) None values
+    pub ends_within : (s.digits ≡ 16 → ⊥) → (seen ≡ [] → ⊥) → Finds (values_of seen) (Err MalformedLine) values
     ends_within d n =
         let l : length g.ds ≡ 16 → ⊥ = λ z. d (sym g.many ∙ z) in
         let e : values_of seen ≡ none = values_nonempty seen n ∙ whole ∙ ap (prefixed g.vs) (no_last g.ds g.numbers g.digits l) ∙ prefixed_none g.vs in
-        subst (λ (o : Option (List ℕ)). Finds o None values) (sym e) tt
+        subst (λ (o : Option (List ℕ)). Finds o (Err MalformedLine) values) (sym e) refl
 
 -- with no byte
-pub ends_empty : (seen : List ℕ) (values : List Float) → seen ≡ [] → Finds (values_of seen) (Some 0) values
-ends_empty seen values e = subst (λ (o : Option (List ℕ)). Finds o (Some 0) values) (sym (values_empty seen e)) (kept_none values)
+pub ends_empty : (seen : List ℕ) (values : List Float) → seen ≡ [] → Finds (values_of seen) (Ok 0) values
+ends_empty seen values e = subst (λ (o : Option (List ℕ)). Finds o (Ok 0) values) (sym (values_empty seen e)) (refl, refl)
+
+-- of values that have places, or of more
+module _ (line : Option (List ℕ)) (count : ℕ) (values : List Float) (k : (vs : List ℕ) × (line ≡ some vs) × Kept vs count values) where
+  pub found_values : count ≤ length values → Finds line (Ok count) values
+  found_values h =
+      let c = k.2.counts in
+      let z : count ≡ length k.0 = omega arith in
+      subst (λ (o : Option (List ℕ)). Finds o (Ok count) values) (sym k.1) (z, ap (λ (i : ℕ). take i values) z ∙ k.2.stand (omega arith))
+
+  pub found_more : length values < count → Finds line (Err InvalidInput) values
+  found_more h = let c = k.2.counts in subst (λ (o : Option (List ℕ)). Finds o (Err InvalidInput) values) (sym k.1) (refl, omega arith)
 
 -- a line that was not as said before its end
-pub ends_bad : (seen : List ℕ) (values : List Float) → Bad seen → Finds (values_of seen) None values
+pub ends_bad : (seen : List ℕ) (values : List Float) → Bad seen → Finds (values_of seen) (Err MalformedLine) values
 ends_bad seen values g =
     let e : values_of seen ≡ none = values_nonempty seen g.later ∙ ap values_in (sym (append-nil seen)) ∙ g.rest [] in
-    subst (λ (o : Option (List ℕ)). Finds o None values) (sym e) tt
+    subst (λ (o : Option (List ℕ)). Finds o (Err MalformedLine) values) (sym e) refl
+
+-- a reading, or why there is none
+pub still_reads : (s : Reading) (t : Partial) → ok_or s MalformedLine ≡ Ok t → s ≡ Some t
+still_reads None t e = cc
+still_reads (Some x) t e = cc
+
+pub ends_none : (s : Reading) (refusal : Refusal) → ok_or s MalformedLine ≡ Err refusal → (seen : List ℕ) (values : List Float) → Reads seen s values
+    → Finds (values_of seen) (Err refusal) values
+ends_none None refusal e seen values g =
+    let w : refusal ≡ MalformedLine = cc in
+    subst (λ (r : Refusal). Finds (values_of seen) (Err r) values) (sym w) (ends_bad seen values g)
+ends_none (Some x) refusal e seen values g = cc

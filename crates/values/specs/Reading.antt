@@ -1,11 +1,13 @@
 -- A line of values as far as it was read, beside what `values_of` says of the line.
-use Rattle.std.specs.Prelude.{Option as Maybe, Some, None, ◌≡◌, ℕ, ◌+◌, ◌*◌, ◌%◌, ◌<◌, ◌≤◌, min, Bool, true, false, cond, List, [], ◌++◌, map, length, take, ◌≢◌, ◌⊎◌, from_bits, nat_lt, Float}
+use Rattle.std.specs.Prelude.{Option as Maybe, Some, None, Result, Ok, Err, ◌≡◌, ℕ, ◌+◌, ◌*◌, ◌%◌, ◌<◌, ◌≤◌, min, Bool, true, false, cond, List, [], ◌++◌, map, length, take, ◌≢◌, ◌⊎◌, from_bits, nat_lt, Float}
 use Rattle.std.proofs.Math.Option.{Option, none, some}
 use Rattle.std.specs.Float.{binary64}
 use Rattle.formula.specs.Text.{all_some, split}
 use Rattle.formula.specs.Values.{digit_of, of_digits, value_of, values_of}
 use Rattle.names.specs.Lines.{cap, prefixed}
 use Rattle.values.specs.declared.Partial.{Partial}
+use Rattle.refusals.specs.declared.Refusal.{Refusal}
+use Rattle.refusals.specs.declared.Refusal.TheVariants.{InvalidInput, MalformedLine}
 
 -- the values of the pieces between commas
 unfoldable pub values_in : List ℕ → Option (List ℕ)
@@ -51,12 +53,12 @@ abbrev pub Reads : List ℕ → Reading → List Float → Type 0
 Reads seen (Some s) values = Good seen s values
 Reads seen None values = Bad seen
 
--- a whole line's values: as many as there are, or one more than there are places; and the values, where they have places
-abbrev pub Finds : Option (List ℕ) → Maybe ℕ → List Float → Type 0
-Finds none None values = Unit {0}
-Finds none (Some n) values = ⊥
-Finds (some vs) None values = ⊥
-Finds (some vs) (Some n) values = Kept vs n values
+-- a whole line's values: they stand in the slice, or are more than it has places
+abbrev pub Finds : Option (List ℕ) → Result ℕ Refusal → List Float → Type 0
+Finds none (Err refusal) values = refusal ≡ MalformedLine
+Finds none (Ok n) values = ⊥
+Finds (some vs) (Err refusal) values = (refusal ≡ InvalidInput) × (length values < length vs)
+Finds (some vs) (Ok n) values = (n ≡ length vs) × (take n values ≡ floats vs)
 
 -- ---- what the functions say
 
@@ -76,7 +78,7 @@ ReadsDigit s b (Some t) =
 ReadsDigit s b None = (digit_of b ≡ none) ⊎ (16 ≤ s.digits)
 
 -- the line ends here
-abbrev pub EndsAs : Reading → List Float → Maybe ℕ → List Float → Type 0
+abbrev pub EndsAs : Reading → List Float → Result ℕ Refusal → List Float → Type 0
 EndsAs s values r values' = (seen : List ℕ) → Reads seen s values → Finds (values_of seen) r values'
 
 abbrev pub TellsEmpty : Reading → Bool → Type 0

@@ -3,16 +3,18 @@
 // commas". The memory is a slice for the values and three numbers, however long the line is.
 pub mod words;
 
-ghost use Rattle.std.specs.Prelude.{◌≡◌, ◌+◌, ◌<◌, ◌≤◌, true, List, [], ◌∷◌, length, from_bits, slice_index, slice_set, Float};
+ghost use Rattle.std.specs.Prelude.{◌≡◌, ◌≢◌, ◌+◌, ◌<◌, ◌≤◌, true, List, [], ◌∷◌, length, take, All, IfOk, from_bits, slice_index, slice_set, Float};
 ghost use Rattle.std.specs.Float.{binary64};
 ghost use Rattle.names.specs.Lines.{free, part};
 ghost use Rattle.values.specs.Reading.{EndsAs, ReadsDigit, ReadsOn, Starts, TellsEmpty, counted};
 ghost use Rattle.values.specs.Eights.{Numbers};
 
 use crate::words::read_eight;
+use refusals::Refusal;
 
 // A line as it is said to be, as far as it was read: how many values stand before its last comma, how many digits follow it
-// and their number. A count above the places of the slice is kept as one more than these.
+// and their number. A count above the places of the slice is one more than these. An Option of it would be no plainer: `keep` would
+// still compare the count with the places, and ask besides whether there is one.
 #[derive(Clone, Copy)]
 pub struct Partial {
     pub count: usize,
@@ -83,7 +85,8 @@ pub fn read_byte(s: Reading, b: u8, values: &mut [f64]) -> Reading
     Some(Partial::after(keep(values, line.count, line.bits)))
 }
 
-// What was read up to a byte of the input.
+// What was read up to a byte of the input. Each place here is one of the caller's input: of a shorter slice, lent from there on,
+// `read_values`, `read_part` and `lines` would have to add the place again to each end that they are given.
 #[derive(Clone, Copy)]
 pub struct Part {
     pub reading: Reading,
@@ -156,17 +159,21 @@ fn read_values(input: &[u8], from: usize, s: Partial, values: &mut [f64]) -> Par
     read_each(input, at, Partial::after(count))
 }
 
+// Where a byte stands first, or the end.
+pub fn first_place(bytes: &[u8], byte: u8) -> usize
+    ensures within { result ≤ length bytes.now }
+    ensures before { All (λ b. b ≢ byte) (take result bytes.now) }
+    ensures found { result < length bytes.now → slice_index bytes.now result ≡ byte }
+{
+    bytes.iter().position(|b| *b == byte).unwrap_or(bytes.len())
+}
+
 // The end of a line from a byte of the input on: its newline or the end of the input.
-fn line_end(input: &[u8], from: usize) -> usize
+pub fn line_end(input: &[u8], from: usize) -> usize
     requires { from ≤ length input.now }
     ensures { (from ≤ result) × (result ≤ length input.now) × (free 10 (part input.now from result) ≡ true) × (result < length input.now → slice_index input.now result ≡ 10) }
 {
-    for end in from..input.len() {
-        if input[end] == b'\n' {
-            return end;
-        }
-    }
-    input.len()
+    from + first_place(&input[from..], b'\n')
 }
 
 // Reads a line on from a byte of the input, to its newline or to the end of the input.
@@ -196,23 +203,25 @@ pub fn read_part(input: &[u8], from: usize, s: Reading, values: &mut [f64]) -> P
 pub fn is_empty(s: Reading) -> bool
     ensures { TellsEmpty s result }
 {
-    match s {
-        Some(line) => line.digits == 0 && line.count == 0,
-        None => false,
-    }
+    s.is_some_and(|line| line.digits == 0 && line.count == 0)
 }
 
-// What a line that ends here is found to be: so many values, where one more than the slice has places stands for any number
-// above that; or none, where it is not as said.
-pub fn finish(s: Reading, values: &mut [f64]) -> Option<usize>
-    ensures { EndsAs s values.old result values.new }
+// How many values a line has that ends here; they stand in the slice. A line that is not as said is refused by 3, and one of more
+// values than the slice has places by 5.
+pub fn finish(s: Reading, values: &mut [f64]) -> Result<usize, Refusal>
+    ensures ends { EndsAs s values.old result values.new }
+    ensures within { IfOk result (λ n. n ≤ length values.old) }
 {
     if is_empty(s) {
-        return Some(0);
+        return Ok(0);
     }
-    let line = s?;
+    let line = s.ok_or(Refusal::MalformedLine)?;
     if line.digits != 16 {
-        return None;
+        return Err(Refusal::MalformedLine);
     }
-    Some(keep(values, line.count, line.bits))
+    let count = keep(values, line.count, line.bits);
+    if count > values.len() {
+        return Err(Refusal::InvalidInput);
+    }
+    Ok(count)
 }

@@ -4,8 +4,6 @@ ghost use Rattle.formula.specs.Text.{little_endian};
 ghost use Rattle.formula.specs.Values.{digits_in};
 ghost use Rattle.values.specs.Eights.{AllBelow, Numbers, digit_byte};
 
-use std::num::wrapping_add_u64;
-
 // The bytes of eight digits, each in a byte of the word: 48 more, and 87 more from ten on.
 fn spelled(digits: u64) -> u64
     requires { AllBelow 16 (little_endian 8 digits) }
@@ -21,7 +19,7 @@ pub fn read_eight(w: u64) -> Option<u64>
     ensures { Numbers 8 (little_endian 8 w) result }
 {
     let letters = (w & 0x4040_4040_4040_4040) / 64;
-    let digits = wrapping_add_u64(w, 9 * letters) & 0x0f0f_0f0f_0f0f_0f0f;
+    let digits = w.wrapping_add(9 * letters) & 0x0f0f_0f0f_0f0f_0f0f;
     if w == spelled(digits) {
         let pairs = (16 * digits + digits / 256) & 0x00ff_00ff_00ff_00ff;
         let fours = (256 * pairs + pairs / 65536) & 0x0000_ffff_0000_ffff;

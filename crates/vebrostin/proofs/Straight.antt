@@ -1,6 +1,7 @@
 -- The answer to a question that the cells hold, nothing kept, goes straight on.
+use Rattle.std.specs.Prelude.{Option, None, Some, IfSome, MatchOption}
 use mathlib.Core.Path.{◌≡◌, refl, sym, ap, ◌∙◌}
-use mathlib.Core.Bool.{Bool, true, false, ◌||◌}
+use mathlib.Core.Bool.{Bool, true, false, ◌||◌, false≢true}
 use mathlib.Core.List.{List, [], ◌∷◌}
 use mathlib.Core.Option.{some}
 use Prim.Native.Nat.{ℕ, ◌+◌, ◌-◌, ◌≤◌, ◌<◌}
@@ -24,6 +25,11 @@ use Rattle.run.proofs.Single.{answered_reaches, budget_left}
 use Rattle.run.proofs.Whole.{resume_goes}
 use Rattle.vebrostin.specs.Cells.{state_in}
 use Rattle.vebrostin.specs.Calls.{Answers, PutsOnly, is_refused}
+
+-- what holds of an option's value and a test of it
+pub where_some : {A Q : Type 0} {P R : A → Type 0} {r : Bool} (o : Option A) → MatchOption o (r ≡ false) R → IfSome o P → ((x : A) → P x → R x → r ≡ true → Q) → r ≡ true → Q
+where_some None m p f e = absurd (false≢true (sym m ∙ e))
+where_some (Some x) m p f e = f x p m e
 
 -- the cells hold the question that the instruction puts
 pub answers : (b : List ℕ) (regs : List Float) (cells : List ℕ) (v : Float) (q : Question) → get_or cells 0 0 < code_count b → get_or cells 1 0 ≡ 0 → finite v ≡ true

@@ -1,12 +1,12 @@
 -- The cells that the code writes are those of the state.
-use mathlib.Core.Path.{◌≡◌, refl, sym, ap, ◌∙◌}
+use mathlib.Core.Path.{◌≡◌, refl, sym, ap, ◌∙◌, subst}
 use mathlib.Core.List.{List, [], ◌∷◌, ◌++◌, append_assoc}
 use mathlib.Core.Option.{Option, none, some}
 use Prim.Native.Nat.{ℕ, zero, suc, ◌+◌, ◌<◌, ◌≤◌}
 use native.Mathlib.Numerals.{add-one}
 use native.Mathlib.Omega.{arith}
-use lib.ListN.{length, length-append, drop, take, set, get_or}
-use lib.Seq.{take_all}
+use lib.ListN.{length, length-append, length-drop, drop, take, set, get_or}
+use lib.Seq.{drop-append-add, drop-drop, length-take-le, set_split, take-suc, take_all, take_at}
 use lib.Ieee.{Float}
 use Rattle.meaning.specs.Work.{Question, elementary, power}
 use Rattle.vebrostin.specs.Cells.{bits, padded, question_cells, state_cells}
@@ -57,3 +57,21 @@ pub row_over : (row o : List ℕ) {cells : List ℕ} {i : ℕ} → length row �
 row_over row o {cells} {i} n low high e =
     let all : i ≡ 16 = omega (arith, low, high) in
     e ∙ ap (λ (k : ℕ). take k row ++ drop k o) all ∙ ap (λ (x : List ℕ). x ++ drop 16 o) (take_all 16 row (omega (arith, n)))
+
+-- one cell more of a row that is copied to the front of a slice
+pub copied : (b o : List ℕ) (i : ℕ) → i < length b → length b ≤ length o
+    → set (take i b ++ drop i o) i (get_or b i 0) ≡ take (i + 1) b ++ drop (i + 1) o
+copied b o i h l =
+    let P = take i b in
+    let p : length P ≡ i = length-take-le i b (omega arith) in
+    let n : i < length (P ++ drop i o) = simp (length-append, length-drop) (omega arith) in
+    let t : take i (P ++ drop i o) ≡ P = take_at P (drop i o) i p in
+    let d : drop (suc i) (P ++ drop i o) ≡ drop (i + 1) o =
+    ap (λ (k : ℕ). drop k (P ++ drop i o)) (sym (add-one i))
+    ∙ subst (λ (k : ℕ). drop (k + 1) (P ++ drop i o) ≡ drop 1 (drop i o)) p (drop-append-add P (drop i o) 1)
+    ∙ drop-drop 1 i o in
+    set_split (P ++ drop i o) i (get_or b i 0) n
+    ∙ ap (λ (x : List ℕ). x ++ (get_or b i 0 ∷ drop (suc i) (P ++ drop i o))) t
+    ∙ ap (λ (x : List ℕ). P ++ (get_or b i 0 ∷ x)) d
+    ∙ sym (append_assoc P (get_or b i 0 ∷ []) (drop (i + 1) o))
+    ∙ ap (λ (x : List ℕ). x ++ drop (i + 1) o) (sym (ap (λ (k : ℕ). take k b) (add-one i) ∙ take-suc b i 0 h))

@@ -19,7 +19,10 @@ ghost use Rattle.vebrostin.specs.Calls.{Answers, Carries, Compiles, Derives, End
 
 use floats::value::{bits_of, is_finite, of_bits};
 use instruction::value_at;
-use layout::{CODE_AT, HEADER_SIZE, INPUTS_AT, REGISTERS_AT, RESULT_AT, SLOT_SIZE};
+use layout::opcode::EXP;
+use layout::{
+    A_AT, B_AT, CODE_AT, DESTINATION_AT, HEADER_SIZE, INPUTS_AT, REGISTERS_AT, RESULT_AT, SLOT_SIZE,
+};
 use reader::{known_word, word};
 use refusals::Refusal;
 use run::{Answer, Place, Reply, State};
@@ -32,6 +35,14 @@ pub const REPORT_LENGTH: usize = 8;
 pub const NODE_PLACE: usize = 0;
 
 pub const STATE_LENGTH: usize = 16;
+
+// What a call answers that neither gives a value, which is 0, nor is refused.
+const PUT: usize = 100;
+
+const SPENT: usize = 101;
+
+// The cell of a question has Power's number, or one more than a function's.
+const POWER: u64 = 17;
 
 fn number(refusal: Refusal) -> usize
     ensures { result ≡ refusals.number_of refusal }
@@ -47,12 +58,9 @@ fn told<T: Drop>(given: Result<T, Refusal>, report: &mut [u64]) -> usize
     ensures number { result ≡ told_number given }
     ensures node { report.new ≡ set report.old node_place (told_node given) }
 {
-    let Err(refusal) = given else {
-        report[NODE_PLACE] = 0;
-        return 0;
-    };
-    report[NODE_PLACE] = refusal.node().unwrap_or(0) as u64;
-    number(refusal)
+    let refusal = given.err();
+    report[NODE_PLACE] = refusal.and_then(|refusal| refusal.node()).unwrap_or(0) as u64;
+    refusal.map_or(0, number)
 }
 
 // 0 and a program, or the refusal, with its node in the report.
@@ -119,13 +127,11 @@ pub fn vebrostin_inputs(program: &[u8]) -> usize
 
 // ---- a state as cells
 
+// 0 past the end.
 fn cell(cells: &[u64], i: usize) -> u64
     ensures { result ≡ get_or cells.now i 0 }
 {
-    if i < cells.len() {
-        return cells[i];
-    }
-    0
+    cells.get(i).copied().unwrap_or(0)
 }
 
 fn value_in(cells: &[u64], i: usize) -> f64
@@ -141,9 +147,11 @@ fn question_in(question: u64, first: u64, second: u64) -> Option<Question>
     let x = of_bits(first);
     match question {
         0 => None,
-        17 => Some(Question::Power(x, of_bits(second))),
-        1..=255 => Some(Question::Elementary((question - 1) as u8, x)),
-        _ => Some(Question::Elementary(255, x)),
+        POWER => Some(Question::Power(x, of_bits(second))),
+        _ => {
+            let function = u8::try_from(question - 1).unwrap_or(255);
+            Some(Question::Elementary(function, x))
+        }
     }
 }
 
@@ -167,6 +175,7 @@ fn state_in(cells: &[u64]) -> State
 }
 
 // A value's bits, from which it is read again.
+#[tactic(auto, using(crate::proofs::Crossing::comes_back))]
 fn value_bits(x: f64) -> u64
     ensures { (result ≡ bits x) × ComesBack x }
 {
@@ -179,7 +188,7 @@ fn question_cells(pending: Option<Question>) -> [u64; 3]
     match pending {
         None => [0, 0, 0],
         Some(Question::Elementary(f, x)) => [1 + u64::from(f), value_bits(x), 0],
-        Some(Question::Power(x, y)) => [17, value_bits(x), value_bits(y)],
+        Some(Question::Power(x, y)) => [POWER, value_bits(x), value_bits(y)],
     }
 }
 
@@ -197,8 +206,8 @@ fn number_of(answer: Answer) -> usize
 {
     match answer {
         Answer::Value(_) => 0,
-        Answer::Question(_) => 100,
-        Answer::Spent => 101,
+        Answer::Question(_) => PUT,
+        Answer::Spent => SPENT,
         Answer::Domain(_) => number(Refusal::OutsideDomain),
         Answer::Refused(refusal) => number(refusal),
     }
@@ -284,7 +293,7 @@ fn is_early(program: &[u8], inputs: &[f64], registers: &[f64], room: usize, budg
 
 // The question of an instruction that puts no other: Power's within its domain, or a function's that the host answers.
 // It and `ends` stand in line where they are called: with calls, 24 questions take 19,046 machine instructions for 16,433.
-#[tactic(auto, using(run::proofs::Looping::code_small))]
+#[tactic(auto, using(run::proofs::Looping::code_small, instruction::proofs::Once::power_puts, instruction::proofs::Once::power_takes, instruction::proofs::Once::function_puts, instruction::proofs::Once::function_takes, instruction::proofs::Once::function_range))]
 #[inline(always)]
 fn question_at(program: &[u8], registers: &[f64], at: usize) -> Option<Question>
     requires { at < code_count program.now }
@@ -295,13 +304,13 @@ fn question_at(program: &[u8], registers: &[f64], at: usize) -> Option<Question>
         return None;
     }
     let op = program[slot];
-    let x = value_at(registers, known_word(program, slot + 8));
-    let y = value_at(registers, known_word(program, slot + 12));
+    let x = value_at(registers, known_word(program, slot + A_AT));
+    let y = value_at(registers, known_word(program, slot + B_AT));
     if work::puts_power(op, x, y) {
         return Some(Question::Power(x, y));
     }
     if work::puts_function(op) {
-        return Some(Question::Elementary(op - 20, x));
+        return Some(Question::Elementary(op - EXP as u8, x));
     }
     None
 }
@@ -330,11 +339,11 @@ fn ends(
     }
     if place.left == 0 {
         put(cells, place.at, &[], None, count, 0);
-        return 101;
+        return SPENT;
     }
     if let Some(question) = question_at(program, registers, place.at) {
         put(cells, place.at, &[], Some(question), count, 0);
-        return 100;
+        return PUT;
     }
     let reply = run::rest(program, inputs, registers, path, count, place);
     put_reply(cells, reply)
@@ -359,10 +368,7 @@ fn is_answer(program: &[u8], registers: &[f64], cells: &[u64], value: f64) -> bo
     if word(program, CODE_AT) <= at || cells[1] != 0 || !is_finite(value) {
         return false;
     }
-    match question_at(program, registers, at) {
-        Some(question) => is_pending(cells, question),
-        None => false,
-    }
+    question_at(program, registers, at).is_some_and(|question| is_pending(cells, question))
 }
 
 // The same of a call that neither 1 nor 5 refuses.
@@ -384,7 +390,8 @@ fn is_direct(
 
 // ---- runs
 
-// Whether the cells or the report have fewer numbers than a run needs.
+// Whether the cells or the report have fewer numbers than a run needs. Behind this test cells are a slice still: of an array of the sixteen
+// each function that tests would show besides that what follows them stays, and a run without the check would be two, with all clauses twice.
 fn is_short(cells: &[u64], report: &[u64]) -> bool
     ensures { result ≡ short cells.now report.now }
 {
@@ -392,6 +399,7 @@ fn is_short(cells: &[u64], report: &[u64]) -> bool
 }
 
 // 0 and a value, 100 and a question, 101 for spent, or the refusal; the state, the count and the value stand in the cells.
+#[tactic(auto, using(crate::proofs::Outcomes::run_short))]
 pub fn vebrostin_run(
     program: &[u8],
     inputs: &[f64],
@@ -414,6 +422,7 @@ pub fn vebrostin_run(
     number(Refusal::NoProgram)
 }
 
+#[tactic(auto, using(run::proofs::Whole::unsettled, crate::proofs::Outcomes::resume_short, crate::proofs::Outcomes::resume_ten))]
 fn resumed(
     program: &[u8],
     inputs: &[f64],
@@ -486,6 +495,7 @@ pub fn vebrostin_answer(
 
 // As `vebrostin_run`, without the check of the bytes: where they are a program, or a slice is too short, it is that.
 // Otherwise it ends too and stays inside the slices; what it answers and leaves in them, but for the report, is free.
+#[tactic(auto, using(crate::proofs::Outcomes::run_short))]
 pub fn vebrostin_run_unchecked(
     program: &[u8],
     inputs: &[f64],
@@ -515,6 +525,7 @@ pub fn vebrostin_run_unchecked(
     ends(program, inputs, registers, path, cells, count, place)
 }
 
+#[tactic(auto, using(crate::proofs::Outcomes::resume_short))]
 fn resumed_unchecked(
     program: &[u8],
     inputs: &[f64],
@@ -560,7 +571,7 @@ pub fn vebrostin_resume_unchecked(
 }
 
 // As `vebrostin_answer`, without the check.
-#[tactic(auto, using(run::proofs::Looping::code_small))]
+#[tactic(auto, using(run::proofs::Looping::code_small, crate::proofs::Outcomes::resume_short))]
 pub fn vebrostin_answer_unchecked(
     program: &[u8],
     inputs: &[f64],
@@ -580,7 +591,7 @@ pub fn vebrostin_answer_unchecked(
     }
     if is_direct(program, inputs, registers, path.len(), budget, cells, value) {
         let at = cells[0] as usize;
-        let to = word(program, HEADER_SIZE + SLOT_SIZE * at + 4);
+        let to = word(program, HEADER_SIZE + SLOT_SIZE * at + DESTINATION_AT);
         instruction::store(registers, to, value);
         let next = Place {
             at: at + 1,

@@ -4,11 +4,12 @@ ghost use Rattle.meaning.specs.Work.{advance, supplied, elementary};
 ghost use Rattle.work.specs.View.{shown, kept_values};
 ghost use Rattle.work.specs.Opcode.{work_of};
 
-use crate::opcode::{ABS, CEIL, DENSITY, EXP, FLOOR, HILL, MAX, MIN, SQRT};
 use crate::{Kept, Outcome, asking};
 use floats::extremum::{hold_above, hold_below};
+use layout::opcode::{ABS, CEIL, DENSITY, EXP, FLOOR, HILL, MAX, MIN, SQRT};
 
 // "Exp, Log, Log10, Sin, Cos, Tan, Tanh and Power within its domain are questions": one, whose answer is the value.
+#[tactic(auto, using(crate::proofs::Answers::given))]
 fn ask(function: u8, x: f64, kept: Kept) -> Outcome
     ensures { result ≡ shown (advance (supplied (elementary function x)) (kept_values kept)) }
 {
@@ -32,6 +33,7 @@ fn single(opcode: usize, x: f64, y: f64, z: f64, kept: Kept) -> Outcome
     }
 }
 
+#[tactic(auto, using(crate::proofs::Answers::given), unfolding(arithmetic::specs::Extremum::hold))]
 pub fn call(opcode: usize, x: f64, y: f64, z: f64, kept: Kept) -> Outcome
     requires { 20 ≤ opcode }
     ensures { result ≡ shown (advance (work_of opcode x y z) (kept_values kept)) }

@@ -11,6 +11,7 @@ ghost use Rattle.work.specs.View.{shown, kept_values};
 use crate::{EXP_NUMBER, Kept, LOG_NUMBER, Outcome, asking};
 use floats::constant::{ln_two, two_pi};
 
+#[tactic(auto, using(crate::proofs::Answers::given, crate::proofs::Answers::outside), unfolding(meaning::specs::Work::density_work))]
 pub fn density(x: f64, mean: f64, shape: f64, kept: Kept) -> Outcome
     ensures { result ≡ shown (advance (density_work binary64 x mean shape) (kept_values kept)) }
 {
@@ -40,6 +41,7 @@ pub fn density(x: f64, mean: f64, shape: f64, kept: Kept) -> Outcome
 }
 
 // From the cost's first question on.
+#[tactic(auto, using(crate::proofs::Answers::given), unfolding(meaning::specs::Work::density_cost))]
 fn with_cost(x: f64, mean: f64, shape: f64, normalizer: f64, kept: Kept) -> Outcome
     ensures { result ≡ shown (advance (density_cost binary64 x mean shape (λ cost. supplied (asked Exp (sub binary64 normalizer cost)))) (drop 3 (kept_values kept))) }
 {

@@ -7,6 +7,7 @@ ghost use Rattle.work.specs.View.{shown, kept_values};
 
 use crate::{EXP_NUMBER, Kept, LOG_NUMBER, Outcome, asking};
 
+#[tactic(auto, using(crate::proofs::Answers::given, crate::proofs::Answers::outside), unfolding(meaning::specs::Work::hill_work))]
 pub fn hill(x: f64, n: f64, k: f64, kept: Kept) -> Outcome
     ensures { result ≡ shown (advance (hill_work binary64 x n k) (kept_values kept)) }
 {

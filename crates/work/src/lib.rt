@@ -3,7 +3,6 @@
 mod call;
 mod density;
 mod hill;
-pub mod opcode;
 mod operator;
 
 ghost use Rattle.std.specs.Prelude.{◌≡◌, ◌&&◌, ◌<◌, [], ◌∷◌, ◌++◌, eqb, length, nat_lt, take};
@@ -13,7 +12,7 @@ ghost use Rattle.meaning.specs.Work.{advance, elementary, power_defined};
 ghost use Rattle.work.specs.View.{Next, shown, shown_question, kept_values};
 ghost use Rattle.work.specs.Opcode.{puts_function, work_of};
 
-use opcode::{ADD, EXP, LT, MODULO, NE, NOT, POWER, SQRT, TANH};
+use layout::opcode::{ADD, EXP, LT, MODULO, NE, NOT, POWER, SQRT, TANH};
 
 // "A half-done Hill or density keeps the values supplied to it, logarithms and the density's first exp":
 // the first `count` of nine, as no node puts more than nine questions. There is no heap for a list, and a state that comes
@@ -36,6 +35,7 @@ impl Kept {
     }
 
     // One value more; past nine it is lost.
+    #[tactic(auto, using(crate::proofs::Answers::full))]
     pub fn with(self, value: f64) -> Kept
         ensures { kept_values result ≡ take 9 (kept_values self ++ value ∷ []) }
     {
@@ -59,11 +59,7 @@ impl Kept {
         requires { place < 9 }
         ensures { Next (kept_values self.now) place result }
     {
-        if place < self.count {
-            Some(self.values[place])
-        } else {
-            None
-        }
+        (place < self.count).then_some(self.values[place])
     }
 }
 

@@ -5,9 +5,10 @@ ghost use Rattle.meaning.specs.Work.{advance, divide_work, modulo_work, power_de
 ghost use Rattle.work.specs.View.{shown, kept_values};
 ghost use Rattle.work.specs.Opcode.{work_of};
 
-use crate::opcode::{ADD, DIVIDE, EQ, GE, GT, LE, LT, MULTIPLY, NEGATIVE, NOT, POWER, SUBTRACT};
 use crate::{Kept, Outcome, Question, truth_value};
+use layout::opcode::{ADD, DIVIDE, EQ, GE, GT, LE, LT, MULTIPLY, NEGATIVE, NOT, POWER, SUBTRACT};
 
+#[tactic(auto, using(crate::proofs::Answers::given, crate::proofs::Numbers::first_six))]
 pub fn unary(opcode: usize, x: f64, y: f64, z: f64, kept: Kept) -> Outcome
     requires { opcode < 8 }
     ensures { result ≡ shown (advance (work_of opcode x y z) (kept_values kept)) }
@@ -37,6 +38,7 @@ pub fn is_power_defined(a: f64, b: f64) -> bool
     (0.0 <= a || floats::whole::is_whole(b)) && !(a == 0.0 && b <= 0.0)
 }
 
+#[tactic(auto, using(crate::proofs::Answers::given))]
 fn power(a: f64, b: f64, kept: Kept) -> Outcome
     ensures { result ≡ shown (advance (power_work binary64 a b) (kept_values kept)) }
 {

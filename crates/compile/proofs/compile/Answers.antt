@@ -33,8 +33,8 @@ returns-in_err-within c =
     (early _ 4 _ (some root) args.path.now _ args.program.now limit.0 (omega arith) limit.1
     (path_rooted S _ c.in_err-within.ensures.0 args.path.now _ c.in_err-within.ensures.1))
 
-pub shared_ref_as_front-write : goal.shared_ref_as_front-write
-shared_ref_as_front-write c =
+pub shared_ref_as_front-kinds : goal.shared_ref_as_front-kinds
+shared_ref_as_front-kinds c =
     let args = c.args in
     let S = source_of args.formula.now args.names.now (length args.path.now) (length args.program.now) _ c.in_ok-table.ensures in
     omega (arith, counted _ _ S.table, S.few)

@@ -1,10 +1,6 @@
-use mathlib.Core.Path.{◌∙◌}
 use Rattle.std.proofs.lemmas.Result.{err_from_is_err_and}
-use Rattle.demand.proofs.Owing.{compiled_answer, derived_refused}
+use Rattle.demand.proofs.Owing.{derived_refused}
 use Rattle.demand.proofs.write_program.Goals as goal
-
-pub returns-in-Formula-clause-answer : goal.returns-in-Formula-clause-answer
-returns-in-Formula-clause-answer c = rw c.in-Formula.is (c.compile.ensures.0 ∙ compiled_answer _)
 
 pub returns-in_err-derive-in-Derivative-clause-answer : goal.returns-in_err-derive-in-Derivative-clause-answer
 returns-in_err-derive-in-Derivative-clause-answer c =

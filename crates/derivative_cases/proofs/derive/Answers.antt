@@ -31,4 +31,4 @@ write_derivative-requires g c =
     (room_from c.args.f.now _ (sym c.is_formula.ensures ∙ c.if-not-is_formula.false) (sym c.is_small.ensures ∙ c.if-not-is_small.false) (omega arith))
     found.auto.rows found.ensures.1 found.result found.ensures.0 c.in-Some.diff c.in-Some.is g.F.Form.records whole.result.nodes c.args.out.now
     (ap (λ (x : Attributes). x.nodes) whole.ensures) (omega (arith, c.if-whole-gt16384.false))
-    (room_for g.F.Form.records c.args.size whole.result.nodes (length c.args.out.now) c.requires c.if-out-size.false)
+    (room_for g.F.Form.records c.SIZE.result whole.result.nodes (length c.args.out.now) (c.SIZE.ensures ∙ g.met.F.Form.sized) c.if-out-SIZE.false)

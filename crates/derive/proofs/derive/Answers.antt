@@ -42,8 +42,8 @@ returns-in_err-within c =
     (refused_first args.formula.now args.names.now args.symbol args.path.now _ lens 4 _ (some root) args.tree.now args.list.now args.program.now limit.0 limit.1
     (path_rooted S _ c.in_err-within.ensures.0 args.path.now _ c.in_err-within.ensures.1))
 
-pub shared_ref_as_front-derive_formula : goal.shared_ref_as_front-derive_formula
-shared_ref_as_front-derive_formula c =
+pub shared_ref_as_front-given : goal.shared_ref_as_front-given
+shared_ref_as_front-given c =
     let args = c.args in
     let S = source_of args.formula.now args.names.now (length args.path.now) (length args.program.now) _ c.in_ok-table.ensures in
     omega (arith, counted _ _ S.table, S.few)

@@ -17,9 +17,9 @@ derive_number-requires c =
     let F = pre.1.2 in
     let E = c.in_ok-boolean.ensures f ss F in
     let N = faultless lens args.symbol f ss args.path.now c.lower_own.new.path c.in_ok-boolean.boolean E.0 E.1 in
-    let known : args.symbol < length ss = omega (arith, c.if-symbol-kinds.false, kinds_length args.kinds.now ss F.listed) in
-    let state = state_is args.kinds.now ss args.symbol _ F.listed known in (
-      omega (arith, c.if-formula-le512.true),
+    let known : args.symbol < length ss = omega (arith, c.if-symbol-given.false, kinds_length args.given.now.kinds.now ss F.listed) in
+    let state = state_is args.given.now.kinds.now ss args.symbol _ F.listed known in (
+      omega (arith, c.if-given-le512.true),
       omega arith,
       omega (arith, pre.0, ap length N.2),
       (
@@ -39,9 +39,9 @@ derive_number-requires-2 c =
     let F = pre.1.2 in
     let E = c.in_ok-boolean.ensures f ss F in
     let N = faultless lens args.symbol f ss args.path.now c.lower_own.new.path c.in_ok-boolean.boolean E.0 E.1 in
-    let known : args.symbol < length ss = omega (arith, c.if-symbol-kinds.false, kinds_length args.kinds.now ss F.listed) in
-    let state = state_is args.kinds.now ss args.symbol _ F.listed known in (
-      omega (arith, small args.formula.now args.kinds.now f ss F),
+    let known : args.symbol < length ss = omega (arith, c.if-symbol-given.false, kinds_length args.given.now.kinds.now ss F.listed) in
+    let state = state_is args.given.now.kinds.now ss args.symbol _ F.listed known in (
+      omega (arith, small args.given.now.formula.now args.given.now.kinds.now f ss F),
       omega arith,
       omega (arith, pre.0, ap length N.2),
       (

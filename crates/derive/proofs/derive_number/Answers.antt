@@ -21,7 +21,7 @@ pub survey_formula-found-requires : goal.survey_formula-found-requires
 survey_formula-found-requires g c =
     let args = c.args in
     let pre = c.requires in
-    surveyed_room args.formula.now pre.3.0 pre.3.2.given.formed pre.3.2.given.limit _ (omega (arith, pre.0, length-replicate {A = Row}))
+    surveyed_room args.given.now.formula.now pre.3.0 pre.3.2.given.formed pre.3.2.given.limit _ (omega (arith, pre.0, length-replicate {A = Row}))
 
 pub returns-in_default : goal.returns-in_default
 returns-in_default g c =
@@ -31,7 +31,7 @@ returns-in_default g c =
     leaves _ _ _ _ _ _ _ _ _ _ _
     (unruled (lengths args.tree.now args.list.now args.program.now) ss _ _
     (sym (by_is args.by.symbol f args.by.state ss D.is_state)
-    ∙ no_derivative args.formula.now f D.given.formed D.given.limit args.by.symbol args.by.state found.result found.ensures.0 c.in_default.is))
+    ∙ no_derivative args.given.now.formula.now f D.given.formed D.given.limit args.by.symbol args.by.state found.result found.ensures.0 c.in_default.is))
     (c.refuse_at_root.ensures.0, c.refuse_at_root.ensures.1, c.refuse_at_root.ensures.2, c.refuse_at_root.ensures.3, refl)
 
 pub with_primal-whole-requires : goal.with_primal-whole-requires
@@ -39,7 +39,7 @@ with_primal-whole-requires g c =
     let args = c.args in
     let found = c.survey_formula-found in
     let diff = c.in-Some.diff in
-    let t = tree args.formula.now 0 in (
+    let t = tree args.given.now.formula.now 0 in (
       own_capped args.by.symbol args.by.state t found.result found.ensures.0,
       diff_capped args.by.symbol args.by.state t found.result found.ensures.0 diff c.in-Some.is,
     )
@@ -52,7 +52,7 @@ returns-then-whole-gt16384 g c =
     let whole = c.with_primal-whole in
     let lens = lengths args.tree.now args.list.now args.program.now in
     λ f ss D.
-    let H = has_derivative args.formula.now f D.given.formed D.given.limit args.by.symbol args.by.state found.result found.ensures.0 whole.result diff c.in-Some.is whole.ensures in
+    let H = has_derivative args.given.now.formula.now f D.given.formed D.given.limit args.by.symbol args.by.state found.result found.ensures.0 whole.result diff c.in-Some.is whole.ensures in
     let e = sym (by_is args.by.symbol f args.by.state ss D.is_state) ∙ H.1 in
     leaves _ _ _ _ _ _ _ _ _ _ _
     (too_large lens ss _ _ H.0 e
@@ -67,7 +67,7 @@ returns-then-too_short g c =
     let whole = c.with_primal-whole in
     let lens = lengths args.tree.now args.list.now args.program.now in
     λ f ss D.
-    let H = has_derivative args.formula.now f D.given.formed D.given.limit args.by.symbol args.by.state found.result found.ensures.0 whole.result diff c.in-Some.is whole.ensures in
+    let H = has_derivative args.given.now.formula.now f D.given.formed D.given.limit args.by.symbol args.by.state found.result found.ensures.0 whole.result diff c.in-Some.is whole.ensures in
     let e = sym (by_is args.by.symbol f args.by.state ss D.is_state) ∙ H.1 in
     let few : whole.result.nodes ≤ 16384 = omega (arith, c.if-whole-gt16384.false) in
     let n = nodes_exact whole.result H.0 H.2 few in
@@ -90,12 +90,12 @@ write_all-requires g c =
     let f = pre.3.0 in
     let ss = pre.3.1 in
     let D = pre.3.2 in
-    let H = has_derivative args.formula.now f D.given.formed D.given.limit args.by.symbol args.by.state found.result found.ensures.0 whole.result diff c.in-Some.is whole.ensures in
+    let H = has_derivative args.given.now.formula.now f D.given.formed D.given.limit args.by.symbol args.by.state found.result found.ensures.0 whole.result diff c.in-Some.is whole.ensures in
     let e = sym (by_is args.by.symbol f args.by.state ss D.is_state) ∙ H.1 in
     let few : whole.result.nodes ≤ 16384 = omega (arith, c.if-whole-gt16384.false) in
     let n = nodes_exact whole.result H.0 H.2 few in
     let limit = within_limit whole.result H.0 H.2 few (omega (arith, c.if-whole-gt128.false)) in
-    let job = job_of args.by.symbol args.by.state args.formula.now _ _ 32 (surveyed_room args.formula.now f D.given.formed D.given.limit _ (omega (arith, pre.0, length-replicate {A = Row})))
+    let job = job_of args.by.symbol args.by.state args.given.now.formula.now _ _ 32 (surveyed_room args.given.now.formula.now f D.given.formed D.given.limit _ (omega (arith, pre.0, length-replicate {A = Row})))
     found.auto.rows found.ensures.1 found.result found.ensures.0 diff c.in-Some.is in
     let room = rooms lens whole.result.nodes (sym c.too_short.ensures ∙ c.if-too_short.false) in
     let nodes = ap (λ (x : Attributes). x.nodes) whole.ensures in (
@@ -113,7 +113,7 @@ returns g c =
     let whole = c.with_primal-whole in
     let lens = lengths args.tree.now args.list.now args.program.now in
     λ f ss D.
-    let H = has_derivative args.formula.now f D.given.formed D.given.limit args.by.symbol args.by.state found.result found.ensures.0 whole.result diff c.in-Some.is whole.ensures in
+    let H = has_derivative args.given.now.formula.now f D.given.formed D.given.limit args.by.symbol args.by.state found.result found.ensures.0 whole.result diff c.in-Some.is whole.ensures in
     let e = sym (by_is args.by.symbol f args.by.state ss D.is_state) ∙ H.1 in
     let few : whole.result.nodes ≤ 16384 = omega (arith, c.if-whole-gt16384.false) in
     let n = nodes_exact whole.result H.0 H.2 few in

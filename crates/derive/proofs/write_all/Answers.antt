@@ -15,45 +15,45 @@ pub zero_from-requires : goal.zero_from-requires
 zero_from-requires c =
     let args = c.args in
     let pre = c.requires in
-    let derives_tree2 = derives_tree args.formula.now args.kinds.now args.by.symbol args.by.state (length args.program.now) pre.3.0 pre.3.1 pre.3.2 pre.3.3 in
-    inside_first args.formula.now args.kinds.now args.by.symbol args.by.state (length args.program.now) pre.3.0 pre.3.1 pre.3.2 pre.3.3 (λ i. omega (arith, c.type_inv.formula i)) args.tree.now c.write_derivative-n.new.out _ c.write_derivative-n.result (pre.1.room pre.3.2 derives_tree2) (c.write_derivative-n.ensures pre.3.2 derives_tree2) refl
+    let derives_tree2 = derives_tree args.given.now.formula.now args.given.now.kinds.now args.by.symbol args.by.state (length args.program.now) pre.3.0 pre.3.1 pre.3.2 pre.3.3 in
+    inside_first args.given.now.formula.now args.given.now.kinds.now args.by.symbol args.by.state (length args.program.now) pre.3.0 pre.3.1 pre.3.2 pre.3.3 args.given.now.bytes args.tree.now c.write_derivative-n.new.out _ c.write_derivative-n.result (pre.1.room pre.3.2 derives_tree2) (c.write_derivative-n.ensures pre.3.2 derives_tree2) refl
 
 pub zero_from-requires-2 : goal.zero_from-requires-2
 zero_from-requires-2 c =
     let args = c.args in
     let pre = c.requires in
-    let derives_tree2 = derives_tree args.formula.now args.kinds.now args.by.symbol args.by.state (length args.program.now) pre.3.0 pre.3.1 pre.3.2 pre.3.3 in
-    written_inside (list_bytes (derivative_records args.by.symbol args.by.state (tree args.formula.now 0))) args.list.now c.write_derivative-m.new.out _
-    c.write_derivative-m.result (records_room args.formula.now args.kinds.now args.by.symbol args.by.state (length args.program.now) pre.3.0 pre.3.1 pre.3.2 pre.3.3 _ (pre.2.room pre.3.2 derives_tree2)) (c.write_derivative-m.ensures pre.3.2 derives_tree2) refl
+    let derives_tree2 = derives_tree args.given.now.formula.now args.given.now.kinds.now args.by.symbol args.by.state (length args.program.now) pre.3.0 pre.3.1 pre.3.2 pre.3.3 in
+    written_inside (list_bytes (derivative_records args.by.symbol args.by.state (tree args.given.now.formula.now 0))) args.list.now c.write_derivative-m.new.out _
+    c.write_derivative-m.result (records_room args.given.now.formula.now args.given.now.kinds.now args.by.symbol args.by.state (length args.program.now) pre.3.0 pre.3.1 pre.3.2 pre.3.3 _ (pre.2.room pre.3.2 derives_tree2)) (c.write_derivative-m.ensures pre.3.2 derives_tree2) refl
 
 pub slice_bounds-write-end : goal.slice_bounds-write-end
 slice_bounds-write-end c =
     let args = c.args in
     let pre = c.requires in
-    let derives_tree2 = derives_tree args.formula.now args.kinds.now args.by.symbol args.by.state (length args.program.now) pre.3.0 pre.3.1 pre.3.2 pre.3.3 in
-    inside args.formula.now args.kinds.now args.by.symbol args.by.state (length args.program.now) pre.3.0 pre.3.1 pre.3.2 pre.3.3 (λ i. omega (arith, c.type_inv.formula i)) args.tree.now c.write_derivative-n.new.out c.zero_from.new.out c.write_derivative-n.result (pre.1.room pre.3.2 derives_tree2) (c.write_derivative-n.ensures pre.3.2 derives_tree2) c.zero_from.ensures
+    let derives_tree2 = derives_tree args.given.now.formula.now args.given.now.kinds.now args.by.symbol args.by.state (length args.program.now) pre.3.0 pre.3.1 pre.3.2 pre.3.3 in
+    inside args.given.now.formula.now args.given.now.kinds.now args.by.symbol args.by.state (length args.program.now) pre.3.0 pre.3.1 pre.3.2 pre.3.3 args.given.now.bytes args.tree.now c.write_derivative-n.new.out c.zero_from.new.out c.write_derivative-n.result (pre.1.room pre.3.2 derives_tree2) (c.write_derivative-n.ensures pre.3.2 derives_tree2) c.zero_from.ensures
 
 pub slice_bounds-write-end-2 : goal.slice_bounds-write-end-2
 slice_bounds-write-end-2 c =
     let args = c.args in
     let pre = c.requires in
-    let derives_tree2 = derives_tree args.formula.now args.kinds.now args.by.symbol args.by.state (length args.program.now) pre.3.0 pre.3.1 pre.3.2 pre.3.3 in
-    counted args.formula.now args.kinds.now args.by.symbol args.by.state (length args.program.now) pre.3.0 pre.3.1 pre.3.2 pre.3.3 (λ i. omega (arith, c.type_inv.formula i)) args.tree.now c.write_derivative-n.new.out c.zero_from.new.out c.write_derivative-n.result (pre.1.room pre.3.2 derives_tree2) (c.write_derivative-n.ensures pre.3.2 derives_tree2) c.zero_from.ensures
+    let derives_tree2 = derives_tree args.given.now.formula.now args.given.now.kinds.now args.by.symbol args.by.state (length args.program.now) pre.3.0 pre.3.1 pre.3.2 pre.3.3 in
+    counted args.given.now.formula.now args.given.now.kinds.now args.by.symbol args.by.state (length args.program.now) pre.3.0 pre.3.1 pre.3.2 pre.3.3 args.given.now.bytes args.tree.now c.write_derivative-n.new.out c.zero_from.new.out c.write_derivative-n.result (pre.1.room pre.3.2 derives_tree2) (c.write_derivative-n.ensures pre.3.2 derives_tree2) c.zero_from.ensures
 
 pub write-requires : goal.write-requires
 write-requires c =
     let args = c.args in
     let pre = c.requires in
-    let derives_tree2 = derives_tree args.formula.now args.kinds.now args.by.symbol args.by.state (length args.program.now) pre.3.0 pre.3.1 pre.3.2 pre.3.3 in
-    fits args.formula.now args.kinds.now args.by.symbol args.by.state (length args.program.now) pre.3.0 pre.3.1 pre.3.2 pre.3.3 (λ i. omega (arith, c.type_inv.formula i)) args.tree.now c.write_derivative-n.new.out c.zero_from.new.out c.write_derivative-n.result (pre.1.room pre.3.2 derives_tree2) (c.write_derivative-n.ensures pre.3.2 derives_tree2) c.zero_from.ensures _ pre.0
+    let derives_tree2 = derives_tree args.given.now.formula.now args.given.now.kinds.now args.by.symbol args.by.state (length args.program.now) pre.3.0 pre.3.1 pre.3.2 pre.3.3 in
+    fits args.given.now.formula.now args.given.now.kinds.now args.by.symbol args.by.state (length args.program.now) pre.3.0 pre.3.1 pre.3.2 pre.3.3 args.given.now.bytes args.tree.now c.write_derivative-n.new.out c.zero_from.new.out c.write_derivative-n.result (pre.1.room pre.3.2 derives_tree2) (c.write_derivative-n.ensures pre.3.2 derives_tree2) c.zero_from.ensures _ pre.0
 
 pub returns-in_err-write : goal.returns-in_err-write
 returns-in_err-write c =
     let args = c.args in
     let pre = c.requires in
     λ f ss d D.
-    let e = derives_tree args.formula.now args.kinds.now args.by.symbol args.by.state (length args.program.now) f ss d D in
-    let fine = accepted args.formula.now args.kinds.now args.by.symbol args.by.state (length args.program.now) f ss d D (λ i. omega (arith, c.type_inv.formula i)) args.tree.now
+    let e = derives_tree args.given.now.formula.now args.given.now.kinds.now args.by.symbol args.by.state (length args.program.now) f ss d D in
+    let fine = accepted args.given.now.formula.now args.given.now.kinds.now args.by.symbol args.by.state (length args.program.now) f ss d D args.given.now.bytes args.tree.now
     c.write_derivative-n.new.out c.zero_from.new.out c.write_derivative-n.result (pre.1.room d e) (c.write_derivative-n.ensures d e) c.zero_from.ensures _
     c.in_err-write.ensures.0 in
     absurd (let z : ◌≡◌ {A = ℕ} 0 1 = cc in omega arith)
@@ -69,13 +69,13 @@ returns c =
     let tree_slice = args.tree.now in
     let state = args.by.state in
     let symbol = args.by.symbol in
-    let kinds = args.kinds.now in
-    let formula = args.formula.now in
+    let kinds = args.given.now.kinds.now in
+    let formula = args.given.now.formula.now in
     let long = length args.program.now in
     let last = write_derivative.new.out in
     λ f ss d D.
     let e = derives_tree formula kinds symbol state long f ss d D in
-    let b : Bytes formula = λ i. omega (arith, c.type_inv.formula i) in
+    let b : Bytes formula = args.given.now.bytes in
     let W = write_derivative.ensures d e in
     let R = wrote formula kinds symbol state long f ss d D b tree_slice last zero_from.new.out write_derivative.result (pre.1.room d e) W zero_from.ensures
     args.path.now c.write.new.path args.program.now c.write.new.p c.in_ok-write.ensures.1 c.in_ok-write.ensures.2 in (

@@ -10,6 +10,6 @@ pub returns : goal.returns
 returns c =
     let node = c.args.node.now in
     c.from.ensures ∙ c.arm_number.ensures
-    ∙ ap (λ (x : ℕ). coded_arm x c.from-operator.result) (c.from-kind.ensures ∙ c.byte.ensures)
-    ∙ ap (λ (x : ℕ). coded_arm (byte_at node.formula.now (node_size * node.number)) x) (c.from-operator.ensures ∙ c.byte-2.ensures)
+    ∙ ap (λ (x : ℕ). coded_arm x c.byte-2.result) c.byte.ensures
+    ∙ ap (λ (x : ℕ). coded_arm (byte_at node.formula.now (node_size * node.number)) x) c.byte-2.ensures
     ∙ arm_coded node.formula.now node.number node.owned.formed

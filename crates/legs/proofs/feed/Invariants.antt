@@ -7,7 +7,7 @@ abbrev pub invariant-loop-at : goal.invariant-loop-at
 invariant-loop-at l =
     let m = l.initial.memory in
     (text : List ℕ)
-    × Feeding l.formula l.input (held m) l.initial.stage m.out.now l.at (held l.memory) l.stage l.memory.out.now text
+    × Feeding l.formula l.input (held l.initial.names m) l.initial.stage m.out.now l.at (held l.names l.memory) l.stage l.memory.out.now text
     × SameSlices m l.memory
 
 abbrev pub decreases-loop-at : goal.decreases-loop-at

@@ -11,7 +11,7 @@ feed_all-requires c =
     let f = c.unwrap_or-formula in
     let p = c.requires in
     record {
-      stands = stands_first (file_of a.file) f.result.now (held a.memory.now) b.result.stage (take b.result.length b.new.out) (bytes_or a.file _ f.result f.ensures) p.roomy (b.ensures.begins p.room);
+      stands = stands_first (file_of a.file) f.result.now (held a.names.now a.memory.now) b.result.stage (take b.result.length b.new.out) (bytes_or a.file _ f.result f.ensures) p.roomy (b.ensures.begins p.room);
       room = omega (arith, b.auto.out, p.room);
       some = p.some;
     }

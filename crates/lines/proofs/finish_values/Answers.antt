@@ -6,8 +6,8 @@ returns-then-is_empty-clause-finishes c =
     let a = c.args in
     let m = a.memory.now in
     let w = c.put_total in
-    λ formula.
-    values_last_none a.line m.program.now m.values.now m.regs.now m.out.now c.requires formula m.names.now m.path.now c.is_empty.result
+    λ formula names.
+    values_last_none a.line m.program.now m.values.now m.regs.now m.out.now c.requires formula names m.path.now c.is_empty.result
     c.is_empty.ensures c.if-is_empty.true (c.is_ready.ensures.ready.0 c.if-not-is_ready.false) w.new.out w.result w.ensures.wrote w.ensures.room
 
 pub returns-clause-finishes : goal.returns-clause-finishes
@@ -17,8 +17,8 @@ returns-clause-finishes c =
     let p = c.put_record-put in
     let w = c.put_total-2 in
     let ready = c.is_ready.ensures.ready.0 c.if-not-is_ready.false in
-    λ formula.
-    values_last_line a.line m.program.now m.values.now m.regs.now m.out.now c.requires formula m.names.now m.path.now c.is_empty.result
+    λ formula names.
+    values_last_line a.line m.program.now m.values.now m.regs.now m.out.now c.requires formula names m.path.now c.is_empty.result
     c.is_empty.ensures c.if-is_empty.false ready (c.is_ready.ensures.short c.if-not-is_ready.false) p.new.values p.new.regs
     p.new.out p.result p.ensures.room p.ensures.records p.ensures.beyond p.auto.out w.new.out
     w.result w.ensures.wrote w.ensures.room

@@ -1,13 +1,16 @@
-use Rattle.lines.proofs.Keeping.{keeping_start, keeping_step}
+use Rattle.std.proofs.Common.{take, ap, ◌∙◌, arith}
+use Rattle.names.specs.Lines.{free}
+use Rattle.lines.proofs.Keeping.{keeps_written}
+use Rattle.lines.proofs.Newlines.{take_part}
 use Rattle.lines.proofs.keep_names.Goals as goal
 
-pub loop-end-init : goal.loop-end-init
-loop-end-init c = keeping_start c.args.input.now c.args.k c.args.names.now
+pub returns-clause-place : goal.returns-clause-place
+returns-clause-place c =
+    let p = c.line_end-end.ensures in
+    (p.1, ap (free 10) (take_part c.args.input.now 0 c.line_end-end.result (omega arith)) ∙ p.2, p.3)
 
-pub loop-end-preserved : goal.loop-end-preserved
-loop-end-preserved c =
-    let args = c.args in
-    let loop = c.loop-end in
-    let keep = c.keep_byte-count in
-    keeping_step args.input.now args.k args.names.now loop.end loop.count loop.names loop.invariant c.loop-end-test.true c.if-b-eq10.false
-    keep.result keep.new.names keep.ensures.0 keep.ensures.1
+pub returns-clause-kept : goal.returns-clause-kept
+returns-clause-kept c =
+    let a = c.args in
+    let w = c.put_bytes-count in
+    (keeps_written a.names.now a.k (take c.line_end-end.result a.input.now) w.result w.new.out w.auto.out (rw c.min-n.ensures at w.ensures)).0

@@ -18,7 +18,7 @@ returns-then-is_empty c = listing_empty c.args.line.now (eqb-true (length c.args
 pub loop-kind-init : goal.loop-kind-init
 loop-kind-init c = record {
   listing = listing_start c.args.line.now (eqb-false (length c.args.line.now) 0 (sym c.is_empty.ensures ∙ c.if-is_empty.false));
-  listed = tt;
+  listed = λ k d l. absurd (omega arith);
   placed = tt;
   rooms = (refl, refl);
   near = omega arith;

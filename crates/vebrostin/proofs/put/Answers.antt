@@ -8,8 +8,7 @@ use Rattle.machine.specs.Machine.{State}
 use Rattle.run.specs.Views.{pending_of}
 use Rattle.vebrostin.specs.Cells.{state_cells, state_in}
 use Rattle.vebrostin.proofs.Crossing.{held_more, state_back}
-use Rattle.differentiate.proofs.Lists.{copied}
-use Rattle.vebrostin.proofs.Written.{row_length, row_more, row_over, row_whole}
+use Rattle.vebrostin.proofs.Written.{copied, row_length, row_more, row_over, row_whole}
 use Rattle.vebrostin.proofs.put.Goals as goal
 
 pub loop-i-preserved : goal.loop-i-preserved

@@ -1,22 +1,9 @@
--- A short slice of numbers, or bytes that are no program.
+-- Bytes that are no program.
 use Rattle.std.proofs.Common.{length, sym, ◌∙◌}
 use Rattle.run.specs.Views.{supplied_of}
 use Rattle.run.proofs.Whole.{unsettled}
-use Rattle.vebrostin.proofs.Outcomes.{resume_short, resume_ten}
+use Rattle.vebrostin.proofs.Outcomes.{resume_ten}
 use Rattle.vebrostin.proofs.resumed.Goals as goal
-
-pub returns-then-is_short-clause-outcome : goal.returns-then-is_short-clause-outcome
-returns-then-is_short-clause-outcome c =
-    let a = c.args in
-    rw c.number.ensures
-    (resume_short a.inputs.now a.program.now a.budget (supplied_of a.supplied) a.registers.now a.cells.now a.path.now a.report.now (sym c.is_short.ensures ∙ c.if-is_short.true)).0
-
-pub returns-clause-outcome : goal.returns-clause-outcome
-returns-clause-outcome c =
-    let a = c.args in
-    let u = unsettled a.program.now (length a.path.now) (sym c.goes_on.ensures ∙ c.if-goes_on.false) in
-    rw c.number-2.ensures
-    (resume_ten a.inputs.now a.program.now a.budget (supplied_of a.supplied) a.registers.now a.cells.now a.path.now a.report.now (sym c.is_short.ensures ∙ c.if-is_short.false) u.0 u.1).0
 
 pub returns-clause-state : goal.returns-clause-state
 returns-clause-state c =

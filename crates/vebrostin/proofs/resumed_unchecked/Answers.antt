@@ -1,15 +1,8 @@
--- A short slice of numbers, a refusal, or the reply's cells.
+-- A refusal, or the reply's cells.
 use Rattle.std.proofs.Common.{refl, sym, ◌∙◌}
 use Rattle.run.specs.Views.{supplied_of}
-use Rattle.vebrostin.proofs.Outcomes.{apart, resume_goes_on, resume_refused, resume_short, settled, unrefused}
+use Rattle.vebrostin.proofs.Outcomes.{apart, resume_goes_on, resume_refused, settled, unrefused}
 use Rattle.vebrostin.proofs.resumed_unchecked.Goals as goal
-
-pub returns-then-is_short-clause-outcome : goal.returns-then-is_short-clause-outcome
-returns-then-is_short-clause-outcome c =
-    let a = c.args in
-    λ s.
-    rw c.number.ensures
-    (resume_short a.inputs.now a.program.now a.budget (supplied_of a.supplied) a.registers.now a.cells.now a.path.now a.report.now (sym c.is_short.ensures ∙ c.if-is_short.true)).0
 
 pub returns-in-Refused-clause-outcome : goal.returns-in-Refused-clause-outcome
 returns-in-Refused-clause-outcome c =

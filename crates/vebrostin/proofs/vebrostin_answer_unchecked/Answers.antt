@@ -1,19 +1,12 @@
--- A short slice of numbers, or straight along from the answer.
+-- Straight along from the answer.
 use Rattle.std.proofs.Common.{arith, length, refl, sym, ◌∙◌}
 use Rattle.std.proofs.Math.Option.{some}
 use Rattle.layout.specs.Decode.{destination_at}
 use Rattle.run.proofs.Single.{budget_left}
 use Rattle.run.proofs.Whole.{settled_valid}
-use Rattle.vebrostin.proofs.Outcomes.{apart, ends_as, placed_as, resume_ends, resume_short, settled}
+use Rattle.vebrostin.proofs.Outcomes.{apart, ends_as, placed_as, resume_ends, settled}
 use Rattle.vebrostin.proofs.Straight.{answer_goes, answer_stands}
 use Rattle.vebrostin.proofs.vebrostin_answer_unchecked.Goals as goal
-
-pub returns-then-is_short-clause-outcome : goal.returns-then-is_short-clause-outcome
-returns-then-is_short-clause-outcome c =
-    let a = c.args in
-    λ s.
-    rw c.number.ensures
-    (resume_short a.inputs.now a.program.now a.budget (some a.value) a.registers.now a.cells.now a.path.now a.report.now (sym c.is_short.ensures ∙ c.if-is_short.true)).0
 
 pub overflow_sub-next : goal.overflow_sub-next
 overflow_sub-next c =

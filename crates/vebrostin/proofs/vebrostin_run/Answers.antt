@@ -1,15 +1,9 @@
--- A short slice of numbers, or bytes that are no program.
+-- Bytes that are no program.
 use Rattle.std.proofs.Common.{length, refl, sym, ◌∙◌}
 use Rattle.machine.specs.Machine.{fresh, refused}
 use Rattle.run.proofs.Whole.{run_10, unsettled}
-use Rattle.vebrostin.proofs.Outcomes.{placed_as, put_ends, run_ends, run_short}
+use Rattle.vebrostin.proofs.Outcomes.{placed_as, put_ends, run_ends}
 use Rattle.vebrostin.proofs.vebrostin_run.Goals as goal
-
-pub returns-then-is_short-clause-outcome : goal.returns-then-is_short-clause-outcome
-returns-then-is_short-clause-outcome c =
-    let a = c.args in
-    rw c.number.ensures
-    (run_short a.inputs.now a.program.now a.budget a.registers.now a.cells.now a.path.now a.report.now (sym c.is_short.ensures ∙ c.if-is_short.true)).0
 
 pub returns : goal.returns
 returns c =

@@ -1,16 +1,9 @@
--- A short slice of numbers, 1 or 5, or straight along.
+-- 1 or 5, or straight along.
 use Rattle.std.proofs.Common.{[], length, refl, sym, ◌∙◌}
 use Rattle.run.proofs.Whole.{run_goes, settled_valid}
-use Rattle.vebrostin.proofs.Outcomes.{apart, ends_as, placed_as, reply_ends, run_ends, run_short, settled}
+use Rattle.vebrostin.proofs.Outcomes.{apart, ends_as, placed_as, reply_ends, run_ends, settled}
 use Rattle.vebrostin.proofs.Straight.{not_early}
 use Rattle.vebrostin.proofs.vebrostin_run_unchecked.Goals as goal
-
-pub returns-then-is_short-clause-outcome : goal.returns-then-is_short-clause-outcome
-returns-then-is_short-clause-outcome c =
-    let a = c.args in
-    λ s.
-    rw c.number.ensures
-    (run_short a.inputs.now a.program.now a.budget a.registers.now a.cells.now a.path.now a.report.now (sym c.is_short.ensures ∙ c.if-is_short.true)).0
 
 pub returns-then-is_early : goal.returns-then-is_early
 returns-then-is_early c =

@@ -11,4 +11,4 @@ returns c =
     let number = c.args.node.now.number in
     as_text _ _ _ _ _ (ap (λ (x : ℕ). record_bytes (by_rule x number)) c.rule.ensures)
     (written_over (record_bytes (by_rule c.rule.result number)) c.args.out.now _ _ (omega (arith, record_length (by_rule c.rule.result number)))
-    c.put_record.ensures)
+    c.put_origin.ensures)

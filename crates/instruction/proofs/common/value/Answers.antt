@@ -46,8 +46,8 @@ returns-in-10 c =
 
 pub returns-in-11 : goal.returns-in-11
 returns-in-11 c =
-    quotient_stores c.args.op c.args.a c.args.b c.args.inputs.now c.args.regs.now c.value_at-in-11.result c.value_at-in-11-2.result c.quotient.result
-    c.in-11.is c.value_at-in-11.ensures c.value_at-in-11-2.ensures c.quotient.ensures
+    quotient_stores c.args.op c.args.a c.args.b c.args.inputs.now c.args.regs.now c.value_at-in-11.result c.value_at-in-11-2.result _
+    c.in-11.is c.value_at-in-11.ensures c.value_at-in-11-2.ensures refl
 
 pub returns-in-14 : goal.returns-in-14
 returns-in-14 c =

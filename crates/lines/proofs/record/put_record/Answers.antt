@@ -14,7 +14,7 @@ returns-clause-records c =
     let ready = ready_same a.p.now (length a.values.now) (length a.regs.now) (length f.new.values) (length a.regs.now) f.auto.values refl c.requires.0 in
     λ seen r.
     entered_as a.line.number _ _ a.line.totals a.out.now a.at w.new.out _
-    (o.ensures.answers ∙ found_record a.p.now f.new.values (length a.regs.now) ready (values_of seen) f.result (f.ensures seen r))
+    (o.ensures.answers ∙ found_record a.p.now f.new.values (length a.regs.now) ready (values_of seen) f.result (f.ensures.ends seen r))
     (record { wrote = w.ensures.wrote; adds = c.with_line.ensures a.p.now a.line.number })
 
 pub returns-clause-beyond : goal.returns-clause-beyond

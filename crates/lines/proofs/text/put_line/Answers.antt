@@ -119,7 +119,7 @@ returns c =
     let steps_of = c.steps_of in
     let put_decimal2 = c.put_decimal-newline in
     let put_bytes3 = c.put_bytes in record {
-      wrote = line_wrote args.out.now args.at args.number args.count steps_of.result (answer_of args.p.bytes.now args.answer)
+      wrote = line_wrote args.out.now args.at args.number args.outcome.count steps_of.result (answer_of args.p.bytes.now args.outcome.answer)
           put_decimal.new.out put_bytes.new.out put_answer.new.out put_bytes2.new.out put_decimal2.new.out put_bytes3.new.out
           put_decimal.result put_bytes.result put_answer.result put_bytes2.result put_decimal2.result put_bytes3.result
           (steps_of.ensures args.p.bytes.now)

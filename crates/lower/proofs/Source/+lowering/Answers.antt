@@ -7,7 +7,11 @@ use Rattle.formula.specs.Node.{node_size, tree_in}
 use Rattle.formula.specs.Term.{apply, term, terms}
 use Rattle.machine.proofs.Laws.{instruction_count_pos}
 use lib.Dec.{eqb}
-use Rattle.lower.specs.Piece.{arm, context_of, further, kids, leaf, past}
+use lib.ListN.{length}
+use Rattle.formula.specs.Text.{little_endian}
+use Rattle.writer.specs.Over.{over}
+use Rattle.lower.specs.Low.{Done}
+use Rattle.lower.specs.Piece.{Lists, arm, context_of, further, kids, leaf, operands_piece, past, place}
 use Rattle.lower.proofs.Answers.{arm_at, arm_from, arm_ready, arms_of, as_node, at_argument, lists_as, miscounted_here, operands_as, operands_asked, operands_ready, ready_moved, ready_term, ready_to, rest_as, rest_ready, three_past, three_well, two_well, well_to}
 use Rattle.lower.proofs.Choices as choices
 use Rattle.lower.proofs.Collects as collects
@@ -18,16 +22,17 @@ use Rattle.lower.proofs.Lowers.{Split, link_split, none_done, one_done, own_done
 use Rattle.lower.proofs.Results.{as_done, as_faulty, done_as, fault_as, handed_up, lists_as_is, same_as, says_as}
 use Rattle.lower.proofs.Says.{refused, taken}
 use Rattle.lower.proofs.Wholes as wholes
+use Rattle.lower.proofs.Source.+lowering.Goals.{operand-then-o, operand-else-o, operand-then-rest-eq0, operand-else-rest-eq0+in_ok-w}
 use Rattle.lower.proofs.Source.+lowering.Goals as goal
 
-pub branch-returns-then-not-v : goal.branch-returns-then-not-v
-branch-returns-then-not-v t c =
+pub branch-returns-then-not-choice : goal.branch-returns-then-not-choice
+branch-returns-then-not-choice t c =
     let args = c.args in
     let pre = c.requires in
     let source = args.self.now in
     let d = args.levels in
-    let arms = arms_of source d args.arms args.v pre.ready in
-    says_as _ _ _ _ _ (fault_as c.fault.ensures) (choices.not_boolean arms (not_true _ _ refl c.if-not-v.true))
+    let arms = arms_of source d args.choice pre.ready in
+    says_as _ _ _ _ _ (fault_as c.fault.ensures) (choices.not_boolean arms (not_true _ _ refl c.if-not-choice.true))
 
 pub branch-returns-then-unsupported : goal.branch-returns-then-unsupported
 branch-returns-then-unsupported t c =
@@ -35,9 +40,9 @@ branch-returns-then-unsupported t c =
     let pre = c.requires in
     let source = args.self.now in
     let d = args.levels in
-    let arms = arms_of source d args.arms args.v pre.ready in
+    let arms = arms_of source d args.choice pre.ready in
     says_as _ _ _ _ _ (fault_as c.fault-then-unsupported.ensures)
-    (choices.unsupported_here arms (not_false _ _ refl c.if-not-v.false) c.unsupported.result c.unsupported.ensures c.if-unsupported.true)
+    (choices.unsupported_here arms (not_false _ _ refl c.if-not-choice.false) c.unsupported.result c.unsupported.ensures c.if-unsupported.true)
 
 pub branch-returns-in_err-y : goal.branch-returns-in_err-y
 branch-returns-in_err-y t c =
@@ -47,9 +52,9 @@ branch-returns-in_err-y t c =
     let b = source.bytes.now in
     let d = args.levels in
     let here = args.c.now in
-    let yes = args.arms.yes in
-    let arms = arms_of source d args.arms args.v pre.ready in
-    let begun = choices.begun arms (not_false _ _ refl c.if-not-v.false) c.unsupported.result c.unsupported.ensures c.if-unsupported.false in
+    let yes = args.choice.yes in
+    let arms = arms_of source d args.choice pre.ready in
+    let begun = choices.begun arms (not_false _ _ refl c.if-not-choice.false) c.unsupported.result c.unsupported.ensures c.if-unsupported.false in
     let said = arm_from _ _ b d yes.conjunction yes.left _ _ _ _ _ _ (further here 1) c.advance.ensures c.lower.ensures in
     let was = as_faulty c.lower.new.c c.in_err-y.was in
     says_as _ _ _ _ _ (handed_up _ c.lower.new.c c.in_err-y.was c.from_residual.ensures.1)
@@ -63,30 +68,30 @@ branch-overflow_add-target t c =
     let b = source.bytes.now in
     let d = args.levels in
     let here = args.c.now in
-    let yes = args.arms.yes in
-    let arms = arms_of source d args.arms args.v pre.ready in
-    let begun = choices.begun arms (not_false _ _ refl c.if-not-v.false) c.unsupported.result c.unsupported.ensures c.if-unsupported.false in
+    let yes = args.choice.yes in
+    let arms = arms_of source d args.choice pre.ready in
+    let begun = choices.begun arms (not_false _ _ refl c.if-not-choice.false) c.unsupported.result c.unsupported.ensures c.if-unsupported.false in
     let said = arm_from _ _ b d yes.conjunction yes.left _ _ _ _ _ _ (further here 1) c.advance.ensures c.lower.ensures in
     let e = c.lower.new.c in
     let first = choices.first arms begun c.lower.new.p c.in_ok-y.y e (taken _ _ _ _ _ _ c.in_ok-y.y e said (as_done e c.in_ok-y.was)) in
     omega (arith, choices.is_code arms begun first, c.well_formed.1.0.0, pre.ready.code, pre.ready.records, pre.ready.lists)
 
-pub branch-put_slot-requires-2 : goal.branch-put_slot-requires-2
-branch-put_slot-requires-2 t c =
+pub branch-put-requires-2 : goal.branch-put-requires-2
+branch-put-requires-2 t c =
     let args = c.args in
     let pre = c.requires in
     let source = args.self.now in
     let b = source.bytes.now in
     let d = args.levels in
     let here = args.c.now in
-    let yes = args.arms.yes in
-    let arms = arms_of source d args.arms args.v pre.ready in
-    let begun = choices.begun arms (not_false _ _ refl c.if-not-v.false) c.unsupported.result c.unsupported.ensures c.if-unsupported.false in
+    let yes = args.choice.yes in
+    let arms = arms_of source d args.choice pre.ready in
+    let begun = choices.begun arms (not_false _ _ refl c.if-not-choice.false) c.unsupported.result c.unsupported.ensures c.if-unsupported.false in
     let said = arm_from _ _ b d yes.conjunction yes.left _ _ _ _ _ _ (further here 1) c.advance.ensures c.lower.ensures in
     let e = c.lower.new.c in
     let first = choices.first arms begun c.lower.new.p c.in_ok-y.y e (taken _ _ _ _ _ _ c.in_ok-y.y e said (as_done e c.in_ok-y.was)) in
     let ready = pre.ready in (
-      omega (arith, c.put_slot.auto.p, choices.n₁' arms begun first, choices.is_code arms begun first, ready.code, ready.records, ready.lists),
+      omega (arith, c.put.auto.p, choices.n₁' arms begun first, choices.is_code arms begun first, ready.code, ready.records, ready.lists),
       omega arith,
     )
 
@@ -98,9 +103,9 @@ branch-advance-requires-2 t c =
     let b = source.bytes.now in
     let d = args.levels in
     let here = args.c.now in
-    let yes = args.arms.yes in
-    let arms = arms_of source d args.arms args.v pre.ready in
-    let begun = choices.begun arms (not_false _ _ refl c.if-not-v.false) c.unsupported.result c.unsupported.ensures c.if-unsupported.false in
+    let yes = args.choice.yes in
+    let arms = arms_of source d args.choice pre.ready in
+    let begun = choices.begun arms (not_false _ _ refl c.if-not-choice.false) c.unsupported.result c.unsupported.ensures c.if-unsupported.false in
     let said = arm_from _ _ b d yes.conjunction yes.left _ _ _ _ _ _ (further here 1) c.advance.ensures c.lower.ensures in
     let e = c.lower.new.c in
     let first = choices.first arms begun c.lower.new.p c.in_ok-y.y e (taken _ _ _ _ _ _ c.in_ok-y.y e said (as_done e c.in_ok-y.was)) in
@@ -120,14 +125,14 @@ branch-lower-requires-2 t c =
     let b = source.bytes.now in
     let d = args.levels in
     let here = args.c.now in
-    let yes = args.arms.yes in
-    let no = args.arms.no in
-    let arms = arms_of source d args.arms args.v pre.ready in
-    let begun = choices.begun arms (not_false _ _ refl c.if-not-v.false) c.unsupported.result c.unsupported.ensures c.if-unsupported.false in
+    let yes = args.choice.yes in
+    let no = args.choice.no in
+    let arms = arms_of source d args.choice pre.ready in
+    let begun = choices.begun arms (not_false _ _ refl c.if-not-choice.false) c.unsupported.result c.unsupported.ensures c.if-unsupported.false in
     let said = arm_from _ _ b d yes.conjunction yes.left _ _ _ _ _ _ (further here 1) c.advance.ensures c.lower.ensures in
     let e = c.lower.new.c in
     let first = choices.first arms begun c.lower.new.p c.in_ok-y.y e (taken _ _ _ _ _ _ c.in_ok-y.y e said (as_done e c.in_ok-y.was)) in
-    let copied = choices.copied arms begun first c.put_slot.new.p c.put_slot-2.new.p c.put_slot.ensures c.put_slot-2.ensures in
+    let copied = choices.copied arms begun first c.put.new.p c.put-2.new.p c.put.ensures c.put-2.ensures in
     let there = sym (choices.is_node arms begun first) in (
       omega arith,
       (
@@ -149,14 +154,14 @@ branch-returns-in_err-z t c =
     let b = source.bytes.now in
     let d = args.levels in
     let here = args.c.now in
-    let yes = args.arms.yes in
-    let no = args.arms.no in
-    let arms = arms_of source d args.arms args.v pre.ready in
-    let begun = choices.begun arms (not_false _ _ refl c.if-not-v.false) c.unsupported.result c.unsupported.ensures c.if-unsupported.false in
+    let yes = args.choice.yes in
+    let no = args.choice.no in
+    let arms = arms_of source d args.choice pre.ready in
+    let begun = choices.begun arms (not_false _ _ refl c.if-not-choice.false) c.unsupported.result c.unsupported.ensures c.if-unsupported.false in
     let said = arm_from _ _ b d yes.conjunction yes.left _ _ _ _ _ _ (further here 1) c.advance.ensures c.lower.ensures in
     let e = c.lower.new.c in
     let first = choices.first arms begun c.lower.new.p c.in_ok-y.y e (taken _ _ _ _ _ _ c.in_ok-y.y e said (as_done e c.in_ok-y.was)) in
-    let copied = choices.copied arms begun first c.put_slot.new.p c.put_slot-2.new.p c.put_slot.ensures c.put_slot-2.ensures in
+    let copied = choices.copied arms begun first c.put.new.p c.put-2.new.p c.put.ensures c.put-2.ensures in
     let said2 = arm_at _ _ b d no.conjunction no.left _ _ _ _ _ _ e.node (past b d yes.left here.node) (choices.is_node arms begun first)
     (arm_from _ _ b d no.conjunction no.left _ _ _ _ _ _ (further e 2) c.advance-2.ensures c.lower-2.ensures) in
     let was = as_faulty c.lower-2.new.c c.in_err-z.was in
@@ -171,14 +176,14 @@ branch-join-requires t c =
     let b = source.bytes.now in
     let d = args.levels in
     let here = args.c.now in
-    let yes = args.arms.yes in
-    let no = args.arms.no in
-    let arms = arms_of source d args.arms args.v pre.ready in
-    let begun = choices.begun arms (not_false _ _ refl c.if-not-v.false) c.unsupported.result c.unsupported.ensures c.if-unsupported.false in
+    let yes = args.choice.yes in
+    let no = args.choice.no in
+    let arms = arms_of source d args.choice pre.ready in
+    let begun = choices.begun arms (not_false _ _ refl c.if-not-choice.false) c.unsupported.result c.unsupported.ensures c.if-unsupported.false in
     let said = arm_from _ _ b d yes.conjunction yes.left _ _ _ _ _ _ (further here 1) c.advance.ensures c.lower.ensures in
     let e = c.lower.new.c in
     let first = choices.first arms begun c.lower.new.p c.in_ok-y.y e (taken _ _ _ _ _ _ c.in_ok-y.y e said (as_done e c.in_ok-y.was)) in
-    let copied = choices.copied arms begun first c.put_slot.new.p c.put_slot-2.new.p c.put_slot.ensures c.put_slot-2.ensures in
+    let copied = choices.copied arms begun first c.put.new.p c.put-2.new.p c.put.ensures c.put-2.ensures in
     let said2 = arm_at _ _ b d no.conjunction no.left _ _ _ _ _ _ e.node (past b d yes.left here.node) (choices.is_node arms begun first)
     (arm_from _ _ b d no.conjunction no.left _ _ _ _ _ _ (further e 2) c.advance-2.ensures c.lower-2.ensures) in
     let h = c.lower-2.new.c in
@@ -200,14 +205,14 @@ branch-returns t c =
     let b = source.bytes.now in
     let d = args.levels in
     let here = args.c.now in
-    let yes = args.arms.yes in
-    let no = args.arms.no in
-    let arms = arms_of source d args.arms args.v pre.ready in
-    let begun = choices.begun arms (not_false _ _ refl c.if-not-v.false) c.unsupported.result c.unsupported.ensures c.if-unsupported.false in
+    let yes = args.choice.yes in
+    let no = args.choice.no in
+    let arms = arms_of source d args.choice pre.ready in
+    let begun = choices.begun arms (not_false _ _ refl c.if-not-choice.false) c.unsupported.result c.unsupported.ensures c.if-unsupported.false in
     let said = arm_from _ _ b d yes.conjunction yes.left _ _ _ _ _ _ (further here 1) c.advance.ensures c.lower.ensures in
     let e = c.lower.new.c in
     let first = choices.first arms begun c.lower.new.p c.in_ok-y.y e (taken _ _ _ _ _ _ c.in_ok-y.y e said (as_done e c.in_ok-y.was)) in
-    let copied = choices.copied arms begun first c.put_slot.new.p c.put_slot-2.new.p c.put_slot.ensures c.put_slot-2.ensures in
+    let copied = choices.copied arms begun first c.put.new.p c.put-2.new.p c.put.ensures c.put-2.ensures in
     let said2 = arm_at _ _ b d no.conjunction no.left _ _ _ _ _ _ e.node (past b d yes.left here.node) (choices.is_node arms begun first)
     (arm_from _ _ b d no.conjunction no.left _ _ _ _ _ _ (further e 2) c.advance-2.ensures c.lower-2.ensures) in
     let h = c.lower-2.new.c in
@@ -234,8 +239,8 @@ link-lower-requires t c =
       ),
     )
 
-pub link-returns-in_err-first : goal.link-returns-in_err-first
-link-returns-in_err-first t c =
+pub link-returns-in_err-condition : goal.link-returns-in_err-condition
+link-returns-in_err-condition t c =
     let args = c.args in
     let pre = c.requires in
     let source = args.self.now in
@@ -246,8 +251,8 @@ link-returns-in_err-first t c =
     let left = args.chain.left in
     let node = here.node in
     let split = link_split b d left node args.chain.conjunction pre.formed.1 in
-    let was = as_faulty c.lower.new.c c.in_err-first.was in
-    says_as _ _ _ _ _ (handed_up _ c.lower.new.c c.in_err-first.was c.from_residual.ensures.1)
+    let was = as_faulty c.lower.new.c c.in_err-condition.was in
+    says_as _ _ _ _ _ (handed_up _ c.lower.new.c c.in_err-condition.was c.from_residual.ensures.1)
     (split_refused split pre.ready context c.lower.new.p _ _ _ (refused _ _ _ _ _ _ _ _ c.lower.ensures was) was)
 
 pub link-branch-self-requires : goal.link-branch-self-requires
@@ -264,8 +269,8 @@ link-branch-self-requires t c =
     let split = link_split b d left node args.chain.conjunction pre.formed.1 in
     let some_left : left ≡ 0 → ⊥ = λ z. omega (arith, pre.formed.1) in
     let e = c.lower.new.c in
-    let v = c.in_ok-first.first in
-    let first = taken _ _ _ _ _ _ v e c.lower.ensures (as_done e c.in_ok-first.was) in
+    let v = c.in_ok-condition.condition in
+    let first = taken _ _ _ _ _ _ v e c.lower.ensures (as_done e c.in_ok-condition.was) in
     let rest = left - 1 in
     let is = sym c.if-chain.true in
     let there = split_node split pre.ready context c.lower.new.p v e first in (
@@ -294,8 +299,8 @@ link-returns-then-chain t c =
     let node = here.node in
     let split = link_split b d left node args.chain.conjunction pre.formed.1 in
     let e = c.lower.new.c in
-    let v = c.in_ok-first.first in
-    let first = taken _ _ _ _ _ _ v e c.lower.ensures (as_done e c.in_ok-first.was) in
+    let v = c.in_ok-condition.condition in
+    let first = taken _ _ _ _ _ _ v e c.lower.ensures (as_done e c.in_ok-condition.was) in
     let rest = left - 1 in
     let is = sym c.if-chain.true in
     split_done split pre.ready context c.lower.new.p v e first rest 0 (ap (λ (x : Bool). cond x rest 0) is) (ap (λ (x : Bool). cond x 0 rest) is) c.branch-self.new.p _ c.branch-self.ensures
@@ -314,8 +319,8 @@ link-branch-self-requires-2 t c =
     let split = link_split b d left node args.chain.conjunction pre.formed.1 in
     let some_left : left ≡ 0 → ⊥ = λ z. omega (arith, pre.formed.1) in
     let e = c.lower.new.c in
-    let v = c.in_ok-first.first in
-    let first = taken _ _ _ _ _ _ v e c.lower.ensures (as_done e c.in_ok-first.was) in
+    let v = c.in_ok-condition.condition in
+    let first = taken _ _ _ _ _ _ v e c.lower.ensures (as_done e c.in_ok-condition.was) in
     let rest = left - 1 in
     let is = sym c.if-chain.false in
     let there = split_node split pre.ready context c.lower.new.p v e first in (
@@ -344,8 +349,8 @@ link-returns t c =
     let node = here.node in
     let split = link_split b d left node args.chain.conjunction pre.formed.1 in
     let e = c.lower.new.c in
-    let v = c.in_ok-first.first in
-    let first = taken _ _ _ _ _ _ v e c.lower.ensures (as_done e c.in_ok-first.was) in
+    let v = c.in_ok-condition.condition in
+    let first = taken _ _ _ _ _ _ v e c.lower.ensures (as_done e c.in_ok-condition.was) in
     let rest = left - 1 in
     let is = sym c.if-chain.false in
     split_done split pre.ready context c.lower.new.p v e first 0 rest (ap (λ (x : Bool). cond x rest 0) is) (ap (λ (x : Bool). cond x 0 rest) is) c.branch-self-2.new.p _ c.branch-self-2.ensures
@@ -360,7 +365,7 @@ lower-enter-site-requires t c =
     let here = args.c.now in
     let j = args.chain.conjunction in
     let left = args.chain.left in
-    enter_room pre.ready (path_one (arm b d j left here.node)) args.step pre.formed.1
+    enter_room pre.ready (path_one (arm b d j left here.node)) args.step.number pre.formed.1
 
 pub lower-constant-requires : goal.lower-constant-requires
 lower-constant-requires t c =
@@ -387,7 +392,7 @@ lower-returns-then-chain-eq0 t c =
     let j = args.chain.conjunction in
     let left = args.chain.left in
     let enter = c.enter-site in
-    none_done b d j left pre.ready args.step pre.formed.1 enter.result enter.new.p enter.ensures.0 enter.ensures.1 context c.if-chain-eq0.true c.constant.new.p _
+    none_done b d j left pre.ready args.step.number pre.formed.1 enter.result enter.new.p enter.ensures.0 enter.ensures.1 context c.if-chain-eq0.true c.constant.new.p _
     (done_as c.constant.ensures.0 c.constant.ensures.1) c.truth.result c.truth.ensures c.constant.ensures.2
 
 pub lower-node-requires : goal.lower-node-requires
@@ -402,7 +407,7 @@ lower-node-requires t c =
     let left = args.chain.left in
     let enter = c.enter-site in (
       omega arith,
-      (ready_one b d j left pre.ready args.step pre.formed.1 enter.result enter.new.p enter.ensures.0 enter.ensures.1 c.if-chain-eq1.true, first_well b d left here.node (λ z. omega (arith, c.if-chain-eq1.true)) pre.formed.0),
+      (ready_one b d j left pre.ready args.step.number pre.formed.1 enter.result enter.new.p enter.ensures.0 enter.ensures.1 c.if-chain-eq1.true, first_well b d left here.node (λ z. omega (arith, c.if-chain-eq1.true)) pre.formed.0),
     )
 
 pub lower-returns-then-chain-eq1 : goal.lower-returns-then-chain-eq1
@@ -416,7 +421,7 @@ lower-returns-then-chain-eq1 t c =
     let j = args.chain.conjunction in
     let left = args.chain.left in
     let enter = c.enter-site in
-    one_done b d j left pre.ready args.step pre.formed.1 enter.result enter.new.p enter.ensures.0 enter.ensures.1 context c.if-chain-eq1.true c.node.new.p _ c.node.ensures
+    one_done b d j left pre.ready args.step.number pre.formed.1 enter.result enter.new.p enter.ensures.0 enter.ensures.1 context c.if-chain-eq1.true c.node.new.p _ c.node.ensures
 
 pub lower-link-requires : goal.lower-link-requires
 lower-link-requires t c =
@@ -430,7 +435,7 @@ lower-link-requires t c =
     let enter = c.enter-site in (
       omega arith,
       (
-        ready_own b d j left pre.ready args.step pre.formed.1 enter.result enter.new.p enter.ensures.0 enter.ensures.1,
+        ready_own b d j left pre.ready args.step.number pre.formed.1 enter.result enter.new.p enter.ensures.0 enter.ensures.1,
         (pre.formed.0, omega (arith, c.if-chain-eq0.false, c.if-chain-eq1.false), pre.formed.2),
       ),
     )
@@ -446,7 +451,7 @@ lower-returns t c =
     let j = args.chain.conjunction in
     let left = args.chain.left in
     let enter = c.enter-site in
-    own_done b d j left pre.ready args.step pre.formed.1 enter.result enter.new.p enter.ensures.0 enter.ensures.1 context c.link.new.p _ c.link.ensures
+    own_done b d j left pre.ready args.step.number pre.formed.1 enter.result enter.new.p enter.ensures.0 enter.ensures.1 context c.link.new.p _ c.link.ensures
 
 pub node-node-f-requires : goal.node-node-f-requires
 node-node-f-requires t c =
@@ -887,8 +892,8 @@ operand-returns-in_err-v t c =
     lists_as_is _ _ _ _ _ _ _ _ (handed_up _ c.lower.new.c c.in_err-v.was c.from_residual.ensures.1) (operands_as _ _ _ _ _ _ _ _ _ _ _ _ b d o.left node some_left
     (collects.child_refused o.lists context o.boolean child others o.first second after ready c.lower.new.p _ _ _ (refused _ _ _ _ _ _ _ _ said was) was))
 
-pub operand-operands-requires : goal.operand-operands-requires
-operand-operands-requires t c =
+pub operand-operand-requires : goal.operand-operand-requires
+operand-operand-requires t c =
     let args = c.args in
     let pre = c.requires in
     let source = args.self.now in
@@ -913,7 +918,7 @@ operand-operands-requires t c =
       (
         rest_ready b d (o.left - 1) _ _ (sym there) o.lists o.first
             (collects.ready_rest o.lists context o.boolean child others o.first second after ready c.lower.new.p v e first),
-        (rest_well_at b d o.left node e.node some_left pre.formed.0 there, omega (arith, pre.formed.1, pre.formed.2)),
+        (rest_well_at b d o.left node e.node some_left pre.formed.0 there, omega (arith, pre.formed.1, pre.formed.2), omega (arith, c.if-rest-eq0.false)),
       ),
     )
 
@@ -939,11 +944,11 @@ operand-returns-in_err-w t c =
     let v = c.in_ok-v.v in
     let first = taken _ _ _ _ _ _ v e said (as_done e c.in_ok-v.was) in
     let there = collects.is_node o.lists context o.boolean child others o.first second after ready c.lower.new.p v e first in
-    let said2 = rest_as _ _ _ _ _ _ _ _ _ _ _ b d o.left node e.node there some_left c.operands.ensures in
-    let was = as_faulty c.operands.new.c c.in_err-w.was in
-    lists_as_is _ _ _ _ _ _ _ _ (handed_up _ c.operands.new.c c.in_err-w.was c.from_residual-in_err-w.ensures.1)
+    let said2 = rest_as _ _ _ _ _ _ _ _ _ _ _ b d o.left node e.node there some_left c.operand.ensures in
+    let was = as_faulty c.operand.new.c c.in_err-w.was in
+    lists_as_is _ _ _ _ _ _ _ _ (handed_up _ c.operand.new.c c.in_err-w.was c.from_residual-in_err-w.ensures.1)
     (operands_as _ _ _ _ _ _ _ _ _ _ _ _ b d o.left node some_left
-    (collects.rest_refused o.lists context o.boolean child others o.first second after ready c.lower.new.p v e first c.operands.new.p _ _ _
+    (collects.rest_refused o.lists context o.boolean child others o.first second after ready c.lower.new.p v e first c.operand.new.p _ _ _
     (collects.turned _ _ _ _ _ _ _ _ _ _ _ said2 was) was))
 
 pub operand-overflow_add-entry : goal.operand-overflow_add-entry
@@ -968,16 +973,30 @@ operand-overflow_add-entry t c =
     let v = c.in_ok-v.v in
     let first = taken _ _ _ _ _ _ v e said (as_done e c.in_ok-v.was) in
     let there = collects.is_node o.lists context o.boolean child others o.first second after ready c.lower.new.p v e first in
-    let said2 = rest_as _ _ _ _ _ _ _ _ _ _ _ b d o.left node e.node there some_left c.operands.ensures in
-    let h = c.operands.new.c in
-    let w = c.in_ok-w.w in
-    let collected = collects.collected _ _ _ _ _ _ _ _ _ w h said2 (as_done h c.in_ok-w.was) in
+    let joined = c.if-rest-eq0 in
+    let none_here = (rest_ready b d (o.left - 1) _ _ (sym there) o.lists o.first
+    (collects.ready_rest o.lists context o.boolean child others o.first second after ready c.lower.new.p v e first)).sound in
+    let said_here : Lists source.layout o.lists (terms (kids b d (o.left - 1) e.node)) (o.first + 1)
+    (operands_piece context o.boolean (terms (kids b d (o.left - 1) e.node)) (place source.layout c.lower.new.p args.s) (o.first + 1) args.s.path e (past b d (o.left - 1) e.node))
+    e c.lower.new.p joined.p (Done joined.w joined.c) =
+    elim joined.branch [
+      | operand-then-rest-eq0 x ↦
+          rw (x.p-is, x.c-is, x.w-is)
+          (collects.none_left _ (o.first + 1) _ o.boolean _ _ _ e c.lower.new.p (past_none b d (o.left - 1) e.node x.if-rest-eq0.true) none_here o.lists _ _ refl
+          (ap terms (kids_none b d e.node (o.left - 1) x.if-rest-eq0.true)))
+      | operand-else-rest-eq0+in_ok-w x ↦
+          rw (x.p-is, x.c-is, x.w-is) (lists_as_is _ _ _ _ _ _ _ _ (sym (as_done x.operand.new.c x.in_ok-w.was)) x.operand.ensures)
+    ] in
+    let said2 = rest_as _ _ _ _ _ _ _ _ _ _ _ b d o.left node e.node there some_left said_here in
+    let h = joined.c in
+    let w = joined.w in
+    let collected = collects.collected _ _ _ _ _ _ _ _ _ w h said2 refl in
     let small =
-    collects.entry_small o.lists context o.boolean child others o.first second after ready c.lower.new.p v e first c.operands.new.p w h c.operands.auto.p collected in
+    collects.entry_small o.lists context o.boolean child others o.first second after ready c.lower.new.p v e first joined.p w h joined.auto.p collected in
     omega (arith, small, pre.formed.1, c.well_formed.1.0.0)
 
-pub operand-list_entry-requires : goal.operand-list_entry-requires
-operand-list_entry-requires t c =
+pub operand-put_word-requires : goal.operand-put_word-requires
+operand-put_word-requires t c =
     let args = c.args in
     let pre = c.requires in
     let source = args.self.now in
@@ -998,11 +1017,32 @@ operand-list_entry-requires t c =
     let v = c.in_ok-v.v in
     let first = taken _ _ _ _ _ _ v e said (as_done e c.in_ok-v.was) in
     let there = collects.is_node o.lists context o.boolean child others o.first second after ready c.lower.new.p v e first in
-    let said2 = rest_as _ _ _ _ _ _ _ _ _ _ _ b d o.left node e.node there some_left c.operands.ensures in
-    let h = c.operands.new.c in
-    let w = c.in_ok-w.w in
-    let collected = collects.collected _ _ _ _ _ _ _ _ _ w h said2 (as_done h c.in_ok-w.was) in
-    collects.entry_room o.lists context o.boolean child others o.first second after ready c.lower.new.p v e first c.operands.new.p w h c.operands.auto.p collected
+    let joined = c.if-rest-eq0 in
+    let none_here = (rest_ready b d (o.left - 1) _ _ (sym there) o.lists o.first
+    (collects.ready_rest o.lists context o.boolean child others o.first second after ready c.lower.new.p v e first)).sound in
+    let said_here : Lists source.layout o.lists (terms (kids b d (o.left - 1) e.node)) (o.first + 1)
+    (operands_piece context o.boolean (terms (kids b d (o.left - 1) e.node)) (place source.layout c.lower.new.p args.s) (o.first + 1) args.s.path e (past b d (o.left - 1) e.node))
+    e c.lower.new.p joined.p (Done joined.w joined.c) =
+    elim joined.branch [
+      | operand-then-rest-eq0 x ↦
+          rw (x.p-is, x.c-is, x.w-is)
+          (collects.none_left _ (o.first + 1) _ o.boolean _ _ _ e c.lower.new.p (past_none b d (o.left - 1) e.node x.if-rest-eq0.true) none_here o.lists _ _ refl
+          (ap terms (kids_none b d e.node (o.left - 1) x.if-rest-eq0.true)))
+      | operand-else-rest-eq0+in_ok-w x ↦
+          rw (x.p-is, x.c-is, x.w-is) (lists_as_is _ _ _ _ _ _ _ _ (sym (as_done x.operand.new.c x.in_ok-w.was)) x.operand.ensures)
+    ] in
+    let said2 = rest_as _ _ _ _ _ _ _ _ _ _ _ b d o.left node e.node there some_left said_here in
+    let h = joined.c in
+    let w = joined.w in
+    let collected = collects.collected _ _ _ _ _ _ _ _ _ w h said2 refl in
+    subst (λ (x : Bool). cond x (source.layout.lists + 4 * (h.entry + o.first) + 4) 0 ≤ length joined.p) c.if-o.true
+    (collects.entry_room o.lists context o.boolean child others o.first second after ready c.lower.new.p v e first joined.p w h joined.auto.p collected)
+
+pub operand-overflow_mul-entry : goal.operand-overflow_mul-entry
+operand-overflow_mul-entry t c = omega (arith, operand-put_word-requires t c, c.well_formed.1.0.0)
+
+pub operand-overflow_add-self : goal.operand-overflow_add-self
+operand-overflow_add-self t c = omega (arith, operand-put_word-requires t c, c.well_formed.1.0.0)
 
 pub operand-returns : goal.operand-returns
 operand-returns t c =
@@ -1026,10 +1066,28 @@ operand-returns t c =
     let v = c.in_ok-v.v in
     let first = taken _ _ _ _ _ _ v e said (as_done e c.in_ok-v.was) in
     let there = collects.is_node o.lists context o.boolean child others o.first second after ready c.lower.new.p v e first in
-    let said2 = rest_as _ _ _ _ _ _ _ _ _ _ _ b d o.left node e.node there some_left c.operands.ensures in
-    let h = c.operands.new.c in
-    let w = c.in_ok-w.w in
-    let collected = collects.collected _ _ _ _ _ _ _ _ _ w h said2 (as_done h c.in_ok-w.was) in
+    let joined = c.if-rest-eq0 in
+    let none_here = (rest_ready b d (o.left - 1) _ _ (sym there) o.lists o.first
+    (collects.ready_rest o.lists context o.boolean child others o.first second after ready c.lower.new.p v e first)).sound in
+    let said_here : Lists source.layout o.lists (terms (kids b d (o.left - 1) e.node)) (o.first + 1)
+    (operands_piece context o.boolean (terms (kids b d (o.left - 1) e.node)) (place source.layout c.lower.new.p args.s) (o.first + 1) args.s.path e (past b d (o.left - 1) e.node))
+    e c.lower.new.p joined.p (Done joined.w joined.c) =
+    elim joined.branch [
+      | operand-then-rest-eq0 x ↦
+          rw (x.p-is, x.c-is, x.w-is)
+          (collects.none_left _ (o.first + 1) _ o.boolean _ _ _ e c.lower.new.p (past_none b d (o.left - 1) e.node x.if-rest-eq0.true) none_here o.lists _ _ refl
+          (ap terms (kids_none b d e.node (o.left - 1) x.if-rest-eq0.true)))
+      | operand-else-rest-eq0+in_ok-w x ↦
+          rw (x.p-is, x.c-is, x.w-is) (lists_as_is _ _ _ _ _ _ _ _ (sym (as_done x.operand.new.c x.in_ok-w.was)) x.operand.ensures)
+    ] in
+    let said2 = rest_as _ _ _ _ _ _ _ _ _ _ _ b d o.left node e.node there some_left said_here in
+    let h = joined.c in
+    let w = joined.w in
+    let collected = collects.collected _ _ _ _ _ _ _ _ _ w h said2 refl in
+    let listed : c.if-o.p ≡ cond o.lists (over joined.p (source.layout.lists + 4 * (h.entry + o.first)) (little_endian 4 v.a)) joined.p = elim c.if-o.branch [
+      | operand-then-o x ↦ rw (x.p-is, x.put_word.ensures, x.if-o.true) refl
+      | operand-else-o x ↦ rw (x.p-is, x.if-o.false) refl
+    ] in
     operands_as _ _ _ _ _ _ _ _ _ _ _ _ b d o.left node some_left
-    (collects.all_collected o.lists context o.boolean child others o.first second after ready c.lower.new.p v e first c.operands.new.p w h c.operands.auto.p collected
-    c.list_entry.new.p _ _ c.list_entry.ensures (ap (λ (x : Bool). x && w.boolean) (same_as v.boolean o.boolean)) refl)
+    (collects.all_collected o.lists context o.boolean child others o.first second after ready c.lower.new.p v e first joined.p w h joined.auto.p collected
+    c.if-o.p _ _ listed (ap (λ (x : Bool). x && w.boolean) (same_as v.boolean o.boolean)) refl)

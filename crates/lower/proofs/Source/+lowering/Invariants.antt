@@ -2,7 +2,7 @@ use Prim.Native.Nat.{◌+◌, ◌*◌}
 use Rattle.lower.proofs.Source.+lowering.Given as goal
 
 abbrev pub decreases-branch : goal.decreases-branch
-decreases-branch l = 1048576 * l.levels + 4 * l.arms.yes.left + 4 * l.arms.no.left + 2
+decreases-branch l = 1048576 * l.levels + 4 * l.choice.yes.left + 4 * l.choice.no.left + 2
 
 abbrev pub decreases-link : goal.decreases-link
 decreases-link l = 1048576 * l.levels + 4 * l.chain.left

@@ -28,11 +28,11 @@ returns-then-listing c =
     let args = c.args in
     listed_slot args.self.now.layout args.p.now args.s args.c.now 1 c.requires.0 args.f args.v c.arity.result c.arity.ensures c.if-not-arity.false (not_false _ _ refl c.if-not-v.false)
     c.stepped-jumps.result c.unsupported.result c.stepped-jumps.ensures c.unsupported.ensures c.if-unsupported.false (omega arith) c.listing.result c.gives-boolean.result c.opcode-o.result
-    c.listing.ensures c.opcode-o.ensures.0 c.gives-boolean.ensures c.put_slot.new.p _ c.if-listing.true c.put_slot.ensures (done_as c.store.ensures.0 c.store.ensures.1)
+    c.listing.ensures c.opcode-o.ensures.0 c.gives-boolean.ensures c.put.new.p _ c.if-listing.true c.put.ensures (done_as c.store.ensures.0 c.store.ensures.1)
 
 pub returns : goal.returns
 returns c =
     let args = c.args in
     plain_slot args.self.now.layout args.p.now args.s args.c.now 1 c.requires.0 args.f args.v c.arity.result c.arity.ensures c.if-not-arity.false (not_false _ _ refl c.if-not-v.false)
     c.stepped-jumps.result c.unsupported.result c.stepped-jumps.ensures c.unsupported.ensures c.if-unsupported.false (omega arith) c.listing.result c.gives-boolean.result c.opcode-o.result
-    c.listing.ensures c.opcode-o.ensures.0 c.gives-boolean.ensures c.put_slot-2.new.p _ c.if-listing.false c.put_slot-2.ensures (done_as c.store-2.ensures.0 c.store-2.ensures.1)
+    c.listing.ensures c.opcode-o.ensures.0 c.gives-boolean.ensures c.put-2.new.p _ c.if-listing.false c.put-2.ensures (done_as c.store-2.ensures.0 c.store-2.ensures.1)

@@ -2,9 +2,9 @@ use mathlib.Core.Path.{ap, ◌∙◌}
 use Prim.Native.Nat.{ℕ}
 use lib.Dec.{eqb}
 use native.Mathlib.Omega.{arith}
-use Rattle.program.proofs.Ops.{constant_slot, copy_slot, jump_if_slot, jump_slot, load_slot, other_slot, pair_slot, sign_slot, single_slot, triple_slot}
+use Rattle.std.proofs.Common.{rules}
+use Rattle.program.proofs.Ops.{constant_slot, jump_if_slot, jump_slot, load_slot, one_slot, other_slot, pair_slot, triple_slot}
 use Rattle.program.proofs.Instruction.operands_ok.Goals as goal
-use Rattle.program.proofs.Instruction.operands_ok.Goals.{in-2-1, in_default+then-self-lt8, in_default+else-self-lt8+else-self-lt20+then-self-lt31}
 
 pub returns-in-0 : goal.returns-in-0
 returns-in-0 c =
@@ -39,12 +39,7 @@ returns-in-33-to-34 c =
 pub returns-in-2 : goal.returns-in-2
 returns-in-2 c =
     let i = c.args.self.now in
-    c.below-in-2.ensures
-    ∙ elim c.in-2-1.branch [
-      | in-2-1 w ↦ copy_slot i.image.bytes.now i.image.header i.number i.slot i.opcode i.count i.next i.is c.requires (omega arith) (omega arith)
-      | in_default+then-self-lt8 w ↦ sign_slot i.image.bytes.now i.image.header i.number i.slot i.opcode i.count i.next i.is c.requires (omega arith) (omega arith) (omega arith)
-      | in_default+else-self-lt8+else-self-lt20+then-self-lt31 w ↦ single_slot i.image.bytes.now i.image.header i.number i.slot i.opcode i.count i.next i.is c.requires (omega arith) (omega arith) (omega arith)
-    ]
+    c.below-in-2.ensures ∙ one_slot i.image.bytes.now i.image.header i.number i.slot i.opcode i.count i.next i.is c.requires (omega arith) (search rules)
 
 pub returns-in_default-2 : goal.returns-in_default-2
 returns-in_default-2 c =

@@ -16,7 +16,7 @@ loop-part-init t c =
     let part = c.args.self in
     let left : c.parts-parts.result ≡ c.parts-parts.result - 0 = omega arith in
     end_start part.levels part.rule part.start (code_at part.rule part.start) c.parts-parts.result c.if-self-eq0.false c.if-self-ge128.false refl
-    (c.parts-parts.ensures ∙ c.code.ensures.parts_follow)
+    (c.parts-parts.ensures.0 ∙ c.code.ensures.parts_follow)
     ∙ ap (λ (x : ℕ). past_all (λ j. end_at (part.levels - 1) part.rule j) x (part.start + 1)) left
 
 pub loop-part-preserved : goal.loop-part-preserved

@@ -2,13 +2,12 @@ use Rattle.survey.proofs.Rows.{exponent_given, exponent_none}
 use mathlib.Core.Path.{◌∙◌, sym, refl}
 use Rattle.survey.proofs.Node.exponent.Goals as goal
 
-pub returns-in-Some : goal.returns-in-Some
-returns-in-Some c =
+pub returns-in_err-child : goal.returns-in_err-child
+returns-in_err-child c =
     let node = c.args.self.now in
-    let child = c.in-Some.child in
-    c.literal.ensures ∙ sym (exponent_given node.formula.now node.rows.now node.number 1 child.formula.now child.rows.now child.number c.in-Some.ensures refl)
+    rw c.from_residual.ensures (sym (exponent_none node.formula.now node.number node.owned.formed c.in_err-child.ensures))
 
-pub returns-in-None : goal.returns-in-None
-returns-in-None c =
+pub returns : goal.returns
+returns c =
     let node = c.args.self.now in
-    sym (exponent_none node.formula.now node.number node.owned.formed c.in-None.ensures)
+    c.literal.ensures ∙ sym (exponent_given node.formula.now node.rows.now node.number 1 _ _ _ c.in_ok-child.ensures refl)

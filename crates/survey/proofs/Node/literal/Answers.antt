@@ -1,13 +1,12 @@
-use mathlib.Core.Path.{◌∙◌, sym}
-use Rattle.survey.proofs.Rows.{literal_yes, literal_no}
+use Rattle.std.proofs.Common.{rules, ◌≡◌, ℕ, ◌+◌, ◌*◌}
+use Rattle.std.specs.Prelude.{IfSome}
+use Rattle.formula.specs.Text.{long_at}
+use Rattle.formula.specs.Node.{node_size}
+use Rattle.survey.proofs.Rows.{literal_read}
 use Rattle.survey.proofs.Node.literal.Goals as goal
 
-pub returns-then-byte-eq0 : goal.returns-then-byte-eq0
-returns-then-byte-eq0 c =
+pub returns : goal.returns
+returns c =
     let node = c.args.self.now in
-    literal_yes node.formula.now node.number node.owned.formed c.long.result c.long.ensures (sym c.byte.ensures ∙ c.if-byte-eq0.true)
-
-pub returns-else-byte-eq0 : goal.returns-else-byte-eq0
-returns-else-byte-eq0 c =
-    let node = c.args.self.now in
-    literal_no node.formula.now node.number node.owned.formed (λ e. c.if-byte-eq0.false (c.byte.ensures ∙ e))
+    let read : IfSome c.then.result (λ (x : ℕ). x ≡ long_at node.formula.now (node_size * node.number + 8)) = search rules in
+    literal_read node.formula.now node.number node.owned.formed c.byte.result c.then.result c.byte.ensures c.then.ensures.variant read
