@@ -125,6 +125,8 @@ impl<'a> Image<'a> {
                 == self.path_length(parent) + step_length(known_word(self.bytes, at + STEP_AT))
     }
 
+    // Not in line in `is_program`: there the check of 255 instructions takes 1.16 times as long, with as many machine instructions.
+    #[inline(never)]
     fn records_ok(&self) -> bool
         ensures { result ≡ records_ok self.now.bytes.now (path_total self.now.bytes.now) 0 }
     {
