@@ -1,17 +1,18 @@
 -- What the table tells of the name line.
 use mathlib.Core.Path.{◌≡◌, refl, ap, ap₂, ◌∙◌}
-use mathlib.Core.Bool.{Bool, true, false, cond, ◌&&◌}
+use mathlib.Core.Bool.{Bool, true, false, cond, not, ◌&&◌}
 use mathlib.Core.List.{List, [], ◌∷◌, map}
 use mathlib.Core.Option.{Option, none, some}
 use Prim.Native.Nat.{ℕ, zero, suc, ◌-◌, ◌≤◌, ◌<◌}
 use native.Mathlib.Omega.{arith}
 use lib.ListN.{length, get_or, get_or-append, replicate}
-use lib.Dec.{leb}
+use lib.Dec.{eqb, leb}
 use borrow.Author.Tests.{leb-true}
 use Rattle.formula.specs.Text.{split, all_some}
 use Rattle.formula.specs.Names.{Symbol, SymbolKind, Parameter, State, Time, Input, symbol_of, table, none_twice, symbols_of, kinds, varies, is_state}
 use Rattle.std.specs.Prelude.{Some, None}
-use Rattle.names.specs.Lines.{kind_as, symbol_kind, names_of, table_of}
+use Rattle.names.specs.Lines.{kind_as, kind_number, kind_numbered, symbol_kind, names_of, table_of}
+use Rattle.names.specs.declared.Kind.{Kind}
 use Rattle.names.specs.declared.Kind.TheVariants as Kinds
 use Rattle.names.specs.declared.Names.{Names}
 use Rattle.names.proofs.Splits.{and_first}
@@ -58,6 +59,33 @@ kind_varies k = ap varies (kind_back k)
 
 pub kind_state : (k : SymbolKind) → is_state (symbol_kind (kind_as k)) ≡ is_state k
 kind_state k = ap is_state (kind_back k)
+
+-- the same of a kind's number
+pub number_varies : (k : SymbolKind) → varies k ≡ not (eqb (kind_number k) 0)
+number_varies Parameter = refl
+number_varies State = refl
+number_varies Time = refl
+number_varies Input = refl
+
+pub number_state : (k : SymbolKind) → is_state k ≡ eqb (kind_number k) 1
+number_state Parameter = refl
+number_state State = refl
+number_state Time = refl
+number_state Input = refl
+
+-- a kind by its number
+pub numbered_back : (k : SymbolKind) → kind_numbered (kind_number k) ≡ k
+numbered_back Parameter = refl
+numbered_back State = refl
+numbered_back Time = refl
+numbered_back Input = refl
+
+-- what is told of a number and of the code's kind of it
+pub number_as : (n : ℕ) (k : Kind) → symbol_kind k ≡ kind_numbered n → k ≡ kind_as (kind_numbered n)
+number_as n Kinds.Parameter e = ap kind_as e
+number_as n Kinds.State e = ap kind_as e
+number_as n Kinds.Time e = ap kind_as e
+number_as n Kinds.Input e = ap kind_as e
 
 pub kinds_back : (ks : List SymbolKind) → map symbol_kind (map kind_as ks) ≡ ks
 kinds_back [] = refl

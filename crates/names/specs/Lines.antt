@@ -1,5 +1,5 @@
 -- What the readers of the name line and of digits answer, in the words of their definitions.
-use Rattle.std.specs.Prelude.{◌≡◌, Bool, true, false, not, ◌||◌, List, [], ◌∷◌, ◌++◌, map, ℕ, zero, suc, ◌+◌, ◌-◌, ◌*◌, ◌%◌, ◌≤◌, ◌<◌, length, get_or, take, drop, replicate, eqb, Some, None}
+use Rattle.std.specs.Prelude.{◌≡◌, Bool, true, false, cond, not, ◌||◌, List, [], ◌∷◌, ◌++◌, map, ℕ, zero, suc, ◌+◌, ◌-◌, ◌*◌, ◌%◌, ◌≤◌, ◌<◌, length, get_or, take, drop, replicate, eqb, Some, None}
 use Rattle.std.specs.Prelude as Std
 use Rattle.std.specs.List.{All, list_any}
 use Rattle.std.proofs.Math.Option.{Option, none, some}
@@ -49,6 +49,16 @@ symbol_kind Kinds.Parameter = Parameter
 symbol_kind Kinds.State = State
 symbol_kind Kinds.Time = Time
 symbol_kind Kinds.Input = Input
+
+-- a kind's number in a table of bytes, and the kind of a number: from 3 on an input
+abbrev pub kind_number : SymbolKind → ℕ
+kind_number Parameter = 0
+kind_number State = 1
+kind_number Time = 2
+kind_number Input = 3
+
+abbrev pub kind_numbered : ℕ → SymbolKind
+kind_numbered n = cond (eqb n 0) Parameter (cond (eqb n 1) State (cond (eqb n 2) Time Input))
 
 abbrev pub kind_in : Option SymbolKind → Std.Option Kind
 kind_in none = None

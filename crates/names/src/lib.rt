@@ -6,7 +6,7 @@ ghost use Rattle.formula.specs.Text.{same_bytes};
 ghost use Rattle.formula.specs.Names.{is_letter, is_digit, kind_of, symbols_of};
 ghost use Rattle.formula.specs.Values.{digit_of, hex_digits, hex as hex_text};
 ghost use Rattle.formula.specs.Optional.{given};
-ghost use Rattle.names.specs.Lines.{kind_in, Letters, Tells, Stands, Listed, Placed, repeats, text, mark, names_of};
+ghost use Rattle.names.specs.Lines.{kind_in, kind_numbered, symbol_kind, Letters, Tells, Stands, Listed, Placed, repeats, text, mark, names_of};
 
 // ---- Digits of values: "each value is 16 lower-case hexadecimal digits, the bits of an f64, joined by commas."
 
@@ -95,6 +95,20 @@ pub enum Kind {
     State,
     Time,
     Input,
+}
+
+impl Kind {
+    // The kind of a number, for callers whose kinds are bytes: 0 parameter, 1 state, 2 time, and an input from 3 on.
+    pub fn of(number: u8) -> Kind
+        ensures { symbol_kind result ≡ kind_numbered number }
+    {
+        match number {
+            0 => Kind::Parameter,
+            1 => Kind::State,
+            2 => Kind::Time,
+            _ => Kind::Input,
+        }
+    }
 }
 
 // No other byte is a kind.
