@@ -1,20 +1,22 @@
 -- The same answer, at another place of the formula or of another name.
 use mathlib.Core.Path.{◌≡◌, refl, sym, ◌∙◌, subst}
-use mathlib.Core.Bool.{Bool, true, cond}
+use mathlib.Core.Bool.{Bool, true, false, cond}
 use mathlib.Core.List.{List}
 use mathlib.Core.Option.{Option, none, some}
 use Prim.Native.Nat.{ℕ, ◌+◌, ◌-◌}
 use native.Mathlib.Omega.{arith}
+use lib.Dec.{eqb}
 use Rattle.refusals.specs.declared.Refusal.TheVariants.{InvalidInput}
 use Rattle.formula.specs.Path.{Path, Step, ◌▸◌, argument}
 use Rattle.formula.specs.Formula.{all_well_formed}
-use Rattle.formula.specs.Term.{Term, Terms, ◌and◌, miscounted, term_count, terms}
+use Rattle.formula.specs.Term.{Term, Terms, ◌and◌, literal, miscounted, symbol, term_count, terms, truth}
 use Rattle.machine.specs.Check.{Context, Fault, fault}
 use Rattle.machine.specs.Lower.{instruction_count, instruction_counts}
 use Rattle.layout.specs.Opcode.{step_of}
 use Rattle.layout.proofs.Records.{step_back}
 use Rattle.layout.specs.Image.{entry_count, entry_counts, path_count, path_counts}
-use Rattle.lower.specs.Piece.{Lists, Piece, Says, SaysAt, arm, context_of, inner_count, kids, operands_piece, own_piece, past, place, term_piece}
+use Rattle.reader.specs.declared.Fields.{Fields}
+use Rattle.lower.specs.Piece.{Lists, Piece, Says, SaysAt, arm, context_of, inner_count, kids, leaf, operands_piece, own_piece, past, place, term_piece}
 use Rattle.lower.specs.Ready.{Ready}
 use Rattle.lower.specs.declared.Layout.{Layout}
 use Rattle.lower.specs.declared.Cursor.{Cursor}
@@ -63,6 +65,18 @@ miscounted_here {L} {p} {s} {c} {I} {Q} {E} R C t n e = here L p s c I Q E R (ow
   where
     faulty : (C : Context) (t : Term) (n : ℕ) (P : Path) (k : ℕ) (c : Cursor) → t ≡ miscounted → (own_piece C t P k c n).fault ≡ some (record { number = 5; place = P })
     faulty C t n P k c e = unfold own_piece in rw e
+
+-- a leaf is one instruction
+pub leaf_ready : {L : Layout} {p : List ℕ} {s : Site} {c : Cursor} (f : Fields) → Ready L p s c (instruction_count (leaf f)) (inner_count (leaf f)) (entry_count (leaf f)) → Ready L p s c 1 0 0
+leaf_ready {L} {p} {s} {c} f R = go (eqb f.kind 0) (eqb f.kind 1) R
+  where
+    go : (a d : Bool)
+        → Ready L p s c (instruction_count (cond a (literal f.value) (cond d (truth (eqb f.value 1)) (symbol f.symbol))))
+        (inner_count (cond a (literal f.value) (cond d (truth (eqb f.value 1)) (symbol f.symbol)))) (entry_count (cond a (literal f.value) (cond d (truth (eqb f.value 1)) (symbol f.symbol))))
+        → Ready L p s c 1 0 0
+    go true d r = r
+    go false true r = r
+    go false false r = r
 
 -- an arm that stands where the one before it ended
 pub arm_at : (L : Layout) (C : Context) (b : List ℕ) (d : ℕ) (j : Bool) (left : ℕ) (P : Path) (k : ℕ) (c : Cursor) (p p' : List ℕ) (r : Low) (x y : ℕ) → x ≡ y

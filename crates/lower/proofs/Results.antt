@@ -3,6 +3,7 @@ use mathlib.Core.Path.{◌≡◌, refl, sym, ap, ap₂, subst, ◌∙◌}
 use mathlib.Core.Bool.{Bool, true, false, beq, not}
 use mathlib.Core.List.{List}
 use Prim.Native.Nat.{ℕ}
+use native.Mathlib.Omega.{arith}
 use Rattle.std.specs.Prelude.{Result, Ok, Err}
 use Rattle.std.specs.Result.{IsErrAnd}
 use Rattle.std.proofs.lemmas.Result.{err_from_is_err_and}
@@ -21,6 +22,11 @@ as_done c e = ap (λ (x : Result Value Fault). low_of x c) e
 
 pub as_faulty : {r : Result Value Fault} {x : Fault} (c : Cursor) → r ≡ Err x → low_of r c ≡ Faulty x.refusal x.path
 as_faulty c e = ap (λ (x : Result Value Fault). low_of x c) e
+
+-- an answer that is done has the cursor that the part leaves
+pub known_done : (x : Result Value Fault) (c : Cursor) (r : Low) (v : Value) (e : Cursor) → r ≡ low_of x c → r ≡ Done v e → low_of x c ≡ Done v c
+known_done (Ok w) c r v e a d = let z : w ≡ v = cc in ap (λ (u : Value). Done u c) z
+known_done (Err y) c r v e a d = absurd (let z : ◌≡◌ {A = ℕ} 0 1 = cc in omega arith)
 
 -- an error that is handed up
 pub handed_up : {r : Result Value Fault} {x : Fault} (r' : Result Value Fault) (c : Cursor) → r ≡ Err x → IsErrAnd r' (λ y. y ≡ x) → low_of r' c ≡ low_of r c

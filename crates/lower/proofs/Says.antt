@@ -6,7 +6,8 @@ use Prim.Native.Nat.{ℕ, ◌+◌, ◌*◌, ◌≤◌}
 use native.Mathlib.Omega.{arith}
 use lib.ListN.{length}
 use Rattle.refusals.specs.declared.Refusal.{Refusal}
-use Rattle.refusals.specs.Refusals.{refusal_of}
+use Rattle.refusals.specs.Refusals.{number_of, refusal_of}
+use Rattle.refusals.proofs.Back.{number_back}
 use Rattle.machine.specs.Check.{Fault}
 use Rattle.writer.specs.Over.{over}
 use Rattle.paths.specs.Table.{Linked, path_in_table}
@@ -47,6 +48,11 @@ pub record Refused (P : Piece) (L : Layout) (c : Cursor) (p p' : List ℕ) (n : 
   pub place : path_in_table p' L.paths k ≡ x.place
   pub linked : Linked p' L.paths k
   pub kept : Kept L c p p'
+
+-- the refusal's number is the fault's
+pub refused_number : {P : Piece} {L : Layout} {c : Cursor} {p p' : List ℕ} {n : Refusal} {k : ℕ} (R : Refused P L c p p' n k) → 1 ≤ R.x.number → R.x.number ≤ 13
+    → number_of n ≡ R.x.number
+refused_number R low high = ap number_of R.number ∙ number_back R.x.number 0 low high
 
 taken_at : (o : Option Fault) (P : Piece) (L : Layout) (c : Cursor) (p p' : List ℕ) (r : Low) (v : Value) (e : Cursor) → P.fault ≡ o → SaysAt o P L c p p' r → r ≡ Done v e
     → Taken P L c p p' v e
