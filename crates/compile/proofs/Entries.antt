@@ -27,11 +27,12 @@ use Rattle.reader.specs.Read.{limited, told}
 use Rattle.reader.specs.Read as Read
 use Rattle.reader.specs.declared.Malformed.{Malformed}
 use Rattle.reader.proofs.Scan.{formula_in, whole_formula}
-use Rattle.std.specs.Prelude.{Result, Ok, Err}
+use Rattle.std.specs.Prelude.{None, Some, Result, Ok, Err}
 use Rattle.std.specs.Option.{ok_or}
-use Rattle.refusals.specs.Refusals.{refusal_at, refusal_of}
+use Rattle.refusals.specs.Refusals.{node_of, number_of, refusal_at}
+use Rattle.refusals.specs.Refusals as Refusals
 use Rattle.refusals.specs.declared.Refusal.{Refusal}
-use Rattle.refusals.specs.declared.Refusal.TheVariants.{ExpressionLimit, MalformedLine, SliceTooShort}
+use Rattle.refusals.specs.declared.Refusal.TheVariants.{EndedEarly, ExpressionLimit, LeftOver, MalformedLine, SliceTooShort, WrongField}
 use Rattle.names.specs.Lines.{kind_as, names_of, symbol_kind, table_of}
 use Rattle.names.specs.declared.Kind.{Kind}
 use Rattle.names.specs.declared.Kind.TheVariants as Kinds
@@ -119,7 +120,7 @@ module _ (b l : List ℕ) (path program : ℕ) where
 
 -- what a caller has of a refusal of prepare: one without a place, or one at a node
 abbrev pub Early : Compiled → Refusal → Type 0
-Early X r = ((n : ℕ) × (X ≡ refused n none) × (n < 5) × (r ≡ refusal_of n)) ⊎ ((n : ℕ) × (k : ℕ) × (X ≡ refused_at n k) × (r ≡ refusal_at n k))
+Early X r = ((n : ℕ) × (X ≡ refused n none) × (n < 5) × (r ≡ Refusals.refusal_of n)) ⊎ ((n : ℕ) × (k : ℕ) × (X ≡ refused_at n k) × (r ≡ refusal_at n k))
 
 -- and of a table of the symbols: a formula over them, with slices long enough
 pub record Source (b l : List ℕ) (path program : ℕ) (T : Names) : Type 0 where
@@ -148,6 +149,46 @@ module _ (b l : List ℕ) (path program : ℕ) where
   pub early_of : (r : Refusal) → Err r ≡ preparation b l path program → Early (compile b l path program) r
   unfolding compile preparation
   early_of r h = early_in short (transfer_of b) (symbols_of l) r h
+
+  -- a refusal without a node, which is below 5, and one at a node: each with the definition's number
+  refused_in : (x : Bool) (o : Transfer) (s : Option (List Symbol)) (r : Refusal) → Err r ≡ prepared_as (cond x (refused 1 none) (read accepted o s)) → node_of r ≡ None
+      → (cond x (refused 1 none) (read sized o s) ≡ refused (number_of r) none) × (number_of r < 5)
+  refused_in true o s r h n =
+      let e : r ≡ SliceTooShort = cc in (ap (λ (y : Refusal). refused (number_of y) none) (sym e), omega (arith, ap number_of e))
+  refused_in false (ended_early k) s r h n =
+      let e : r ≡ EndedEarly k = cc in absurd (let d = sym (ap node_of e) ∙ n in let w : ◌≡◌ {A = ℕ} 0 1 = cc in omega arith)
+  refused_in false (wrong_field k) s r h n =
+      let e : r ≡ WrongField k = cc in absurd (let d = sym (ap node_of e) ∙ n in let w : ◌≡◌ {A = ℕ} 0 1 = cc in omega arith)
+  refused_in false (left_over k) s r h n =
+      let e : r ≡ LeftOver k = cc in absurd (let d = sym (ap node_of e) ∙ n in let w : ◌≡◌ {A = ℕ} 0 1 = cc in omega arith)
+  refused_in false (whole f) none r h n =
+      let e : r ≡ MalformedLine = cc in (ap (λ (y : Refusal). refused (number_of y) none) (sym e), omega (arith, ap number_of e))
+  refused_in false (whole f) (some ss) r h n = absurd (let w : ◌≡◌ {A = ℕ} 0 1 = cc in omega arith)
+
+  pub refusal_of : (r : Refusal) → Err r ≡ preparation b l path program → node_of r ≡ None → (compile b l path program ≡ refused (number_of r) none) × (number_of r < 5)
+  unfolding compile preparation
+  refusal_of r h n = refused_in short (transfer_of b) (symbols_of l) r h n
+
+  at_node : (r y : Refusal) (j k : ℕ) → r ≡ y → node_of y ≡ Some j → node_of r ≡ Some k → refused_at (number_of y) j ≡ refused_at (number_of r) k
+  at_node r y j k e n m =
+      let d = sym n ∙ sym (ap node_of e) ∙ m in
+      let z : j ≡ k = cc in
+      ap₂ (λ (i : ℕ) (u : ℕ). refused_at i u) (sym (ap number_of e)) z
+
+  node_refused_in : (x : Bool) (o : Transfer) (s : Option (List Symbol)) (r : Refusal) (k : ℕ) → Err r ≡ prepared_as (cond x (refused 1 none) (read accepted o s)) → node_of r ≡ Some k
+      → cond x (refused 1 none) (read sized o s) ≡ refused_at (number_of r) k
+  node_refused_in true o s r k h n =
+      let e : r ≡ SliceTooShort = cc in absurd (let d = sym (ap node_of e) ∙ n in let w : ◌≡◌ {A = ℕ} 0 1 = cc in omega arith)
+  node_refused_in false (ended_early j) s r k h n = let e : r ≡ EndedEarly j = cc in at_node r (EndedEarly j) j k e refl n
+  node_refused_in false (wrong_field j) s r k h n = let e : r ≡ WrongField j = cc in at_node r (WrongField j) j k e refl n
+  node_refused_in false (left_over j) s r k h n = let e : r ≡ LeftOver j = cc in at_node r (LeftOver j) j k e refl n
+  node_refused_in false (whole f) none r k h n =
+      let e : r ≡ MalformedLine = cc in absurd (let d = sym (ap node_of e) ∙ n in let w : ◌≡◌ {A = ℕ} 0 1 = cc in omega arith)
+  node_refused_in false (whole f) (some ss) r k h n = absurd (let w : ◌≡◌ {A = ℕ} 0 1 = cc in omega arith)
+
+  pub node_refusal_of : (r : Refusal) (k : ℕ) → Err r ≡ preparation b l path program → node_of r ≡ Some k → compile b l path program ≡ refused_at (number_of r) k
+  unfolding compile preparation
+  node_refusal_of r k h n = node_refused_in short (transfer_of b) (symbols_of l) r k h n
 
   source_in : (x : Bool) (o : Transfer) (s : Option (List Symbol)) (T : Names) → short ≡ x → transfer_of b ≡ o → symbols_of l ≡ s
       → Ok T ≡ prepared_as (cond x (refused 1 none) (read accepted o s)) → compile b l path program ≡ cond x (refused 1 none) (read sized o s)
@@ -302,7 +343,7 @@ module _ (b : List ℕ) (f : Formula) (is_f : formula_of b ≡ some f) (limits :
       written X e = after X (lowered_or f ss O') w q q' p p' e (written_at O' near_fault answer_is slice_is place_is)
 
 -- a refusal of 1 to 4
-pub early : (X : Compiled) (n : ℕ) (r : Refusal) (place : Option Path) (q q' p : List ℕ) → X ≡ refused n place → n < 5 → r ≡ refusal_of n → q' ≡ placed place q
+pub early : (X : Compiled) (n : ℕ) (r : Refusal) (place : Option Path) (q q' p : List ℕ) → X ≡ refused n place → n < 5 → r ≡ Refusals.refusal_of n → q' ≡ placed place q
     → After X (Err r) q q' p p
 early X n r place q q' p e h i k = after X (refused n place) (Err r) q q' p p e (ap (λ (x : Refusal). Err x) i, k, sym (rw (lt-ltb n 5 h)))
 

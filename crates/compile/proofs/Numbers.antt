@@ -19,7 +19,7 @@ use Rattle.formula.specs.Term.{term}
 use Rattle.formula.specs.Transfer.{Transfer, ended_early, left_over, transfer_of, whole, wrong_field}
 use Rattle.machine.specs.Check.{Context, Fault, fault}
 use Rattle.machine.specs.Compile.{Compiled, accepted, compile, lowered_or, own_context, program_room, read, refused, refused_at, sized}
-use Rattle.lower.specs.Low.{low_of}
+use Rattle.lower.specs.Low.{Low, Faulty, low_of}
 use Rattle.lower.specs.Piece.{Says, own_piece}
 use Rattle.lower.specs.declared.Cursor.{Cursor}
 use Rattle.lower.specs.declared.Fault as Lower
@@ -54,14 +54,21 @@ lowered_numbers : (f : Formula) (ss : List Symbol) (o : Option Fault) → ((x : 
 lowered_numbers f ss none h = tt
 lowered_numbers f ss (some x) h = h x refl
 
-sized_by : (f : Formula) (ss : List Symbol) (b : Bool) → formula_limit f ≡ b
-    → Numbers (cond b (lowered_or f ss (fault (own_context ss) (term f) root)) (refused 4 (some root)))
-sized_by f ss false e = placed 4 (omega arith) (omega arith)
-sized_by f ss true e =
+fault_numbered : (f : Formula) (ss : List Symbol) → Numbers (lowered_or f ss (fault (own_context ss) (term f) root))
+fault_numbered f ss =
     lowered_numbers f ss (fault (own_context ss) (term f) root)
     (λ x h.
     let N = ranged (own_context ss) (term f) root x h in
     placed x.number (omega (arith, N.least)) (omega (arith, N.most)))
+
+-- what writing a program comes to: see `written` of Entries
+pub written_numbers : (f : Formula) (ss : List Symbol) (X : Compiled) → X ≡ lowered_or f ss (fault (own_context ss) (term f) root) → Numbers X
+written_numbers f ss X e = subst Numbers (sym e) (fault_numbered f ss)
+
+sized_by : (f : Formula) (ss : List Symbol) (b : Bool) → formula_limit f ≡ b
+    → Numbers (cond b (lowered_or f ss (fault (own_context ss) (term f) root)) (refused 4 (some root)))
+sized_by f ss false e = placed 4 (omega arith) (omega arith)
+sized_by f ss true e = fault_numbered f ss
 
 read_numbers : (o : Transfer) (s : Option (List Symbol)) → Numbers (read sized o s)
 read_numbers (ended_early k) s = record { least = omega arith; most = omega arith; number = refl; node = refl }
@@ -90,6 +97,11 @@ Tells none (Ok v) = Unit
 Tells none (Err r) = ⊥
 Tells (some x) (Ok v) = ⊥
 Tells (some x) (Err r) = Refuses x r
+
+-- the fault of such a refusal
+pub told_fault : (o : Option Fault) (r : Refusal) → Tells {A = Bool} o (Err r) → ((x : Fault) × (o ≡ some x) × (number_of r ≡ x.number))
+told_fault none r t = absurd t
+told_fault (some x) r t = (x, refl, t.0)
 
 fault_numbers : (C : Context) (f : Formula) (p : Path) (x : Fault) → fault C (term f) p ≡ some x → Refuses x (refusal_of x.number)
 fault_numbers C f p x e =
@@ -125,3 +137,12 @@ unfolding own_piece
 node_numbers C f p k n L c e q q' r y is S =
     let R = says.refused (own_piece C (term f) p k c n) L c q q' _ y.refusal y.path S (as_faulty e is) in
     (R.x, R.is_fault, subst (λ (z : Refusal). Refuses R.x z) (sym R.number) (fault_numbers C f p R.x R.is_fault))
+
+-- what a caller has of a fault that `node` of `Source` returns at a formula's place: `refused` of lower, and the fault's number
+pub node_refused : (C : Context) (f : Formula) (p : Path) (k n : ℕ) (L : Layout) (c : Cursor) (q q' : List ℕ) (r : Low) (y : Refusal) (j : ℕ)
+    → Says (own_piece C (term f) p k c n) L c q q' r → r ≡ Faulty y j → ((R : says.Refused (own_piece C (term f) p k c n) L c q q' y j) × (number_of y ≡ R.x.number))
+unfolding own_piece
+node_refused C f p k n L c q q' r y j S e =
+    let R = says.refused (own_piece C (term f) p k c n) L c q q' r y j S e in
+    let N = ranged C (term f) p R.x R.is_fault in
+    (R, says.refused_number R (omega (arith, N.least)) (omega (arith, N.most)))

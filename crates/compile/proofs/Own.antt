@@ -24,8 +24,10 @@ use Rattle.lower.specs.Piece.{context_of}
 use Rattle.compile.specs.Outcome.{Fits, answer_to, fault_place, lowered_to, slice_after}
 use Rattle.compile.specs.Preparation.{Formed}
 use Rattle.std.specs.Prelude.{Result, Ok, Err}
+use Rattle.refusals.specs.Refusals.{number_of}
 use Rattle.refusals.specs.declared.Refusal.{Refusal}
 use Rattle.names.specs.declared.Kind.{Kind}
+use Rattle.compile.proofs.Numbers.{own_numbers, told_fault}
 use Rattle.compile.proofs.Entries.{all_fit, answer_is, few, long, place_is, slice_is}
 
 module _ (b : List ℕ) (K : List Kind) (f : Formula) (ss : List Symbol) (F : Formed b K f ss) where
@@ -88,3 +90,7 @@ module _ (b : List ℕ) (K : List Kind) (f : Formula) (ss : List Symbol) (F : Fo
 
     pub lowered_fault : (n : Refusal) → w ≡ Err n → (Err n ≡ lowered_to f O) × (q' ≡ placed (fault_place O) q)
     lowered_fault n h = (fault_at O n h answer_to_own, path_is)
+
+    -- its number is that of the fault
+    pub lowered_number : (n : Refusal) → w ≡ Err n → ((x : Fault) × (O ≡ some x) × (number_of n ≡ x.number))
+    lowered_number n h = told_fault O n (own_numbers f ss (Err n) (fault_at O n h answer_to_own))
