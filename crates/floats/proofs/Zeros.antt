@@ -77,7 +77,7 @@ module _ (s : Bool) (x y : Float) (X : fits binary64 x ≡ true) (Y : fits binar
   step b e = ap (λ (c : Bool). cond (p || c) x y) e
 
   -- equal to y, and with the bits of the zero: y is the same value, or the other zero
-  takes_zero : eq x y ≡ true → to_bits binary64 x ≡ zero_bits s → x ≡ cond (p || zeros s x y) x y
+  pub takes_zero : eq x y ≡ true → to_bits binary64 x ≡ zero_bits s → x ≡ cond (p || zeros s x y) x y
   takes_zero h e = elim (equal_values binary64 x y t u h) [
     | inl q ↦ either (p || zeros s x y) q
     | inr z ↦ sym (step true (zeros_is s x y ∙ named s z.0 (sym (by_bits s x t e) ∙ z.1) z.1 z.2) ∙ ap (λ (b : Bool). cond b x y) (or-true p))
@@ -97,11 +97,11 @@ module _ (s : Bool) (x y : Float) (X : fits binary64 x ≡ true) (Y : fits binar
   kept l z = sym (step false z ∙ ap (λ (b : Bool). cond (b || false) x y) l)
 
   -- with other bits it is not the zero
-  keeps_held : p ≡ false → (to_bits binary64 x ≡ zero_bits s → ⊥) → y ≡ cond (p || zeros s x y) x y
+  pub keeps_held : p ≡ false → (to_bits binary64 x ≡ zero_bits s → ⊥) → y ≡ cond (p || zeros s x y) x y
   keeps_held l h = kept l (zeros_is s x y ∙ ap (λ (b : Bool). b && zero_of (not s) y) (no_zero s x t h))
 
   -- two values that are not equal are not the two zeros
-  keeps_unequal : p ≡ false → eq x y ≡ false → y ≡ cond (p || zeros s x y) x y
+  pub keeps_unequal : p ≡ false → eq x y ≡ false → y ≡ cond (p || zeros s x y) x y
   keeps_unequal l h = kept l (zeros_is s x y ∙ go (zero_of s x && zero_of (not s) y) refl)
     where
       go : (b : Bool) → (zero_of s x && zero_of (not s) y) ≡ b → b ≡ false
