@@ -403,7 +403,7 @@ impl<'a> Part<'a> {
     }
 
     // The number of the rule: its kind and its operator, but for Power by a literal, Hill by a state, and what has no rule.
-    fn rule_number(&self) -> usize
+    pub fn rule_number(&self) -> usize
         ensures { result ≡ number_of self.now.by.symbol self.now.by.state self.now.node.formula.now self.now.node.number }
     {
         let at = NODE_SIZE * self.node.number;
