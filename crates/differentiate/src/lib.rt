@@ -22,6 +22,8 @@ use writer::{put_bytes, put_long, put_word};
 
 // The bytes of a record: "rule number and the node of the formula it came from, 4 bytes each".
 pub const ORIGIN_SIZE: usize = 8;
+// A record says where a node comes from, and no more.
+pub const RECORD_SIZE: usize = ORIGIN_SIZE;
 // The number in the records of a copy.
 const COPIED: usize = 0;
 
