@@ -22,6 +22,11 @@ use Rattle.vebrostin.proofs.Written.{padded_length}
 pub comes_back : (x : Float) → fits binary64 x ≡ true → ComesBack x
 comes_back x e = of_bits-to_bits binary64 x (subst T (sym e) tt)
 
+pub held_take : (n : ℕ) (xs : List Float) → Held xs → Held (take n xs)
+held_take zero xs h = tt
+held_take (suc n) [] h = tt
+held_take (suc n) (x ∷ xs) h = (h.0, held_take n xs h.1)
+
 -- one value more
 pub held_more : (xs : List Float) (i : ℕ) (d : Float) → i < length xs → Held (take i xs) → ComesBack (get_or xs i d) → Held (take (i + 1) xs)
 held_more [] i d l h e = absurd (omega arith)

@@ -2,17 +2,19 @@
 use Rattle.std.specs.Prelude.{Result}
 use mathlib.Core.Path.{◌≡◌, refl, sym, ap, ◌∙◌, subst}
 use mathlib.Core.Bool.{Bool, true, false, true≢false}
-use mathlib.Core.List.{List, [], ◌∷◌, ◌++◌}
+use mathlib.Core.List.{List, [], ◌∷◌, ◌++◌, append_assoc}
 use mathlib.Core.Logic.{⊎_elim}
 use mathlib.Core.Option.{Option}
 use Prim.Native.Nat.{ℕ, ◌≤◌}
 use lib.ListN.{length, drop, set}
 use lib.Ieee.{Float}
+use native.Mathlib.Omega.{arith}
 use borrow.Author.Tests.{le-ltb, ltb-false}
 use Rattle.refusals.specs.Numbers.{no_program, slice_too_short}
 use Rattle.refusals.specs.declared.Refusal.{Refusal}
 use Rattle.formula.specs.Path.{path_room, placed}
 use Rattle.formula.proofs.Tests.{or_none}
+use Rattle.meaning.specs.Work.{Question}
 use Rattle.machine.specs.Program.{valid}
 use Rattle.machine.specs.Machine.{place_of}
 use Rattle.machine.specs.Machine as Machine
@@ -32,10 +34,12 @@ use Rattle.run.specs.declared.Reply.{Reply}
 use Rattle.run.specs.declared.State.{State}
 use Rattle.run.specs.Views.{HandsBack, answer_of, pending_of, reply_of, state_of}
 use Rattle.run.specs.Calls.{Settled, resume_at, run_at}
+use Rattle.run.proofs.Plain.{plain}
 use Rattle.run.proofs.Whole.{resume_10}
-use Rattle.vebrostin.specs.Cells.{Askable, number_of, state_cells, state_in, value_cell}
+use Rattle.vebrostin.specs.Cells.{ArgumentsBack, Askable, number_of, question_cells, state_cells, state_in, value_cell}
 use Rattle.vebrostin.specs.Calls.{Carries, Compiles, Derives, Leaves, Outcome, Settles, after, compile_node, compile_number, compile_outcome, derive_node, derive_number, derive_outcome, Ends, is_refused, node_place, report_length, report_short, reported, resume_outcome, run_outcome, short, state_length, told, told_node, told_number, untouched, with_room, written}
 use Rattle.vebrostin.proofs.Asking.{resume_asks, run_asks}
+use Rattle.vebrostin.proofs.Crossing.{state_back}
 
 -- ---- the numbers of an answer don't go by the program
 
@@ -96,6 +100,19 @@ pub reply_ends : (b : List ℕ) (r : Reply) (regs' : List Float) (R : Machine.Re
     → (Askable (pending_of r.state.pending) → state_in cells' ≡ state_of r.state) → Ends R n cells cells' regs'
 reply_ends b r regs' R cells cells' n e hn hc hs =
     put_ends (answer_of b r.answer) r.count (state_of r.state) e (hn ∙ same_number b r.answer) (same_value b r.answer) hc hs
+
+-- a reply that keeps nothing
+module _ (R : Machine.Reply) (a : Machine.Answer) (count at : ℕ) (o : Option Question) (regs : List Float) (e : plain a count at o regs ≡ R) where
+  abbrev row : List ℕ → ℕ → List ℕ → List ℕ
+  row q v cells = (at ∷ 0 ∷ 0 ∷ 0 ∷ 0 ∷ 0 ∷ 0 ∷ 0 ∷ 0 ∷ 0 ∷ 0 ∷ q ++ (count ∷ v ∷ [])) ++ drop 16 cells
+
+  pub plain_ends : (n v : ℕ) (q cells cells' : List ℕ) → n ≡ number_of a → v ≡ value_cell a → q ≡ question_cells o → ArgumentsBack o → cells' ≡ row q v cells
+      → Ends R n cells cells' regs
+  plain_ends n v q cells cells' en ev eq back ec =
+      let s = (plain a count at o regs).state in
+      let w : cells' ≡ (state_cells s ++ (count ∷ v ∷ [])) ++ drop 16 cells = ec ∙ ap (λ (x : List ℕ). row x v cells) eq in
+      put_ends a count s e en ev w
+      (λ k. ap state_in (w ∙ append_assoc (state_cells s) (count ∷ v ∷ []) (drop 16 cells)) ∙ state_back s (omega arith) tt k back _)
 
 -- the cells and the path slice by the same reply
 pub ends_as : {R R' : Machine.Reply} {n : ℕ} {cells cells' : List ℕ} {regs' : List Float} → R ≡ R' → Ends R n cells cells' regs' → Ends R' n cells cells' regs'
