@@ -9,14 +9,12 @@ RENAMED = {
     ("run", "fresh_state"): "State::fresh", ("rules", "code"): "RulePart::code", ("rules", "parts_of"): "Code::parts", ("rules", "end_of"): "RulePart::end",
     ("survey", "child"): "Node::child", ("survey", "diff_attributes"): "Part::diff_attributes", ("survey", "literal_bits"): "Node::literal_bits",
     ("survey", "is_zero"): "Attributes::is_zero", ("survey", "is_one"): "Attributes::is_one", ("survey", "rule_attributes"): "Part::rule_attributes",
-    ("survey", "rule_of"): "Part::rule", ("survey", "with_primal"): "Attributes::with_primal",
+    ("survey", "rule_of"): "Part::rule_number", ("survey", "with_primal"): "Attributes::with_primal",
 }
 
 # Where a law of the old tree that README or docs/ named is found in the new one, by crate and name.
 RENAMED_LAWS = {
-    ("names", "number_varies"): ("names", "kind_varies"), ("names", "number_state"): ("names", "kind_state"), ("compile", "refusal_of"): ("compile", "early_of"),
-    ("run", "plain_power"): ("run", "plain_question"), ("run", "plain_function"): ("run", "plain_question"), ("lower", "known_done"): ("lower", "as_done"),
-    ("vebrostin", "plain_ends"): ("vebrostin", "put_ends"), ("hosted", "told"): ("demand", "told"),
+    ("run", "plain_power"): ("run", "plain_question"), ("run", "plain_function"): ("run", "plain_question"), ("hosted", "told"): ("demand", "told"),
 }
 
 
