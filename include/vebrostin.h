@@ -2,7 +2,7 @@
  *
  * Only numbers and slices cross. A slice is a pointer and a count of elements; a slice of no elements still needs a pointer that
  * is not null. Slices that are written must not overlap any other. The library keeps nothing, allocates nothing and calls nothing of
- * its host. Of the C library it takes `memcpy`, `memmove` and `memset`.
+ * its host. Of the C library it takes `memcpy` and `memset`.
  *
  * docs/PROGRAM.md has the bytes of a program. A formula is nodes of 16 bytes, each followed by its children; the command
  * `vebrostin pack` makes one from text. A name line is `name:kind` joined by commas, with the kinds p (parameter), s (state),

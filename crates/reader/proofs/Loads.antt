@@ -5,8 +5,8 @@ use mathlib.Core.List.{List, ◌++◌}
 use Prim.Native.Nat.{ℕ, ◌+◌, ◌-◌, ◌≤◌, ◌<◌}
 use native.Mathlib.Omega.{arith}
 use lib.ListN.{drop_of_length-le, length, get_or, take, drop, get_or-append, length-drop}
-use lib.Seq.{get_or-take, get_or-append_right, take-append-add}
-use Rattle.std.proofs.lemmas.List.{get_or-drop, drop-replicate, take-replicate}
+use lib.Seq.{get_or-take, get_or-append_right}
+use Rattle.std.proofs.lemmas.List.{get_or-drop, take-replicate}
 use lib.Dec.{ltb}
 use borrow.Author.Tests.{ltb-true, ltb-false}
 use Rattle.std.specs.Int.{from_le_bytes, w16, w32, w64}
@@ -40,15 +40,7 @@ loaded_padded b at n m xs q =
         let h = ltb-false i (length (drop at b)) q in
         get_or-append_right (drop at b) (zeros m) i 0 h ∙ zero_byte m (i - length (drop at b)) ∙ sym (byte_past b j (omega (arith, length-drop at b)))
 
--- a list with zeros in place of what it lacks
-pub padded : (xs : List ℕ) (n : ℕ) → length xs < n → xs ++ drop (length xs) (zeros n) ≡ take n (xs ++ zeros n)
-padded xs n h =
-    let m = n - length xs in
-    let e : length xs + m ≡ n = omega arith in
-    ap (λ (ys : List ℕ). xs ++ ys) (drop-replicate (length xs) n 0 ∙ sym (take-replicate m n 0 (omega arith)))
-    ∙ sym (take-append-add xs (zeros n) m)
-    ∙ ap (λ (k : ℕ). take k (xs ++ zeros n)) e
-
+-- past the end all are zeros
 pub all_padded : (b : List ℕ) (at n : ℕ) → length b ≤ at → zeros n ≡ take n (drop at b ++ zeros n)
 all_padded b at n h =
     sym (ap (λ (xs : List ℕ). take n (xs ++ zeros n)) (drop_of_length-le b h) ∙ take-replicate n n 0 (omega arith))

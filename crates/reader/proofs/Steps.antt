@@ -11,9 +11,10 @@ use borrow.Author.Tests.{eq-eqb, le-leb, lt-leb, ne_eqb}
 use Rattle.formula.specs.Node.{Fields, fields_at, head_of, head_at, node_size}
 use Rattle.formula.specs.Transfer.{transfer_of}
 use Rattle.reader.specs.Read.{is_some, told}
+use Rattle.reader.specs.declared.Malformed.{Malformed}
 use Rattle.reader.specs.declared.Malformed.TheVariants.{EndedEarly, WrongField, LeftOver}
 use Rattle.reader.proofs.Scan.{is_there, past_none, scan_bad, scan_end, scan_start, scan_step, scanned}
-use Rattle.std.specs.Prelude.{Ok, Err}
+use Rattle.std.specs.Prelude.{Ok, Err, Result}
 
 -- at the node k so many trees are owed
 unfoldable pub Owing : List ℕ → ℕ → ℕ → Type 0
@@ -115,3 +116,7 @@ module _ (b : List ℕ) (k count : ℕ) (s : Counted b k count) (i : k ≤ lengt
             owing = next_owing;
             close = inr (omega arith, ⊎_elim (λ e. omega arith) (λ e. let m = e.1 in omega arith) s.close);
           }
+
+-- the same refusal, at a place that is equal
+pub left_over_at : {r : Result Unit Malformed} {k j : ℕ} → Err (LeftOver k) ≡ r → j ≡ k → Err (LeftOver j) ≡ r
+left_over_at e q = ap (λ (i : ℕ). Err (LeftOver i)) q ∙ e

@@ -54,7 +54,9 @@ fn padded<const N: usize>(b: &[u8]) -> [u8; N]
     ensures { result ≡ take N (b.now ++ zeros N) }
 {
     let mut bytes = [0; N];
-    bytes[..b.len()].copy_from_slice(b);
+    for i in 0..b.len() {
+        bytes[i] = b[i];
+    }
     bytes
 }
 

@@ -5,8 +5,8 @@ use Prim.Native.Nat.{ℕ, suc, ◌+◌, ◌-◌, ◌≤◌, ◌<◌}
 use native.Mathlib.Omega.{arith}
 use native.Mathlib.Nat.{add-zero}
 use borrow.Rule.Slice.PartMut.{put_mid}
-use lib.ListN.{length, take, drop, set, length-append, length-drop, take-append-drop, replicate}
-use lib.Seq.{set_split, take_at, drop_at, drop-append-add, drop-drop, length-take-le, take-append-le, drop-length}
+use lib.ListN.{length, take, drop, set, length-append, length-drop, take-append-drop, get_or, replicate}
+use lib.Seq.{paste, paste-suc, take-length, set_split, take_at, drop_at, drop-append-add, drop-drop, length-take-le, take-append-le, drop-length}
 use Rattle.formula.specs.Text.{zeros}
 use Rattle.writer.specs.Over.{over, zeroed}
 
@@ -63,6 +63,19 @@ over_before p a xs ys h =
     let d : drop (a + length xs) (q ++ r) ≡ r = drop_at q r (a + length xs) e in
     let g : a + length xs + length ys ≡ a + length (xs ++ ys) = omega (arith, length-append xs ys) in
     rw (t, d, append_assoc xs ys (drop (a + length (xs ++ ys)) p), g)
+
+pub paste_over : (d : List ℕ) (at n : ℕ) (s : List ℕ) → n ≡ length s → paste d at s n ≡ over d at s
+unfolding over
+paste_over d at n s e =
+    ap (λ (k : ℕ). paste d at s k) e
+    ∙ ap (λ (x : List ℕ). take at d ++ x ++ drop (at + length s) d) (take-length s)
+    ∙ append_assoc (take at d) s (drop (at + length s) d)
+
+pub paste_more : (d : List ℕ) (at : ℕ) (s : List ℕ) (j : ℕ) → at + j < length d → j < length s
+    → set (paste d at s j) (at + j) (get_or s j 0) ≡ paste d at s (j + 1)
+paste_more d at s j h k =
+    let e : suc j ≡ j + 1 = omega arith in
+    paste-suc d at s j 0 h k ∙ ap (λ (x : ℕ). paste d at s x) e
 
 pub over_one : (p : List ℕ) (i x : ℕ) → i < length p → set p i x ≡ over p i (x ∷ [])
 unfolding over

@@ -32,3 +32,9 @@ pub lowest_written : (p : List ℕ) (a n x : ℕ) (xs : List ℕ) → n ≤ 8 �
 lowest_written p a n x xs h e =
     let low : xs ≡ little_endian n x = e ∙ bytes_from n 8 0 x h ∙ ap (little_endian n) (div-one x) in
     rw low (over_lent p a (a + n - a) (little_endian n x) (omega (arith, little_long n x)))
+
+-- the same of bytes that are told by those of an equal number
+pub lowest_told : (p : List ℕ) (a n x : ℕ) {y : ℕ} {xs bs : List ℕ} → n ≤ 8 → xs ≡ take n bs → bs ≡ to_le_bytes w64 y → y ≡ x
+    → put_mid a (a + n - a) p xs ≡ over p a (little_endian n x)
+lowest_told p a n x {y} {xs} {bs} h e f g =
+    lowest_written p a n x xs h (e ∙ ap (λ (ys : List ℕ). take n ys) (f ∙ ap (λ (k : ℕ). to_le_bytes w64 k) g))

@@ -4,14 +4,16 @@ ghost use Rattle.std.specs.Prelude.{◌≡◌, ◌+◌, ◌≤◌, length};
 ghost use Rattle.formula.specs.Text.{decimal, little_endian};
 ghost use Rattle.writer.specs.Over.{over, zeroed};
 
-// Writes bytes from a place on, and says where they end.
+// Writes bytes from a place on, and says where they end. Here and in `reader::padded` a loop copies: `copy_from_slice` calls `memmove`
+// where the length is no constant, and the static library takes `memcpy` and `memset` alone.
 pub fn put_bytes(out: &mut [u8], at: usize, b: &[u8]) -> usize
     requires { at + length b.now ≤ length out.old }
     ensures { (result ≡ at + length b.now) × (out.new ≡ over out.old at b.now) }
 {
-    let end = at + b.len();
-    out[at..end].copy_from_slice(b);
-    end
+    for i in 0..b.len() {
+        out[at + i] = b[i];
+    }
+    at + b.len()
 }
 
 // Zeros from a place to the end.

@@ -13,19 +13,19 @@ returns-then-path-lt8192 c = short_path c.args.formula.now c.args.names.now c.ar
 
 pub returns-then-program-div_ceil : goal.returns-then-program-div_ceil
 returns-then-program-div_ceil c =
-    short_program c.args.formula.now c.args.names.now c.args.path c.args.program (omega (arith, c.if-path-lt8192.false))
-    (omega (arith, c.div_ceil.ensures, c.if-program-div_ceil.true))
+    short_program c.args.formula.now c.args.names.now c.args.path c.args.program (omega arith)
+    (omega arith)
 
 pub returns-in_err-receive : goal.returns-in_err-receive
 returns-in_err-receive c =
     let given = err_from_is_err_and c.from_residual.result c.from_residual.ensures.1 in
     rw (given.1, given.2)
-    (malformed c.args.formula.now c.args.names.now c.args.path c.args.program (omega (arith, c.if-path-lt8192.false))
-    (omega (arith, c.div_ceil.ensures, c.if-program-div_ceil.false)) _ c.in_err-receive.ensures)
+    (malformed c.args.formula.now c.args.names.now c.args.path c.args.program (omega arith)
+    (omega arith) _ c.in_err-receive.ensures)
 
 pub returns : goal.returns
 returns c =
     c.ok_or.ensures.value
     ∙ ap (λ (t : Option Names). ok_or t MalformedLine) c.read_names.ensures
-    ∙ table_is c.args.formula.now c.args.names.now c.args.path c.args.program (omega (arith, c.if-path-lt8192.false))
-    (omega (arith, c.div_ceil.ensures, c.if-program-div_ceil.false)) c.in_ok-receive.ensures
+    ∙ table_is c.args.formula.now c.args.names.now c.args.path c.args.program (omega arith)
+    (omega arith) c.in_ok-receive.ensures
