@@ -7,79 +7,119 @@
 //   h1 TEXT           16 hexadecimal digits, or `h0 TEXT` where a byte is none
 //   sNUMBER TEXT      a step of a path and its text, of which the length is compared
 //   dNUMBER           a number in decimal
+ghost use Rattle.std.specs.Prelude.{◌+◌, ◌<◌, ◌≤◌, length, IfSome};
+
 use cases::{Tally, holds};
 use names::Kind;
+use reader::NODE_SIZE;
 use refusals::Refusal;
 use std::{io, iter};
 
-// What stands before the first such byte and after it; all of the text and nothing where there is none.
-fn split_once(text: &[u8], mark: u8) -> (&[u8], &[u8]) {
-    match text.iter().position(|byte| *byte == mark) {
-        Some(at) => (&text[..at], &text[at + 1..]),
-        None => (text, &[]),
+// What stands before the first such byte and after it; none where there is none.
+fn split_once(text: &[u8], mark: u8) -> Option<(&[u8], &[u8])>
+    ensures { IfSome result (λ parts. length parts.0.now + length parts.1.now < length text.now) }
+{
+    let at = text.iter().position(|byte| *byte == mark)?;
+    Some((&text[..at], &text[at + 1..]))
+}
+
+// What stands after the first space; nothing where there is none.
+fn after_space(text: &[u8]) -> &[u8]
+    ensures { length result.now ≤ length text.now }
+{
+    match split_once(text, b' ') {
+        Some((_, after)) => after,
+        None => &[],
     }
 }
 
-// A number in decimal.
-fn number(digits: &[u8]) -> Option<u64> {
-    str::from_utf8(digits).ok()?.parse().ok()
+// The number in decimal up to a byte that is no digit, the last ten digits of it.
+fn number(digits: &[u8]) -> u64
+    ensures { result < 10000000000 }
+{
+    let mut number = 0;
+    for byte in digits {
+        let digit = byte.wrapping_sub(b'0');
+        if digit > 9 {
+            break;
+        }
+        number = number % 1_000_000_000 * 10 + u64::from(digit);
+    }
+    number
 }
 
-// The bytes that pairs of digits stand for.
-fn unhex<'a>(digits: &[u8], room: &'a mut [u8]) -> Option<&'a [u8]> {
-    let bytes = room.get_mut(..digits.len() / 2)?;
+// The bytes that pairs of digits stand for, as many as there is room for; none where a byte is no digit.
+fn unhex<'a>(digits: &[u8], room: &'a mut [u8]) -> Option<&'a [u8]>
+    ensures { IfSome result (λ bytes. length bytes.now ≤ length room.old) }
+{
+    cases::hex(digits)?;
+    let n = room.len().min(digits.len() / 2);
+    let bytes = &mut room[..n];
     for (byte, pair) in bytes.iter_mut().zip(digits.chunks_exact(2)) {
         *byte = u8::try_from(cases::hex(pair)?).ok()?;
     }
     Some(bytes)
 }
 
-// The nodes, the first of them `first` times and the last `last` times.
-fn repeated<'a>(nodes: &[u8], first: usize, last: usize, room: &'a mut [u8]) -> Option<&'a [u8]> {
-    let (begin, rest) = nodes.split_at_checked(16)?;
-    let (middle, end) = rest.split_at_checked(rest.len().checked_sub(16)?)?;
-    let times = first.checked_add(last)?;
-    let length = times.checked_mul(16)?.checked_add(middle.len())?;
-    let bytes = room.get_mut(..length)?;
-    let begins = iter::repeat_n(begin, first).flatten();
-    let ends = iter::repeat_n(end, last).flatten();
-    for (place, byte) in bytes.iter_mut().zip(begins.chain(middle).chain(ends)) {
-        *place = *byte;
+// The nodes, the first of them `first` times and the last `last` times, as many as there is room for. A node is zeros past the end of the bytes.
+fn repeated<'a>(nodes: &[u8], first: usize, last: usize, room: &'a mut [u8]) -> &'a [u8]
+    ensures { length result.now ≤ length room.old }
+{
+    let middle = first.wrapping_add((nodes.len() / NODE_SIZE).wrapping_sub(2));
+    let length = middle.wrapping_add(last).saturating_mul(NODE_SIZE);
+    let n = room.len().min(length);
+    let none: &[u8] = &[];
+    let begin = nodes.chunks(NODE_SIZE).next().unwrap_or(none);
+    let end = nodes.chunks_exact(NODE_SIZE).last().unwrap_or(none);
+    let inner = nodes.chunks(NODE_SIZE).skip(1).chain(iter::repeat(none));
+    let begins = iter::repeat_n(begin, first).chain(inner).take(middle);
+    let nodes = begins.chain(iter::repeat(end));
+    for (place, node) in room[..n].chunks_mut(NODE_SIZE).zip(nodes) {
+        place.fill(0);
+        for (byte, from) in place.iter_mut().zip(node) {
+            *byte = *from;
+        }
     }
-    Some(bytes)
+    &room[..n]
 }
 
 fn mark(yes: bool) -> u8 {
     b'0' + u8::from(yes)
 }
 
+// The three marks of some bytes: a formula, within a formula's limits, within a derivative's; `-` where there is no formula.
+fn judged(b: &[u8]) -> [u8; 3] {
+    if !reader::is_formula(b) {
+        return [b'0', b'-', b'-'];
+    }
+    let small = mark(reader::is_small(b, 256, 32));
+    let large = mark(reader::is_small(b, 16384, 128));
+    [b'1', small, large]
+}
+
 fn same_fault(told: &[u8], refusal: Refusal) -> bool {
-    let (name, node) = split_once(told, b':');
-    number(name) == Some(u64::from(refusal.number()))
-        && number(node) == refusal.node().map(|node| node as u64)
+    let Some((name, node)) = split_once(told, b':') else {
+        return false;
+    };
+    number(name) == u64::from(refusal.number())
+        && Some(number(node)) == refusal.node().map(|node| node as u64)
 }
 
 // Whether bytes are what the line says of them.
 fn same_bytes(told: &[u8], b: &[u8]) -> bool {
     match reader::receive(b) {
-        Ok(()) => {
-            let small = mark(reader::is_small(b, 256, 32));
-            let large = mark(reader::is_small(b, 16384, 128));
-            told == [b'1', small, large].as_slice()
-        }
+        Ok(()) => told.starts_with(&judged(b)),
         Err(malformed) => same_fault(told, Refusal::from(malformed)),
     }
 }
 
 // The nodes of the case come after how many times the first and the last of them stand.
-fn same_repeated(told: &[u8], rest: &[u8], room: &mut [u8]) -> Option<bool> {
-    let (first, rest) = split_once(rest, b' ');
-    let (last, digits) = split_once(rest, b' ');
-    let mut nodes = [0u8; 256];
-    let nodes = unhex(digits, &mut nodes)?;
-    let first = number(first)? as usize;
-    let last = number(last)? as usize;
-    Some(same_bytes(told, repeated(nodes, first, last, room)?))
+fn same_repeated(told: &[u8], counts: &[u8], room: &mut [u8]) -> Option<bool> {
+    let last = after_space(counts);
+    let mut nodes = [0; 256];
+    let nodes = unhex(after_space(last), &mut nodes)?;
+    let bytes = repeated(nodes, number(counts) as usize, number(last) as usize, room);
+    Some(same_bytes(told, bytes))
 }
 
 fn digit_of(kind: Kind) -> u8 {
@@ -91,49 +131,50 @@ fn digit_of(kind: Kind) -> u8 {
     }
 }
 
-// The kinds of the names stand as digits, after a mark for a name line.
+// The kinds of the names stand as digits, after a mark for a name line and up to a space.
 fn same_names(told: &[u8], line: &[u8]) -> bool {
     match (told, names::read_names(line)) {
         ([b'1', digits @ ..], Some(names)) => {
             let kinds = names.kinds;
-            let told = digits.iter().copied().chain(iter::repeat(b'0'));
-            names.count == digits.len()
+            let told = digits.iter().copied().take(names.count);
+            let told = told.chain(iter::repeat(b'0'));
+            digits.len().checked_sub(line.len() + 1) == Some(names.count)
                 && told.zip(kinds).all(|(digit, kind)| digit == digit_of(kind))
         }
-        (b"0", None) => true,
+        ([b'0', ..], None) => true,
         _ => false,
     }
 }
 
 fn same_digits(told: &[u8], text: &[u8]) -> bool {
     match (told, cases::hex(text)) {
-        (b"1", Some(value)) => text == names::hex(value).as_slice(),
-        (b"0", None) => true,
+        ([b'1', ..], Some(value)) => text.starts_with(&names::hex(value)),
+        ([b'0', ..], None) => true,
         _ => false,
     }
 }
 
 #[tactic(auto, using(writer::proofs::Decimal::decimal_length_le))]
-fn same_decimal(digits: &[u8]) -> Option<bool> {
-    let mut out = [0u8; 20];
-    let end = writer::put_decimal(&mut out, 0, number(digits)?);
-    Some(end == digits.len() && holds(&out, digits, 0))
+fn same_decimal(digits: &[u8]) -> bool {
+    let mut out = [0; 10];
+    let end = writer::put_decimal(&mut out, 0, number(digits));
+    end == digits.len() && holds(&out, digits, 0)
 }
 
 // Whether a line's case is as the line says; none where it says nothing.
 fn same_case(line: &[u8], room: &mut [u8]) -> Option<bool> {
-    let (head, rest) = split_once(line, b' ');
-    let (letter, told) = head.split_first()?;
+    let (letter, told) = line.split_first()?;
+    let rest = after_space(told);
     match *letter {
         b'f' => Some(same_bytes(told, unhex(rest, room)?)),
         b'g' => same_repeated(told, rest, room),
         b'n' => Some(same_names(told, rest)),
         b'h' => Some(same_digits(told, rest)),
         b's' => {
-            let step = u32::try_from(number(told)?).ok()?;
-            Some(rest.len() == paths::step_length(step as usize))
+            let step = (number(told) % 4294967296) as usize;
+            Some(rest.len() == paths::step_length(step))
         }
-        b'd' => same_decimal(told),
+        b'd' => Some(same_decimal(told)),
         _ => None,
     }
 }
