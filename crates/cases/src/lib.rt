@@ -140,7 +140,8 @@ impl<'a> Record<'a> {
         Some(bytes)
     }
 
-    fn skip(&mut self, n: usize)
+    // Goes on behind the next n bytes; where there are fewer, behind the last.
+    pub fn skip(&mut self, n: usize)
         ensures { self.new.rest.now ≡ past n self.old.rest.now }
     {
         self.rest = self.rest.get(n..).unwrap_or(&[]);
@@ -395,7 +396,7 @@ pub fn replay_all<C: Replayed>(stdin: Stdin, stdout: Stdout, head: &mut [u8]) ->
     tally.verdict(stdout)
 }
 
-// Counts the cases of a record that begins with their number; `case` says of the next one whether it is as recorded.
+// Counts the cases of a record that begins with their number; `case` says of the next one whether it is as recorded, and leaves the record behind it.
 pub fn all_cases<F: FnMut(&mut Record) -> bool>(
     stdout: Stdout,
     cases: &[u8],

@@ -53,14 +53,21 @@ fn told(answer: Result<(), Refusal>) -> (usize, Option<usize>) {
     }
 }
 
-// Compiles the next case's formula; whether the answer and the slices are as recorded, and none where the record ends before
-// or asks for longer slices.
-fn compiled(record: &mut Record, path: &mut [u8], program: &mut [u8]) -> Option<bool> {
-    let head = Head::read(record);
+// So many bytes of a record are read at most; so long are the slices.
+const RECORD: usize = 327_680;
+
+const PATH: usize = 8200;
+
+const PROGRAM: usize = 65_536;
+
+// Compiles a case's formula, which stands next; whether the answer and the slices are as recorded, and none where formula or names
+// run past the record, behind which zeros stand for a text and a program, or where it asks for longer slices.
+fn compiled(head: &Head, mut record: Record, path: &mut [u8], program: &mut [u8]) -> Option<bool> {
     let formula = record.bytes(head.formula)?;
     let names = record.bytes(head.names)?;
-    let text = record.bytes(head.text)?;
-    let code = record.bytes(head.code)?;
+    let mut recorded = Record::new(record.bytes(PATH + PROGRAM)?);
+    let text = recorded.bytes(head.text)?;
+    let code = recorded.bytes(head.code)?;
     let path = path.get_mut(..head.path)?;
     let program = program.get_mut(..head.program)?;
     path.fill(FILL);
@@ -73,18 +80,25 @@ fn compiled(record: &mut Record, path: &mut [u8], program: &mut [u8]) -> Option<
     )
 }
 
+// Leaves the record behind the case by all of its lengths, however it came out.
 fn is_right(record: &mut Record) -> bool {
-    let mut path = [0; 8200];
-    let mut program = [0; 65536];
-    compiled(record, &mut path, &mut program).unwrap_or(false)
+    let mut path = [0; PATH];
+    let mut program = [0; PROGRAM];
+    let head = Head::read(record);
+    let rest = *record;
+    record.skip(head.formula);
+    record.skip(head.names);
+    record.skip(head.text);
+    record.skip(head.code);
+    compiled(&head, rest, &mut path, &mut program).unwrap_or(false)
 }
 
 // One function over this main and that of legs_cases would promise nothing: of what is read and printed no clause can speak; the loop over the cases
 // is `cases::all_cases`.
 fn main(rt: HostRuntime) -> io::Result<()> {
     let stdout = rt.stdout();
-    let mut room = [0; 327680];
-    let n = cases::read_full(rt.stdin(), &mut room);
-    let tally = cases::all_cases(stdout, &room[0..n], is_right)?;
+    let mut room = [0; RECORD + PATH + PROGRAM];
+    cases::read_full(rt.stdin(), &mut room[..RECORD]);
+    let tally = cases::all_cases(stdout, &room, is_right)?;
     println!(stdout; "{} cases, {} differ", tally.cases, tally.wrong)
 }

@@ -121,33 +121,64 @@ fn list(file: Option<&[u8]>, blocks: Blocks, all: &mut [u8]) -> Option<usize>
 
 // ---- the record
 
-// Whether the output of the next case is as recorded, and none where the record ends before it.
-fn as_recorded(record: &mut Record) -> Option<bool> {
-    let readable = record.word() == 1;
-    let length = record.word();
-    let formula = record.word();
-    let input = record.word();
-    let output = record.word();
-    let formula = record.bytes(formula)?;
-    let input = record.bytes(input)?;
-    let output = record.bytes(output)?;
-    let file = readable.then_some(formula);
-    let blocks = Blocks { input, length };
-    let mut all = [0u8; 65536];
+// So many bytes of a record are read at most; so long is an output.
+const RECORD: usize = 327_680;
+
+const OUTPUT: usize = 65_536;
+
+#[derive(Clone, Copy)]
+struct Head {
+    readable: bool,
+    block: usize,
+    formula: usize,
+    input: usize,
+    output: usize,
+}
+
+impl Head {
+    fn read(record: &mut Record) -> Head {
+        Head {
+            readable: record.word() == 1,
+            block: record.word(),
+            formula: record.word(),
+            input: record.word(),
+            output: record.word(),
+        }
+    }
+}
+
+// Whether a case's output is as recorded, and none where file or input run past the record, behind which zeros stand for an output,
+// or where an output is longer than there is room for.
+fn as_recorded(head: &Head, mut record: Record) -> Option<bool> {
+    let formula = record.bytes(head.formula)?;
+    let input = record.bytes(head.input)?;
+    let output = record.bytes(OUTPUT)?.get(..head.output)?;
+    let file = head.readable.then_some(formula);
+    let blocks = Blocks {
+        input,
+        length: head.block,
+    };
+    let mut all = [0u8; OUTPUT];
     let n = list(file, blocks, &mut all)?;
     Some(all.get(..n)? == output)
 }
 
+// Leaves the record behind the case by all of its lengths, however it came out.
 fn is_same(record: &mut Record) -> bool {
-    as_recorded(record).unwrap_or(false)
+    let head = Head::read(record);
+    let rest = *record;
+    record.skip(head.formula);
+    record.skip(head.input);
+    record.skip(head.output);
+    as_recorded(&head, rest).unwrap_or(false)
 }
 
 // One function over this main and that of compile_cases would promise nothing: of what is read and printed no clause can speak;
 // the loop over the cases is `cases::all_cases`.
 fn main(rt: HostRuntime) -> io::Result<()> {
     let stdout = rt.stdout();
-    let mut room = [0; 327680];
-    let n = cases::read_full(rt.stdin(), &mut room);
-    let tally = cases::all_cases(stdout, &room[0..n], is_same)?;
+    let mut room = [0; RECORD + OUTPUT];
+    cases::read_full(rt.stdin(), &mut room[..RECORD]);
+    let tally = cases::all_cases(stdout, &room, is_same)?;
     println!(stdout; "{} cases, {} differ", tally.cases, tally.wrong)
 }

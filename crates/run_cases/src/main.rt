@@ -6,16 +6,93 @@
 // Standard input is cells of 8 bytes, the least first. The first is the number of lists. A list has the program's length
 // in bytes, the numbers of inputs, registers and calls, then those bytes, inputs and registers. A call has 14 cells, the
 // text that the path slice begins with, and the registers after it.
-use cases::{Call, FILL, Kind, Record, Tally, is_left, same};
+use cases::{Call, Cell, FILL, Kind, Record, Tally, is_left};
 use floats::value::bits_of;
 use run::{Answer, Reply, State};
 use std::io;
 use std::io::Stdout;
 use work::Question;
 
+// ---- the record
+
+// So many bytes of a record are read at most; so long are a path slice and its text.
+const RECORD: usize = 131_072;
+
+const LONGEST: usize = 8200;
+
+// A record from one of its cells on. Places are counted in cells and wrap around; past the end the record goes on in zeros.
+#[derive(Clone, Copy)]
+struct Cells<'a> {
+    // The record, with zeros for one text more behind it.
+    bytes: &'a [u8],
+    at: usize,
+}
+
+impl<'a> Cells<'a> {
+    // Where the next byte stands, or the zeros behind the record.
+    fn place(self) -> usize {
+        8 * self.at.min(RECORD / 8)
+    }
+
+    // The next n bytes; none where they are more than the longest text.
+    fn text(self, n: usize) -> Option<&'a [u8]> {
+        let after = self.bytes.get(self.place()..)?;
+        after.get(..LONGEST)?.get(..n)
+    }
+
+    // Those of the next n bytes that stand in the record; none of them where their end wraps around.
+    fn recorded(self, n: usize) -> &'a [u8] {
+        let from = self.place();
+        let end = from.wrapping_add(n).min(RECORD);
+        self.bytes.get(from..end).unwrap_or(&[])
+    }
+
+    fn cell<T: Cell>(&mut self) -> T {
+        let after = self.bytes.get(self.place()..).unwrap_or(&[]);
+        self.skip(1);
+        Record::new(after).cell()
+    }
+
+    // Reads as many cells as there is room for.
+    fn cells<T: Cell>(&mut self, out: &mut [T]) {
+        for place in out.iter_mut() {
+            *place = self.cell();
+        }
+    }
+
+    fn skip(&mut self, n: usize) {
+        self.at = self.at.wrapping_add(n);
+    }
+
+    // Behind text of n bytes and what fills it up to cells, one byte at least.
+    fn skip_text(&mut self, n: usize) {
+        self.skip(n / 8 + 1);
+    }
+}
+
+fn three(cells: &mut Cells) -> [u64; 3] {
+    let mut three = [0; 3];
+    cells.cells(&mut three);
+    three
+}
+
 // ---- a call
 
-// What is recorded after a call.
+// Any number but 0 and 2 is a resume without a value.
+fn read_call(cells: &mut Cells) -> Call {
+    let number: u64 = cells.cell();
+    let room = cells.cell();
+    let budget = cells.cell();
+    let value = cells.cell();
+    let kind = match number {
+        0 => Kind::Run,
+        2 => Kind::Answer(value),
+        _ => Kind::Resume,
+    };
+    Call { kind, room, budget }
+}
+
+// What is recorded after a call; no text where it is longer than every path slice.
 #[derive(Drop)]
 struct After<'a> {
     answer: [u64; 3],
@@ -23,40 +100,48 @@ struct After<'a> {
     position: usize,
     kept: usize,
     pending: [u64; 3],
-    text: &'a [u8],
-    registers: &'a [u8],
-}
-
-// Text of n bytes and what fills it up to cells, one byte at least.
-fn padded<'a>(record: &mut Record<'a>, n: usize) -> Option<&'a [u8]> {
-    let text = record.bytes(n)?;
-    record.bytes(8 - n % 8)?;
-    Some(text)
-}
-
-fn three(record: &mut Record) -> [u64; 3] {
-    let mut cells = [0; 3];
-    record.cells(&mut cells);
-    cells
+    text: Option<&'a [u8]>,
+    registers: Cells<'a>,
 }
 
 impl<'a> After<'a> {
-    fn read(record: &mut Record<'a>, registers: usize) -> Option<After<'a>> {
-        let answer = three(record);
-        let count = record.cell();
-        let position = record.cell();
-        let kept = record.cell();
-        let pending = three(record);
-        let length = record.cell();
-        Some(After {
+    // Leaves the record behind the registers, of which there are so many.
+    fn read(cells: &mut Cells<'a>, registers: usize) -> After<'a> {
+        let answer = three(cells);
+        let count = cells.cell();
+        let position = cells.cell();
+        let kept = cells.cell();
+        let pending = three(cells);
+        let length = cells.cell();
+        let text = cells.text(length);
+        cells.skip_text(length);
+        let after = After {
             answer,
             count,
             position,
             kept,
             pending,
-            text: padded(record, length)?,
-            registers: record.bytes(registers.checked_mul(8)?)?,
-        })
+            text,
+            registers: *cells,
+        };
+        cells.skip(registers);
+        after
+    }
+
+    // Whether a path slice is as recorded.
+    fn is_path(&self, path: &[u8]) -> bool {
+        self.text.is_some_and(|text| is_left(path, text, false))
+    }
+
+    // Whether registers are as recorded, bit for bit.
+    fn are_registers(&self, registers: &[f64]) -> bool {
+        let mut recorded = self.registers;
+        for register in registers {
+            if bits_of(*register) != recorded.cell::<u64>() {
+                return false;
+            }
+        }
+        true
     }
 }
 
@@ -105,7 +190,8 @@ fn reply_to(
     run::resume(program, inputs, registers, path, budget, state, supplied)
 }
 
-// Whether the next call is as recorded; none where there is no room for its path. Leaves the state after it.
+// Whether the next call is as recorded. One that asks for a longer path than there is room for is made with all the room, and is not as recorded.
+// Leaves the state after it.
 fn is_right(
     call: &Call,
     after: &After,
@@ -113,84 +199,96 @@ fn is_right(
     inputs: &[f64],
     registers: &mut [f64],
     state: &mut State,
-) -> Option<bool> {
-    let mut path = [0; 8200];
-    let path = path.get_mut(..call.room)?;
-    path.fill(FILL);
+) -> bool {
+    let mut path = [FILL; LONGEST];
+    let path = &mut path[..call.room.min(LONGEST)];
     let reply = reply_to(call, program, inputs, registers, path, *state);
     *state = reply.state;
-    Some(
-        same_reply(after, reply)
-            && is_left(path, after.text, false)
-            && same(after.registers, registers),
-    )
+    call.room <= LONGEST
+        && same_reply(after, reply)
+        && after.is_path(path)
+        && after.are_registers(registers)
 }
 
 // ---- lists of calls
 
+// So many inputs and registers a list has at most.
+const MOST: usize = 64;
+
 #[derive(Clone, Copy)]
 struct List<'a> {
     program: &'a [u8],
-    inputs: &'a [u8],
-    registers: &'a [u8],
+    inputs: usize,
+    registers: usize,
     calls: u64,
+    // From the first input on.
+    cells: Cells<'a>,
 }
 
 impl<'a> List<'a> {
-    fn read(record: &mut Record<'a>) -> Option<List<'a>> {
-        let length = record.cell();
-        let inputs: usize = record.cell();
-        let registers: usize = record.cell();
-        let calls = record.cell();
-        Some(List {
-            program: padded(record, length)?,
-            inputs: record.bytes(inputs.checked_mul(8)?)?,
-            registers: record.bytes(registers.checked_mul(8)?)?,
+    // Leaves the record behind the program, inputs and registers.
+    fn read(cells: &mut Cells<'a>) -> List<'a> {
+        let length = cells.cell();
+        let inputs = cells.cell();
+        let registers = cells.cell();
+        let calls = cells.cell();
+        let program = cells.recorded(length);
+        cells.skip_text(length);
+        let list = List {
+            program,
+            inputs,
+            registers,
             calls,
-        })
+            cells: *cells,
+        };
+        cells.skip(inputs);
+        cells.skip(registers);
+        list
+    }
+
+    // The inputs and the registers at its start, as many as there is room for.
+    fn start(self, inputs: &mut [f64], registers: &mut [f64]) {
+        let mut cells = self.cells;
+        cells.cells(inputs);
+        cells = self.cells;
+        cells.skip(self.inputs);
+        cells.cells(registers);
     }
 }
 
-// Counts the calls of the next list; none where the record ends before, or there is no room for its inputs or registers.
-fn count_list(stdout: Stdout, record: &mut Record, tally: &mut Tally) -> io::Result<Option<()>> {
-    let Some(list) = List::read(record) else {
-        return Ok(None);
-    };
-    let mut inputs = [0.0; 64];
-    let mut registers = [0.0; 64];
-    let Some(inputs) = inputs.get_mut(..list.inputs.len() / 8) else {
-        return Ok(None);
-    };
-    let Some(registers) = registers.get_mut(..list.registers.len() / 8) else {
-        return Ok(None);
-    };
-    Record::new(list.inputs).cells(inputs);
-    Record::new(list.registers).cells(registers);
+// Counts the calls of the next list, and one more, otherwise than recorded, where it has more inputs or registers than there is room for.
+fn count_list(stdout: Stdout, cells: &mut Cells, tally: &mut Tally) -> io::Result<()> {
+    let list = List::read(cells);
+    if list.inputs > MOST || list.registers > MOST {
+        tally.count(stdout, false, 0)?;
+    }
+    let mut inputs = [0.0; MOST];
+    let mut registers = [0.0; MOST];
+    let inputs = &mut inputs[..list.inputs.min(MOST)];
+    let registers = &mut registers[..list.registers.min(MOST)];
+    list.start(inputs, registers);
     let mut state = State::fresh();
     for _ in 0..list.calls {
-        let call = Call::read(record);
-        let Some(after) = After::read(record, registers.len()) else {
-            return Ok(None);
-        };
+        let call = read_call(cells);
+        let after = After::read(cells, registers.len());
         let right = is_right(&call, &after, list.program, inputs, registers, &mut state);
-        tally.count(stdout, right.unwrap_or(false), 0)?;
+        tally.count(stdout, right, 0)?;
     }
-    Ok(Some(()))
+    Ok(())
 }
 
 fn main(rt: HostRuntime) -> io::Result<()> {
     let stdout = rt.stdout();
-    let mut room = [0; 131072];
-    let n = cases::read_full(rt.stdin(), &mut room);
-    let mut record = Record::new(&room[0..n]);
+    let mut room = [0; RECORD + LONGEST];
+    cases::read_full(rt.stdin(), &mut room[..RECORD]);
+    let mut cells = Cells {
+        bytes: &room,
+        at: 0,
+    };
     let mut tally = Tally::default();
-    let lists: u64 = record.cell();
+    let lists: u64 = cells.cell();
     for _ in 0..lists {
-        // What comes after a list that is not all there can't be told from it.
-        if count_list(stdout, &mut record, &mut tally)?.is_none() {
-            tally.count(stdout, false, 0)?;
-            break;
-        }
+        count_list(stdout, &mut cells, &mut tally)?;
     }
     println!(stdout; "{} calls", tally.cases)?;
     tally.verdict(stdout)
