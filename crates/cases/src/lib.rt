@@ -225,7 +225,7 @@ pub fn read_full(mut stdin: Stdin, room: &mut [u8]) -> usize
 // Reads n bytes of standard input; none where the input ends before or they don't fit. Which bytes no clause says, here and in what reads by this:
 // std knows none of what standard input has before it is read (its `remaining` is None).
 pub fn take(mut stdin: Stdin, room: &mut [u8], n: usize) -> Option<&[u8]>
-    ensures { IfSome result (λ bytes. length bytes.now ≡ n) }
+    ensures { IfSome result (λ bytes. (length bytes.now ≡ n) × (n ≤ length room.old)) }
 {
     if room.len() < n {
         return None;
@@ -245,12 +245,27 @@ pub fn take_cell<T: Cell>(stdin: Stdin) -> Option<T>
     Some(Record::new(take(stdin, &mut room, 8)?).cell())
 }
 
-// Reads as many cells of standard input as there is room for.
+// So many cells are read at once at most.
+const ROW: usize = 256;
+
+// Reads as many cells of standard input as there is room for, a row at once.
 pub fn take_cells<T: Cell>(stdin: Stdin, out: &mut [T]) -> Option<()>
     ensures { IfSome result (λ done. All (IsCell T.value_of) out.new) }
 {
-    for place in out.iter_mut() {
-        *place = take_cell(stdin)?;
+    take_rows(stdin, out, &mut [0; 8 * ROW])
+}
+
+// A `while`, since each step goes on by a row.
+fn take_rows<T: Cell>(stdin: Stdin, out: &mut [T], room: &mut [u8]) -> Option<()>
+    requires { length room.old ≡ 2048 }
+    ensures { IfSome result (λ done. All (IsCell T.value_of) out.new) }
+{
+    let mut done = 0;
+    while done < out.len() {
+        let n = (out.len() - done).min(ROW);
+        let bytes = take(stdin, room, 8 * n)?;
+        Record::new(bytes).cells(&mut out[done..done + n]);
+        done += n;
     }
     Some(())
 }
@@ -281,17 +296,21 @@ pub fn is_left(slice: &[u8], text: &[u8], zero: bool) -> bool
 // What a report holds before a call.
 pub const HELD: u64 = 7;
 
-// Whether a node stands in a report's first place, and the other places are as they were.
+// Whether a node stands in a report's first place, if it has one, and the other places are as they were.
 pub fn is_reported(report: &[u64], node: u64) -> bool
-    ensures { IsTrue result ↔ report.now ≡ node ∷ replicate 7 7 }
+    ensures held { IsTrue result ↔ report.now ≡ first (length report.now) (node ∷ replicate (length report.now) 7) }
+    ensures eight { length report.now ≡ 8 → (IsTrue result ↔ report.now ≡ node ∷ replicate 7 7) }
 {
-    report == [node, HELD, HELD, HELD, HELD, HELD, HELD, HELD].as_slice()
+    let Some((first, others)) = report.split_first() else {
+        return true;
+    };
+    *first == node && others.iter().all(|place| *place == HELD)
 }
 
 // ---- the count
 
 // So many cases are replayed at most.
-const MOST: u64 = 1_000_000;
+pub const MOST: u64 = 1_000_000;
 
 // The cases so far, the calls in them, and how many cases came out otherwise than recorded.
 #[derive(Clone, Copy, Default)]
@@ -353,7 +372,7 @@ impl Tally {
 pub trait Replayed: Copy {
     fn read(head: &[u8]) -> Self;
 
-    // Whether it is as recorded; none where its record ends early, or asks for more room than there is.
+    // Whether it is as recorded; none where its record ends early, or has more than the case reads it into.
     fn is_right(self, stdin: Stdin) -> Option<bool>;
 
     // How many calls it has.

@@ -8,7 +8,7 @@
 // for each call 18 numbers, its answer, the cells after it and the length of the path's text, then that text and the registers after it.
 // A refusal of compile or derive stands there as the answer of one call.
 use cases::{
-    FILL, HELD, Record, Replayed, holds, is_left, is_reported, same, take, take_cell, take_cells,
+    FILL, HELD, Record, Replayed, holds, is_left, is_reported, same, take, take_cells,
 };
 use demand::Wanted;
 use demand::calls::Call;
@@ -69,14 +69,14 @@ impl Replayed for Head {
         let formula = take(stdin, &mut formula, self.formula)?;
         let names = take(stdin, &mut names, self.names)?;
         let mut slices = Slices {
-            tree: tree.get_mut(..self.tree)?,
-            list: list.get_mut(..self.tree / 2)?,
-            program: program.get_mut(..self.program)?,
-            registers: registers.get_mut(..self.registers)?,
-            path: path.get_mut(..self.path)?,
+            tree: cut(&mut tree, self.tree),
+            list: cut(&mut list, self.tree / 2),
+            program: cut(&mut program, self.program),
+            registers: cut(&mut registers, self.registers),
+            path: cut(&mut path, self.path),
         };
         let mut inputs = [0.0; 256];
-        let inputs = inputs.get_mut(..self.inputs)?;
+        let inputs = cut(&mut inputs, self.inputs);
         take_cells(stdin, inputs)?;
         let mut calls = [Call::default(); 16];
         let calls = calls.get_mut(..self.calls)?;
@@ -94,6 +94,12 @@ impl Replayed for Head {
     fn calls(self) -> u64 {
         self.calls as u64
     }
+}
+
+// So much of the start of a slice, or all of it where a case asks for more.
+fn cut<T>(slice: &mut [T], n: usize) -> &mut [T] {
+    let n = n.min(slice.len());
+    &mut slice[..n]
 }
 
 // A list of calls, and what it is played on.
@@ -241,13 +247,14 @@ fn as_hosted(last: &Last, case: &Case, slices: &mut Slices) -> bool {
 
 // Whether a list whose last call's record comes next is as recorded, played both ways.
 fn is_beginning(stdin: Stdin, case: &Case, slices: &mut Slices) -> Option<bool> {
+    let mut row = [0; 144];
     let mut text = [0; 2048];
     let mut registers = [0; 2048];
-    let answer = take_cell(stdin)?;
+    let mut record = Record::new(take(stdin, &mut row, 144)?);
+    let answer = record.cell();
     let mut cells = [0u64; 16];
-    take_cells(stdin, &mut cells)?;
-    let length = take_cell(stdin)?;
-    let text = take(stdin, &mut text, length)?;
+    record.cells(&mut cells);
+    let text = take(stdin, &mut text, record.cell())?;
     let length = slices.registers.len().checked_mul(8)?;
     let last = Last {
         answer,
@@ -274,17 +281,23 @@ fn are_beginnings(stdin: Stdin, case: &Case, slices: &mut Slices) -> Option<bool
 
 // Reads the calls of a list: each one's path room, each one's budget, a byte each for whether a value is supplied, and the values.
 fn read_calls(stdin: Stdin, calls: &mut [Call]) -> Option<()> {
-    for call in calls.iter_mut() {
-        call.room = take_cell(stdin)?;
-    }
-    for call in calls.iter_mut() {
-        call.budget = take_cell(stdin)?;
-    }
+    let mut numbers = [0; 16];
     let mut flags = [0; 16];
+    let mut values = [0.0; 16];
+    let numbers = numbers.get_mut(..calls.len())?;
+    let values = values.get_mut(..calls.len())?;
+    take_cells(stdin, numbers)?;
+    for (call, room) in calls.iter_mut().zip(numbers.iter()) {
+        call.room = *room;
+    }
+    take_cells(stdin, numbers)?;
+    for (call, budget) in calls.iter_mut().zip(numbers.iter()) {
+        call.budget = *budget;
+    }
     let flags = take(stdin, &mut flags, calls.len())?;
-    for (call, flag) in calls.iter_mut().zip(flags) {
-        let value = take_cell(stdin)?;
-        call.supplied = (*flag != 0).then_some(value);
+    take_cells(stdin, values)?;
+    for ((call, flag), value) in calls.iter_mut().zip(flags).zip(values.iter()) {
+        call.supplied = (*flag != 0).then_some(*value);
     }
     Some(())
 }

@@ -8,12 +8,13 @@
 // is not the reference's, which runs out of memory: Multiply(0, Abs nested 30 times).
 ghost use Rattle.std.specs.Prelude.{◌≤◌, length};
 
-use cases::{Record, Tally, take};
+use cases::{Record, Tally, read_full};
 use differentiate::{Form, Nodes, ORIGIN_SIZE, Records, write_derivative};
 use reader::{NODE_SIZE, is_formula, is_small};
 use refusals::Refusal;
 use std::io;
 use std::io::Stdin;
+use std::ops::ControlFlow;
 use survey::{By, Row, survey_formula};
 
 // Where the bytes of a tree's nodes, or of their records, end: "8 at `root` from the rules, 4 at `root` if the finished tree is
@@ -48,8 +49,8 @@ fn gives<F: Form>(f: &[u8], by: By, recorded: u8, wanted: &[u8], room: &mut [u8]
     }
 }
 
-// Whether the nodes and the records are those recorded; none where the case does not fit, or standard input ends before it.
-fn is_right(stdin: Stdin, head: &[u8]) -> Option<bool> {
+// Whether the nodes and the records are those recorded. Of a case that does not fit, what fits is read; what standard input lacks is read as zeros.
+fn is_right(stdin: Stdin, head: &[u8]) -> bool {
     let mut record = Record::new(head);
     let recorded = record.byte();
     let by = By {
@@ -64,16 +65,16 @@ fn is_right(stdin: Stdin, head: &[u8]) -> Option<bool> {
     let mut tree = [0; 16384];
     let mut list = [0; 8192];
     let mut out = [255; 16384];
-    let f = take(stdin, &mut formula, NODE_SIZE * nodes)?;
-    let tree = take(stdin, &mut tree, NODE_SIZE * size)?;
-    let list = take(stdin, &mut list, ORIGIN_SIZE * size)?;
-    if tree.len() > 16384 || list.len() > 8192 {
-        return None;
-    }
+    let f = &mut formula[..NODE_SIZE * nodes.min(256)];
+    let tree = &mut tree[..NODE_SIZE * size.min(1024)];
+    let list = &mut list[..ORIGIN_SIZE * size.min(1024)];
+    read_full(stdin, f);
+    read_full(stdin, tree);
+    read_full(stdin, list);
     let first = gives::<Nodes>(f, by, recorded, tree, &mut out);
     out.fill(255);
     let second = gives::<Records>(f, by, recorded, list, &mut out);
-    Some(first && second)
+    nodes <= 256 && size <= 1024 && first && second
 }
 
 fn main(rt: HostRuntime) -> io::Result<()> {
@@ -81,8 +82,8 @@ fn main(rt: HostRuntime) -> io::Result<()> {
     let stdout = rt.stdout();
     let mut tally = Tally::default();
     cases::each_head(stdin, &mut [0; 8], |head| {
-        let right = is_right(stdin, head).unwrap_or(false);
-        tally.count_while_right(stdout, right, 0)
+        tally.count(stdout, is_right(stdin, head), 0)?;
+        Ok(ControlFlow::Continue(()))
     })?;
     println!(stdout; "{} cases", tally.cases)?;
     tally.verdict(stdout)
