@@ -4,7 +4,7 @@
 pub mod common;
 pub mod longer;
 
-ghost use Rattle.std.specs.Prelude.{◌≡◌, ℕ, ◌+◌, ◌*◌, ◌<◌, ◌≤◌, get_or, length, set};
+ghost use Rattle.std.specs.Prelude.{◌≡◌, true, ℕ, ◌+◌, ◌*◌, ◌<◌, ◌≤◌, get_or, length, set};
 ghost use Rattle.arithmetic.specs.Value.{0f};
 ghost use Rattle.arithmetic.specs.Extremum.{extremum};
 ghost use Rattle.formula.specs.Text.{word_at};
@@ -69,6 +69,18 @@ fn known_register(p: &[u8], at: usize, regs: &[f64]) -> f64
     value_at(regs, known_word(p, at))
 }
 
+// The same of an entry, by whether it is there.
+fn entry(p: &[u8], at: usize, there: bool, regs: &[f64]) -> f64
+    requires { there ≡ true → at + 4 ≤ length p.now }
+    ensures { result ≡ get_or regs.now (word_at p.now at) 0f }
+{
+    if there {
+        known_register(p, at, regs)
+    } else {
+        register(p, at, regs)
+    }
+}
+
 // Max of the registers of a list whose `count` entries begin at a byte and are there, or Min where `MOST` is false; zeros are equal.
 fn plain_extremum<const MOST: bool>(p: &[u8], at: usize, count: usize, regs: &[f64]) -> f64
     requires { (0 < count) × (at + 4 * count ≤ length p.now) }
@@ -95,15 +107,16 @@ fn extremum<const MOST: bool>(p: &[u8], count: usize, a: usize, regs: &[f64]) ->
     }
     let first = HEADER_SIZE + SLOT_SIZE * word(p, CODE_AT) + RECORD_SIZE * word(p, PATHS_AT);
     let at = first + ENTRY_SIZE * a;
-    if at + ENTRY_SIZE * count <= p.len() {
+    let there = at + ENTRY_SIZE * count <= p.len();
+    if there {
         let x = plain_extremum::<MOST>(p, at, count, regs);
         if x != 0.0 {
             return x;
         }
     }
-    let mut extreme = register(p, at, regs);
+    let mut extreme = entry(p, at, there, regs);
     for i in 1..count {
-        let next = register(p, at + ENTRY_SIZE * i, regs);
+        let next = entry(p, at + ENTRY_SIZE * i, there, regs);
         extreme = hold::<MOST>(extreme, next);
     }
     extreme

@@ -20,7 +20,7 @@ ghost use Rattle.run.specs.Calls.{after, KnownPlace, Reaches, Results, bare, put
 
 use floats::value::{bits_of, is_finite};
 use instruction::{Effect, Progress};
-use layout::opcode::LOG;
+use layout::opcode::{LOG, SQRT};
 use layout::{CODE_AT, DESTINATION_AT, HEADER_SIZE, INPUTS_AT, REGISTERS_AT, RESULT_AT, SLOT_SIZE};
 use reader::{byte, known_word, word};
 use refusals::Refusal;
@@ -131,18 +131,31 @@ fn straight(p: &[u8], inputs: &[f64], regs: &mut [f64], from: Place) -> Place
     place
 }
 
+// The same, but nothing is done where the first, by its opcode, may be one that takes longer: of such in a row each would be handed back.
+#[tactic(auto, using(crate::proofs::Looping::code_small, crate::proofs::Looping::reached), unfolding(layout::specs::Decode::code_count))]
+fn shortly(p: &[u8], inputs: &[f64], regs: &mut [f64], from: Place) -> Place
+    requires { (from.at < code_count p.now) × (slot_at (code_count p.now) ≤ length p.now) }
+    ensures { Reaches inputs.now p.now from.left from.at [] regs.old result.left result.at [] regs.new }
+{
+    if usize::from(p[HEADER_SIZE + SLOT_SIZE * from.at]) < SQRT {
+        straight(p, inputs, regs, from)
+    } else {
+        from
+    }
+}
+
 // The same to a question, a Domain, Hill or the density. Where slots are missing, nothing is done.
 #[tactic(auto, using(crate::proofs::Looping::reached), unfolding(layout::specs::Decode::code_count))]
 pub fn along(p: &[u8], inputs: &[f64], regs: &mut [f64], from: Place) -> Place
     ensures { Reaches inputs.now p.now from.left from.at [] regs.old result.left result.at [] regs.new }
 {
     let code = word(p, CODE_AT);
-    let mut place = from;
     if p.len() < HEADER_SIZE + SLOT_SIZE * code {
-        return place;
+        return from;
     }
-    loop {
-        place = straight(p, inputs, regs, place);
+    let mut place = from;
+    while 0 < place.left && place.at < code {
+        place = shortly(p, inputs, regs, place);
         if code <= place.at || place.left == 0 {
             return place;
         }
@@ -151,6 +164,7 @@ pub fn along(p: &[u8], inputs: &[f64], regs: &mut [f64], from: Place) -> Place
             None => return place,
         }
     }
+    place
 }
 
 // "Spent means that the whole budget was completed and code remains": the code's end is looked at first, then the

@@ -18,12 +18,12 @@ returns-then-x g c =
     plain_right _ (read_all c.args.regs.now (entries_from c.args.p.now c.args.count c.args.a)) c.plain_extremum-x.result (c.plain_extremum-x.ensures c.args.a place) c.if-x.true
 
 pub loop-i-init : goal.loop-i-init
-loop-i-init g c = left_start _ c.args.p.now _ c.args.count c.args.regs.now c.register-extreme.result (omega arith) c.register-extreme.ensures
+loop-i-init g c = left_start _ c.args.p.now _ c.args.count c.args.regs.now c.entry-extreme.result (omega arith) c.entry-extreme.ensures
 
 pub loop-i-preserved : goal.loop-i-preserved
 loop-i-preserved g c =
     let loop = c.loop-i in
-    let next = c.register-next in
+    let next = c.entry-next in
     left_step _ c.args.p.now _ c.args.count c.args.regs.now loop.extreme next.result c.hold-extreme.result loop.i loop.invariant c.loop-i-test.true next.ensures c.hold-extreme.ensures
 
 pub returns : goal.returns
