@@ -134,14 +134,15 @@ fn straight(p: &[u8], inputs: &[f64], regs: &mut [f64], from: Place) -> Place
 // The same, but nothing is done where the first, by its opcode, may be one that takes longer: of such in a row each would be handed back.
 #[tactic(auto, using(crate::proofs::Looping::code_small, crate::proofs::Looping::reached), unfolding(layout::specs::Decode::code_count))]
 fn shortly(p: &[u8], inputs: &[f64], regs: &mut [f64], from: Place) -> Place
-    requires { (from.at < code_count p.now) × (slot_at (code_count p.now) ≤ length p.now) }
+    requires { slot_at (code_count p.now) ≤ length p.now }
     ensures { Reaches inputs.now p.now from.left from.at [] regs.old result.left result.at [] regs.new }
 {
-    if usize::from(p[HEADER_SIZE + SLOT_SIZE * from.at]) < SQRT {
-        straight(p, inputs, regs, from)
-    } else {
-        from
+    if from.at < known_word(p, CODE_AT)
+        && SQRT <= usize::from(p[HEADER_SIZE + SLOT_SIZE * from.at])
+    {
+        return from;
     }
+    straight(p, inputs, regs, from)
 }
 
 // The same to a question, a Domain, Hill or the density. Where slots are missing, nothing is done.
@@ -154,7 +155,7 @@ pub fn along(p: &[u8], inputs: &[f64], regs: &mut [f64], from: Place) -> Place
         return from;
     }
     let mut place = from;
-    while 0 < place.left && place.at < code {
+    loop {
         place = shortly(p, inputs, regs, place);
         if code <= place.at || place.left == 0 {
             return place;
@@ -164,7 +165,6 @@ pub fn along(p: &[u8], inputs: &[f64], regs: &mut [f64], from: Place) -> Place
             None => return place,
         }
     }
-    place
 }
 
 // "Spent means that the whole budget was completed and code remains": the code's end is looked at first, then the
