@@ -36,11 +36,11 @@ are-cells value (suc n) bytes there =
 pub row-next : {A : Type 0} (value : ℕ → A) (i n : ℕ) (xs ys : List A) (bytes : List ℕ) → i ≤ length xs → length ys ≡ n → length bytes ≡ 8 * n → ys ≡ cells_of value (length ys) bytes → All (IsCell value) (take i xs) → All (IsCell value) (take (i + n) (put_mid i (i + n - i) xs ys))
 row-next value i n xs ys bytes inside long there is before =
     All-same
-      (IsCell value)
-      (take (i + n) (put_mid i (i + n - i) xs ys))
-      (take i xs ++ ys)
-      (take-put_mid i (i + n - i) xs ys (i + n) (ap (λ m. i + m) (sym long)) inside)
-      (All-append (IsCell value) (take i xs) ys before (All-same (IsCell value) ys (cells_of value (length ys) bytes) is (are-cells value (length ys) bytes (omega (arith, long, there)))))
+    (IsCell value)
+    (take (i + n) (put_mid i (i + n - i) xs ys))
+    (take i xs ++ ys)
+    (take-put_mid i (i + n - i) xs ys (i + n) (ap (λ m. i + m) (sym long)) inside)
+    (All-append (IsCell value) (take i xs) ys before (All-same (IsCell value) ys (cells_of value (length ys) bytes) is (are-cells value (length ys) bytes (omega (arith, long, there)))))
 
 pub rows-end : {A : Type 0} (value : ℕ → A) (n : ℕ) (xs : List A) → n ≤ length xs → length xs ≤ n → All (IsCell value) (take n xs) → All (IsCell value) xs
 rows-end value n xs inside over all =

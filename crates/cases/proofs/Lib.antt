@@ -1,1 +1,2 @@
 mod Cells
+mod Filled

@@ -282,7 +282,17 @@ pub fn holds(slice: &[u8], text: &[u8], rest: u8) -> bool
     let Some(after) = slice.strip_prefix(text) else {
         return false;
     };
-    after.iter().all(|byte| *byte == rest)
+    is_filled(after, rest)
+}
+
+// Whether all bytes are this one: the first is, and each other is as the one before it. Two slices are compared many bytes at once.
+fn is_filled(bytes: &[u8], byte: u8) -> bool
+    ensures { IsTrue result ↔ All (λ b. b ≡ byte) bytes.now }
+{
+    match bytes.split_first() {
+        Some((first, others)) => *first == byte && others == &bytes[..others.len()],
+        None => true,
+    }
 }
 
 // Whether a slice is as a call leaves it: a text and zeros, or zeros, or not written.
