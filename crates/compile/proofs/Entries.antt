@@ -26,12 +26,13 @@ use Rattle.layout.specs.Image.{entry_count, entry_counts, image, path_count, pat
 use Rattle.reader.specs.Read.{limited, told}
 use Rattle.reader.specs.Read as Read
 use Rattle.reader.specs.declared.Malformed.{Malformed}
+use Rattle.reader.specs.declared.Malformed.TheVariants as Malformeds
 use Rattle.reader.proofs.Scan.{formula_in, whole_formula}
 use Rattle.std.specs.Prelude.{Result, Ok, Err}
 use Rattle.std.specs.Option.{ok_or}
 use Rattle.refusals.specs.Refusals.{refusal_at, refusal_of}
 use Rattle.refusals.specs.declared.Refusal.{Refusal}
-use Rattle.refusals.specs.declared.Refusal.TheVariants.{ExpressionLimit, MalformedLine, SliceTooShort}
+use Rattle.refusals.specs.declared.Refusal.TheVariants.{EndedEarly, ExpressionLimit, MalformedLine, SliceTooShort}
 use Rattle.names.specs.Lines.{kind_as, names_of, symbol_kind, table_of}
 use Rattle.names.specs.declared.Kind.{Kind}
 use Rattle.names.specs.declared.Kind.TheVariants as Kinds
@@ -101,6 +102,10 @@ module _ (b l : List ℕ) (path program : ℕ) where
     pub malformed : (m : Malformed) → Err m ≡ told (transfer_of b) → Err (Read.refused m) ≡ preparation b l path program
     unfolding preparation
     malformed m e = malformed_at (transfer_of b) m e ∙ ap prepared_as (sym long_enough)
+
+    -- those that ended early
+    pub told_early : (i : ℕ) → Err (Malformeds.EndedEarly i) ≡ told (transfer_of b) → Err (EndedEarly i) ≡ preparation b l path program
+    told_early i e = malformed (Malformeds.EndedEarly i) e
 
     table_in : (f : Formula) (s : Option (List Symbol)) → ok_or (names_of s) MalformedLine ≡ prepared_as (read accepted (whole f) s)
     table_in f none = refl
