@@ -26,6 +26,7 @@ use Rattle.layout.specs.Image.{entry_count, entry_counts, image, path_count, pat
 use Rattle.reader.specs.Read.{limited, told}
 use Rattle.reader.specs.Read as Read
 use Rattle.reader.specs.declared.Malformed.{Malformed}
+use Rattle.reader.specs.declared.Malformed.TheVariants as Malformeds
 use Rattle.reader.proofs.Scan.{formula_in, whole_formula}
 use Rattle.std.specs.Prelude.{None, Some, Result, Ok, Err}
 use Rattle.std.specs.Option.{ok_or}
@@ -102,6 +103,10 @@ module _ (b l : List ℕ) (path program : ℕ) where
     pub malformed : (m : Malformed) → Err m ≡ told (transfer_of b) → Err (Read.refused m) ≡ preparation b l path program
     unfolding preparation
     malformed m e = malformed_at (transfer_of b) m e ∙ ap prepared_as (sym long_enough)
+
+    -- those that ended early
+    pub told_early : (i : ℕ) → Err (Malformeds.EndedEarly i) ≡ told (transfer_of b) → Err (EndedEarly i) ≡ preparation b l path program
+    told_early i e = malformed (Malformeds.EndedEarly i) e
 
     table_in : (f : Formula) (s : Option (List Symbol)) → ok_or (names_of s) MalformedLine ≡ prepared_as (read accepted (whole f) s)
     table_in f none = refl

@@ -148,6 +148,7 @@ pub fn write(
 
 // What is known before the formula is gone into: "in order: 1, path slice or program slice too short; 2, formula bytes not as above
 // (size and depth apart)", or 12 or 13 in its place; "3, name line not as above". Path and program slice have so many bytes.
+#[tactic(auto, using(crate::proofs::Entries::told_early))]
 pub fn prepare(formula: &[u8], names: &[u8], path: usize, program: usize) -> Result<Names, Refusal>
     ensures { result ≡ preparation formula.now names.now path program }
 {

@@ -9,7 +9,7 @@ use lib.ListN.{length, length-append, length-drop, drop, take, set, get_or}
 use lib.Seq.{drop-append-add, drop-drop, length-take-le, set_split, take-suc, take_all, take_at}
 use lib.Ieee.{Float}
 use Rattle.meaning.specs.Work.{Question, elementary, power}
-use Rattle.vebrostin.specs.Cells.{bits, padded, question_cells, state_cells}
+use Rattle.vebrostin.specs.Cells.{bits, ComesBack, padded, question_cells, state_cells}
 
 -- ---- written
 
@@ -38,6 +38,11 @@ third a b l i (suc (suc k)) v e = let f : k ≡ i = omega arith in ap (λ (m : �
 pub row_more : (a b : ℕ) (xs : List Float) (i : ℕ) (d : Float) (t : List ℕ) {v : ℕ} → i < 9 → i < length xs → v ≡ bits (get_or xs i d)
     → set (a ∷ b ∷ padded 9 (take i xs) ++ t) (2 + i) v ≡ a ∷ b ∷ padded 9 (take (i + 1) xs) ++ t
 row_more a b xs i d t {v} h l e = third a b (padded 9 (take i xs) ++ t) i (2 + i) v refl ∙ ap (λ (ks : List ℕ). a ∷ b ∷ ks) (rw e (padded_more 9 xs i d t h l))
+
+-- what is told of the value at a place, at one that is equal
+pub value_at : (xs : List Float) (i : ℕ) (d : Float) {v k : ℕ} → (v ≡ bits (get_or xs k d)) × ComesBack (get_or xs k d) → k ≡ i
+    → (v ≡ bits (get_or xs i d)) × ComesBack (get_or xs i d)
+value_at xs i d {v} w e = subst (λ (n : ℕ). (v ≡ bits (get_or xs n d)) × ComesBack (get_or xs n d)) e w
 
 three : (o : Option Question) (t : List ℕ) → (let q = question_cells o in get_or q 0 0 ∷ get_or q 1 0 ∷ get_or q 2 0 ∷ t ≡ q ++ t)
 three none t = refl

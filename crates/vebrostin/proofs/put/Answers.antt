@@ -8,7 +8,7 @@ use Rattle.machine.specs.Machine.{State}
 use Rattle.run.specs.Views.{pending_of}
 use Rattle.vebrostin.specs.Cells.{state_cells, state_in}
 use Rattle.vebrostin.proofs.Crossing.{held_more, state_back}
-use Rattle.vebrostin.proofs.Written.{copied, row_length, row_more, row_over, row_whole}
+use Rattle.vebrostin.proofs.Written.{copied, row_length, row_more, row_over, row_whole, value_at}
 use Rattle.vebrostin.proofs.put.Goals as goal
 
 pub loop-i-preserved : goal.loop-i-preserved
@@ -17,10 +17,11 @@ loop-i-preserved c =
     let vs = a.values.now in
     let i = c.loop-i.i in
     let q = c.question_cells.result in
-    let l = c.loop-i-test.true in (
+    let l = c.loop-i-test.true in
+    let w = value_at vs i nan c.value_bits.ensures (omega arith) in (
       rw c.loop-i.invariant.0
-          (row_more a.position (length vs) vs i nan (get_or q 0 0 ∷ get_or q 1 0 ∷ get_or q 2 0 ∷ a.count ∷ a.value ∷ []) (omega (arith, c.requires.1)) l c.value_bits.ensures.0),
-      held_more vs i nan l c.loop-i.invariant.1 c.value_bits.ensures.1,
+          (row_more a.position (length vs) vs i nan (get_or q 0 0 ∷ get_or q 1 0 ∷ get_or q 2 0 ∷ a.count ∷ a.value ∷ []) (omega (arith, c.requires.1)) l w.0),
+      held_more vs i nan l c.loop-i.invariant.1 w.1,
     )
 
 pub loop-place-preserved : goal.loop-place-preserved
