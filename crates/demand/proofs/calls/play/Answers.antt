@@ -15,7 +15,7 @@ played c =
     let room = c.min-room in
     sym (left_end a.inputs.now a.program.now (length a.path.now) _ (seen a.program.now loop.reply loop.registers loop.path) loop.call-index c.loop-call-test.false)
     ∙ loop.invariant.left
-    ∙ left_start a.inputs.now a.program.now (length a.path.now) _ c.unwrap_or_default-first.result a.registers.now _ a.path.now _ run.result room.result refl room.ensures (omega (arith, room.ensures))
+    ∙ left_start a.inputs.now a.program.now (length a.path.now) _ c.unwrap_or_default-first.result a.registers.now _ a.path.now _ run.result room.result refl (omega arith) (omega (arith, room.ensures))
     run.ensures.reply run.ensures.place a.calls.now
     (first_is a.calls.now _ c.copied.result _ _ (c.copied.ensures ∙ c.first.ensures.value) c.unwrap_or_default-first.ensures (λ d h. (h.0, h.1.0)))
     (rest_is a.calls.now _ c.get.result _ _ c.unwrap_or-rest.ensures refl c.get.ensures.lookup)
