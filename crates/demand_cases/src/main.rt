@@ -7,9 +7,7 @@
 // inputs. For its calls come each one's path room, each one's budget, a byte each for whether a value is supplied, and the values; then
 // for each call 18 numbers, its answer, the cells after it and the length of the path's text, then that text and the registers after it.
 // A refusal of compile or derive stands there as the answer of one call.
-use cases::{
-    FILL, HELD, Record, Replayed, holds, is_left, is_reported, same, take, take_cells,
-};
+use cases::{FILL, HELD, Record, Replayed, holds, is_left, is_reported, same, take, take_cells};
 use demand::Wanted;
 use demand::calls::Call;
 use floats::value::bits_of;
